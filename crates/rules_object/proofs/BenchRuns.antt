@@ -1,0 +1,120 @@
+-- On an object that passes the check the bench run is the run from a fresh state, and no run gives 7 or 8; the guarded step is the unguarded one.
+-- Assumes nothing.
+use mathlib.Core.Path.{_≡_, refl, sym, ap, ap₂, _∙_, subst}
+use mathlib.Core.Bool.{Bool, true, false, cond}
+use mathlib.Core.List.{List}
+use mathlib.Core.Option.{some}
+use Prim.Native.Nat.{ℕ, _+_, _-_, _<_}
+use native.Mathlib.Omega.{arith}
+use lib.ListN.{length, getD, length-replicate}
+use lib.IntN.{ℤ, pos}
+use borrow.Author.Tests.{lt-ltb, le-leb}
+use Rattle.rules_object.specs.Limits.{limits}
+use Rattle.rules_object.specs.Runs.{badStack, badInstruction, Out, go, halt, run, steps}
+use Rattle.rules_object.specs.Object.{Object}
+use Rattle.rules_object.specs.Machine.{State, fresh, step}
+use Rattle.rules_object.specs.Check.{right41, pops, pushes, instruction, room, benchStep}
+use Rattle.rules_object.specs.Calls.{orElse, unless, passed, checking, Lent, taken, given, right50, right51, right52, Ran, ran, runFrom, orRefused, runChecked, running, benchObject, benching}
+use Rattle.rules_object.specs.Safe.{Right, Stands, freshLent}
+use Rattle.rules_object.proofs.RunLaws.{run-same, steps-same}
+use Rattle.rules_object.proofs.Passed.{Passed}
+use Rattle.rules_object.proofs.Safe.{step-stands, stands-right, run-halts}
+use Rattle.rules_object.proofs.Lents.{and-true, fresh-stands, taken-stands, stands-52, taken-given}
+use Rattle.rules_object.proofs.Accepts.{checks, Answer, refuses, runs, answer, BenchAnswer, bench-answer}
+
+-- where all is right, the tests of the bench run pass
+pub bench-right : (o : Object) (t : State) → Right o t → benchStep o t ≡ step o t
+unfolding benchStep
+bench-right o t r =
+    let i = instruction o (t .index) in
+    let w = getD (o .code) (t .index) 0 in
+    ap (λ b. cond b (cond (room i (t .stack)) (step o t) (halt badStack t)) (halt badInstruction t)) (and-true (lt-ltb (t .index) (length (o .code)) (r .inside)) (and-true (r .operand) (r .entry)))
+    ∙ ap (λ b. cond b (step o t) (halt badStack t))
+    (and-true (le-leb (pops i) (length (t .stack)) (r .popped)) (le-leb (length (t .stack) - pops i + pushes i) (limits .stack) (r .pushed)))
+
+module _ {bytes : List ℕ} {o : Object} {table : List ℕ} (p : Passed bytes o table) where
+  alike : (t : State) → Stands o table t → benchStep o t ≡ step o t
+  alike t s = bench-right o t (stands-right p t s)
+
+  pub bench-is-run : (n : ℕ) (t : State) → Stands o table t → run (benchStep o) n t ≡ run (step o) n t
+  bench-is-run = run-same (Stands o table) (step o) (benchStep o) (step-stands p) alike
+
+  pub bench-steps : (n : ℕ) (t : State) → Stands o table t → steps (benchStep o) n t ≡ steps (step o) n t
+  bench-steps = steps-same (Stands o table) (step o) (benchStep o) (step-stands p) alike
+
+  fresh-52 : (store : List ℤ) → right50 o store ≡ true → right51 o store ≡ true → right52 o table freshLent ≡ true
+  unfolding given
+  fresh-52 store e f = stands-52 (fresh store) (fresh-stands p store e f)
+
+  same-object : (store : List ℤ) (a : ℕ) → benchObject (some o) store freshLent a ≡ runChecked (passed o table) store freshLent a
+  unfolding given
+  same-object store a = by (right50 o store) (right51 o store) refl refl
+    where
+      B : Bool → Bool → Bool → Ran
+      B x y z = orRefused (orElse (unless x 41) (orElse (unless y 50) (unless z 51))) freshLent store (runFrom o (benchStep o) a (fresh store))
+
+      R : Bool → Bool → Bool → Ran
+      R y z v = orRefused (orElse (unless y 50) (orElse (unless z 51) (unless v 52))) freshLent store (runFrom o (step o) a (taken freshLent store))
+
+      by : (y z : Bool) → right50 o store ≡ y → right51 o store ≡ z → B (right41 o) (right50 o store) (right51 o store) ≡ R (right50 o store) (right51 o store) (right52 o table freshLent)
+      by false z e f = ap₂ (λ x y. B x y (right51 o store)) (p .right) e ∙ ap (λ y. R y (right51 o store) (right52 o table freshLent)) (sym e)
+      by true false e f =
+          ap₂ (λ x y. B x y (right51 o store)) (p .right) e ∙ ap (B true true) f
+          ∙ ap₂ (λ y z. R y z (right52 o table freshLent)) (sym e) (sym f)
+      by true true e f =
+          let s = fresh-stands p store e f in
+          ap₂ (λ x y. B x y (right51 o store)) (p .right) e ∙ ap (B true true) f
+          ∙ ap₂ (λ n x. ran o n x) (bench-steps a (fresh store) s) (bench-is-run a (fresh store) s)
+          ∙ ap (runFrom o (step o) a) (sym (taken-given (fresh store)))
+          ∙ ap (R true true) (sym (fresh-52 store e f)) ∙ ap₂ (λ y z. R y z (right52 o table freshLent)) (sym e) (sym f)
+
+-- ---- over bytes
+
+-- the bench run of an object that passes is the run from a fresh state, refused alike too
+pub bench-is-running : (bytes : List ℕ) → checking bytes .number ≡ 0 → (store : List ℤ) (a : ℕ) → benching bytes store freshLent a ≡ running bytes store freshLent a
+unfolding benching running
+bench-is-running bytes e store a =
+    let x = checks bytes e in
+    ap (λ o. benchObject o store freshLent a) (x .passes .reads) ∙ same-object (x .passes) store a ∙ ap (λ c. runChecked c store freshLent a) (sym (x .is))
+
+-- what is lent for the state does not matter to a bench run
+pub bench-lent : (bytes : List ℕ) (store : List ℤ) (l m : Lent) (a : ℕ) → benching bytes store l a .refusal .number ≡ 0 → benching bytes store l a ≡ benching bytes store m a
+bench-lent bytes store l m a e = by (bench-answer bytes store)
+  where
+    by : BenchAnswer bytes store → benching bytes store l a ≡ benching bytes store m a
+    by (refuses r p q) = let z : r .number ≡ 0 = ap (λ x. x .refusal .number) (sym (q l a)) ∙ e in absurd (omega arith)
+    by (runs x q) = q l a ∙ sym (q m a)
+
+pub bench-refusal-lent : (bytes : List ℕ) (store : List ℤ) (l m : Lent) (a : ℕ) → benching bytes store l a .refusal ≡ benching bytes store m a .refusal
+bench-refusal-lent bytes store l m a = by (bench-answer bytes store)
+  where
+    by : BenchAnswer bytes store → benching bytes store l a .refusal ≡ benching bytes store m a .refusal
+    by (refuses r p q) = ap (λ x. x .refusal) (q l a) ∙ ap (λ x. x .refusal) (sym (q m a))
+    by (runs x q) = ap (λ x. x .refusal) (q l a ∙ sym (q m a))
+
+-- so, whatever was lent: accepted together, with the same answer; refused together, by the same refusal
+pub bench-accepted : (bytes : List ℕ) → checking bytes .number ≡ 0 → (store : List ℤ) (l : Lent) (a : ℕ) → benching bytes store l a .refusal .number ≡ 0
+    → benching bytes store l a ≡ running bytes store freshLent a
+bench-accepted bytes e store l a q = bench-lent bytes store l freshLent a q ∙ bench-is-running bytes e store a
+
+pub bench-refused : (bytes : List ℕ) → checking bytes .number ≡ 0 → (store : List ℤ) (l : Lent) (a : ℕ) → benching bytes store l a .refusal ≡ running bytes store freshLent a .refusal
+bench-refused bytes e store l a = bench-refusal-lent bytes store l freshLent a ∙ ap (λ x. x .refusal) (bench-is-running bytes e store a)
+
+-- no run gives 7 or 8
+pub run-no-fault : (bytes : List ℕ) (store : List ℤ) (l : Lent) (a : ℕ) → length (l .places) ≡ limits .stack → running bytes store l a .halt < 7
+run-no-fault bytes store l a forty = by (answer bytes store l)
+  where
+    by : Answer bytes store l → running bytes store l a .halt < 7
+    by (refuses r p q) = subst (λ x. x .halt < 7) (sym (q a)) (omega arith)
+    by (runs x q) = subst (λ x. x .halt < 7) (sym (q a)) (out (run (step (x .object)) a (taken l store)) refl)
+      where
+        out : (z : Out State) → run (step (x .object)) a (taken l store) ≡ z → ran (x .object) (steps (step (x .object)) a (taken l store)) z .halt < 7
+        out (go u) e = omega arith
+        out (halt h u) e = run-halts (x .passes) a (taken l store) u h (taken-stands (x .object) (x .table) l store forty (x .right50) (x .right51) (x .right52)) e .1
+
+pub bench-no-fault : (bytes : List ℕ) → checking bytes .number ≡ 0 → (store : List ℤ) (l : Lent) (a : ℕ) → benching bytes store l a .halt < 7
+bench-no-fault bytes e store l a = by (bench-answer bytes store)
+  where
+    by : BenchAnswer bytes store → benching bytes store l a .halt < 7
+    by (refuses r p q) = subst (λ x. x .halt < 7) (sym (q l a)) (omega arith)
+    by (runs x q) = subst (λ x. x .halt < 7) (sym (q l a ∙ sym (q freshLent a) ∙ bench-is-running bytes e store a)) (run-no-fault bytes store freshLent a (length-replicate (limits .stack) (pos 0)))

@@ -1,0 +1,179 @@
+-- A run stopped by its allowance goes on as one run, what a run leaves is never refused, and what the steps are. Promises 3 and 4.
+-- Assumes nothing.
+use mathlib.Core.Path.{_≡_, refl, sym, ap, ap₂, _∙_, subst}
+use mathlib.Core.List.{List}
+use Prim.Native.Nat.{ℕ, _+_, _-_, _≤_}
+use native.Mathlib.Omega.{arith}
+use lib.ListN.{length, drop, replicate}
+use lib.IntN.{ℤ, pos}
+use Rattle.rules_object.specs.Limits.{limits}
+use Rattle.rules_object.specs.Runs.{Halt, atStop, atEnd, divideByZero, badSubscript, badExit, badParameter, badStack, badInstruction, haltNumber, Out, go, halt, then, run, stepsFrom, steps}
+use Rattle.rules_object.specs.Object.{Object}
+use Rattle.rules_object.specs.Machine.{State, step}
+use Rattle.rules_object.specs.Calls.{accepted, Lent, taken, given, Ran, halted, ran, runFrom, running}
+use Rattle.rules_object.specs.Safe.{Stands, afterSteps}
+use Rattle.rules_object.proofs.RunLaws.{run-add, steps-add, steps-go, steps-some, halts-at, steps-at, goes-before, halts-more, steps-more}
+use Rattle.rules_object.proofs.Safe.{run-stands, run-halts}
+use Rattle.rules_object.proofs.Lents.{taken-stands, stands-50, stands-51, stands-52, taken-given, given-forty, given-above}
+use Rattle.rules_object.proofs.Refusals.{from-accepts}
+use Rattle.rules_object.proofs.Accepts.{Answer, refuses, runs, answer, Accepts, accepts, accepts-run}
+
+-- no halt of the machine is 2
+pub not-two : (h : Halt) → haltNumber h ≡ 2 → ⊥
+unfolding haltNumber
+not-two atStop e = omega arith
+not-two atEnd e = omega arith
+not-two divideByZero e = omega arith
+not-two badSubscript e = omega arith
+not-two badExit e = omega arith
+not-two badParameter e = omega arith
+not-two badStack e = omega arith
+not-two badInstruction e = omega arith
+
+after-ran : (o : Object) (a n : ℕ) (x : Out State) → ran o (a + n) x ≡ afterSteps a (ran o n x)
+after-ran o a n (go u) = refl
+after-ran o a n (halt h u) = refl
+
+-- ---- an accepted run, at any allowance
+
+-- it goes on, with halt 2 and its whole allowance; or it halts
+data Did (bytes : List ℕ) (store : List ℤ) (l : Lent) (x : Accepts bytes store l) (a : ℕ) : Type 0 where
+  went : (u : State) → run (step (x .object)) a (taken l store) ≡ go u → running bytes store l a ≡ halted 2 a (x .object) u → Did bytes store l x a
+  stopped : (h : Halt) (u : State) → run (step (x .object)) a (taken l store) ≡ halt h u
+      → running bytes store l a ≡ halted (haltNumber h) (steps (step (x .object)) a (taken l store)) (x .object) u → Did bytes store l x a
+
+module _ (bytes : List ℕ) (store : List ℤ) (l : Lent) (x : Accepts bytes store l) where
+  abbrev o : Object
+  o = x .object
+
+  abbrev t : State
+  t = taken l store
+
+  did : (a : ℕ) → Did bytes store l x a
+  did a = by (run (step o) a t) refl
+    where
+      is : (out : Out State) → run (step o) a t ≡ out → running bytes store l a ≡ ran o (steps (step o) a t) out
+      is out e = accepts-run x a ∙ ap (λ z. ran o (steps (step o) a t) z) e
+
+      by : (out : Out State) → run (step o) a t ≡ out → Did bytes store l x a
+      by (go u) e = went u e (is (go u) e ∙ ap (λ n. halted 2 n o u) (steps-go (step o) a t u e))
+      by (halt h u) e = stopped h u e (is (halt h u) e)
+
+  ran-more : (a b : ℕ) (u : State) → run (step o) a t ≡ go u → running bytes store l (a + b) ≡ afterSteps a (runFrom o (step o) b u)
+  ran-more a b u e =
+      let s : steps (step o) (a + b) t ≡ a + steps (step o) b u =
+      steps-add (step o) a b t ∙ ap₂ (λ n m. n + m) (steps-go (step o) a t u e) (ap (λ z. stepsFrom z (λ v. steps (step o) b v)) e) in
+      let r : run (step o) (a + b) t ≡ run (step o) b u = run-add (step o) a b t ∙ ap (λ z. then z (λ v. run (step o) b v)) e in
+      accepts-run x (a + b) ∙ ap₂ (λ n z. ran o n z) s r ∙ after-ran o a (steps (step o) b u) (run (step o) b u)
+
+  module _ (forty : length (l .places) ≡ limits .stack) where
+    start : Stands o (x .table) t
+    start = taken-stands o (x .table) l store forty (x .right50) (x .right51) (x .right52)
+
+    -- a state that stands passes 50 to 52
+    abbrev onward : (u : State) → Stands o (x .table) u → Accepts bytes (u .store) (given u)
+    onward u s = record { object = o; table = x .table; is = x .is; passes = x .passes; right50 = stands-50 u s; right51 = stands-51 u s; right52 = stands-52 u s }
+
+    from-there : (u : State) → Stands o (x .table) u → (b : ℕ) → running bytes (u .store) (given u) b ≡ runFrom o (step o) b u
+    from-there u s b = accepts-run (onward u s) b ∙ ap (λ v. runFrom o (step o) b v) (taken-given u)
+
+    left : (a : ℕ) → (u : State) × (Stands o (x .table) u × ((running bytes store l a .store ≡ u .store) × (running bytes store l a .lent ≡ given u)))
+    left a = by (did a)
+      where
+        by : Did bytes store l x a → (u : State) × (Stands o (x .table) u × ((running bytes store l a .store ≡ u .store) × (running bytes store l a .lent ≡ given u)))
+        by (went u e q) = (u, (run-stands (x .passes) a t u start e .0, (ap (λ r. r .store) q, ap (λ r. r .lent) q)))
+        by (stopped h u e q) = (u, (run-halts (x .passes) a t u h start e .0 .0, (ap (λ r. r .store) q, ap (λ r. r .lent) q)))
+
+-- ---- the theorems, over bytes
+
+module _ (bytes : List ℕ) (store : List ℤ) (l : Lent) (forty : length (l .places) ≡ limits .stack) (a : ℕ) where
+  -- a run of a stopped by halt 2, then one of b, is one of a + b, steps added
+  pub goes-on : running bytes store l a .refusal .number ≡ 0 → running bytes store l a .halt ≡ 2 → (b : ℕ)
+      → running bytes store l (a + b) ≡ afterSteps (running bytes store l a .steps) (running bytes (running bytes store l a .store) (running bytes store l a .lent) b)
+  goes-on e two b = by (did bytes store l x a)
+    where
+      x : Accepts bytes store l
+      x = accepts bytes store l a e
+
+      P : Ran → Type 0
+      P r = running bytes store l (a + b) ≡ afterSteps (r .steps) (running bytes (r .store) (r .lent) b)
+
+      by : Did bytes store l x a → P (running bytes store l a)
+      by (went u q r) =
+          let s = run-stands (x .passes) a (taken l store) u (start bytes store l x forty) q .0 in
+          subst P (sym r) (ran-more bytes store l x a b u q ∙ ap (afterSteps a) (sym (from-there bytes store l x forty u s b)))
+      by (stopped h u q r) = absurd (not-two h (ap (λ z. z .halt) (sym r) ∙ two))
+
+  -- what a run leaves passes 50 to 52, whatever halted it
+  pub leaves-right : running bytes store l a .refusal .number ≡ 0 → (b : ℕ) → running bytes (running bytes store l a .store) (running bytes store l a .lent) b .refusal ≡ accepted
+  leaves-right e b =
+      let x = accepts bytes store l a e in
+      let w = left bytes store l x forty a in
+      let u = w .0 in
+      ap₂ (λ c k. running bytes c k b .refusal) (w .1 .1 .0) (w .1 .1 .1) ∙ ap (λ r. r .refusal) (from-there bytes store l x forty u (w .1 .0) b) ∙ from-accepts (x .object) (step (x .object)) b u
+
+  -- forty places come back, 0 above the height
+  pub places-forty : length (running bytes store l a .lent .places) ≡ limits .stack
+  places-forty = by (answer bytes store l)
+    where
+      by : Answer bytes store l → length (running bytes store l a .lent .places) ≡ limits .stack
+      by (refuses r p q) = ap (λ z. length (z .lent .places)) (q a) ∙ forty
+      by (runs x q) = let w = left bytes store l x forty a in ap (λ k. length (k .places)) (w .1 .1 .1) ∙ given-forty (w .0) (w .1 .0 .low)
+
+  pub places-above : running bytes store l a .refusal .number ≡ 0
+      → drop (running bytes store l a .lent .height) (running bytes store l a .lent .places) ≡ replicate (limits .stack - running bytes store l a .lent .height) (pos 0)
+  places-above e =
+      let w = left bytes store l (accepts bytes store l a e) forty a in
+      subst (λ k. drop (k .height) (k .places) ≡ replicate (limits .stack - k .height) (pos 0)) (sym (w .1 .1 .1)) (given-above (w .0))
+
+module _ (bytes : List ℕ) (store : List ℤ) (l : Lent) (a : ℕ) (e : running bytes store l a .refusal .number ≡ 0) where
+  x : Accepts bytes store l
+  x = accepts bytes store l a e
+
+  -- halt 2 reports the whole allowance
+  pub steps-two : running bytes store l a .halt ≡ 2 → running bytes store l a .steps ≡ a
+  steps-two two = by (did bytes store l x a)
+    where
+      by : Did bytes store l x a → running bytes store l a .steps ≡ a
+      by (went u q r) = ap (λ z. z .steps) r
+      by (stopped h u q r) = absurd (not-two h (ap (λ z. z .halt) (sym r) ∙ two))
+
+  module _ (other : running bytes store l a .halt ≡ 2 → ⊥) where
+    -- any other halt is given at every larger allowance, in as many steps
+    pub stays-halted : (b : ℕ) → running bytes store l (a + b) ≡ running bytes store l a
+    stays-halted b = by (did bytes store l x a)
+      where
+        f : State → Out State
+        f = step (x .object)
+
+        by : Did bytes store l x a → running bytes store l (a + b) ≡ running bytes store l a
+        by (went u q r) = absurd (other (ap (λ z. z .halt) r))
+        by (stopped h u q r) =
+            accepts-run x (a + b) ∙ ap₂ (λ n z. ran (x .object) n z) (steps-more f a b (taken l store) u h q) (halts-more f a b (taken l store) u h q) ∙ sym r
+
+    -- it takes a step at least; it is given at the allowance of its steps, and halt 2 at one less
+    pub halts-exactly : (1 ≤ running bytes store l a .steps)
+        × ((running bytes store l (running bytes store l a .steps) ≡ running bytes store l a)
+        × ((running bytes store l (running bytes store l a .steps - 1) .halt ≡ 2) × (running bytes store l (running bytes store l a .steps - 1) .refusal ≡ accepted)))
+    halts-exactly = by (did bytes store l x a)
+      where
+        f : State → Out State
+        f = step (x .object)
+
+        P : Ran → ℕ → Type 0
+        P r n = (1 ≤ n) × ((running bytes store l n ≡ r) × ((running bytes store l (n - 1) .halt ≡ 2) × (running bytes store l (n - 1) .refusal ≡ accepted)))
+
+        by : Did bytes store l x a → P (running bytes store l a) (running bytes store l a .steps)
+        by (went u q r) = absurd (other (ap (λ z. z .halt) r))
+        by (stopped h u q r) =
+            let n = steps f a (taken l store) in
+            let w = goes-before f a (taken l store) u h q in
+            let less : running bytes store l (n - 1) ≡ ran (x .object) (steps f (n - 1) (taken l store)) (go (w .0)) =
+            accepts-run x (n - 1) ∙ ap (λ z. ran (x .object) (steps f (n - 1) (taken l store)) z) (w .1 .0) in
+            subst (λ m. P (running bytes store l a) m) (ap (λ z. z .steps) (sym r)) (
+              steps-some f a (taken l store) u h q,
+              (
+                accepts-run x n ∙ ap₂ (λ m z. ran (x .object) m z) (steps-at f a (taken l store) u h q) (halts-at f a (taken l store) u h q) ∙ sym r,
+                (ap (λ z. z .halt) less, ap (λ z. z .refusal) less),
+              ),
+            )

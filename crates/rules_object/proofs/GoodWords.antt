@@ -1,0 +1,128 @@
+-- Each word of a passed object: its entry is right, what it uses is below the cell count and within the digits, and where it leads has its height.
+-- Assumes nothing.
+use mathlib.Core.Path.{_≡_, refl, subst}
+use mathlib.Core.Bool.{Bool, true}
+use mathlib.Core.List.{List, [], _∷_}
+use Prim.Native.Nat.{ℕ, zero, suc, _+_, _-_, _*_, _≤_, _<_}
+use native.Mathlib.Omega.{arith}
+use lib.Dec.{leb}
+use lib.ListN.{length, getD}
+use lib.IntN.{pos}
+use borrow.Author.Tests.{ltb-true, leb-true}
+use Rattle.number.specs.Number.{fits}
+use Rattle.number.proofs.Laws.{fits-yes}
+use Rattle.rules_object.specs.Limits.{limits}
+use Rattle.rules_object.specs.Object.{Subscript, Element, Loop, Object}
+use Rattle.rules_object.specs.Machine.{Instr, HLT, CON, LOD, STO, LDE, STE, OP, NEG, JMP, BR3, BRC, DOI, DOE, operationOf, operandOf, meanings, unknown, decode, ruleOf}
+use Rattle.rules_object.specs.Check.{inCells, rightConstant, rightSubscript, rightElement, rightLoop, right43, operandTests, unknownOperation, entryTests, noEntry, entryRight, pops, pushes, successors, instruction, flowOf}
+use Rattle.rules_object.specs.Flow.{at}
+use Rattle.rules_object.specs.Safe.{Within}
+use Rattle.rules_object.proofs.Passed.{Passed, both}
+
+-- ---- what an instruction uses
+
+pub record GoodElement (o : Object) (e : Element) : Type 0 where
+  pub span : e .base + e .rows * e .columns ≤ o .cells
+  pub first : e .first .cell < o .cells
+  pub second : e .second .cell < o .cells
+
+pub record GoodLoop (o : Object) (d : Loop) : Type 0 where
+  pub variable : d .variable < o .cells
+  pub limit : d .limit < o .cells
+  pub step : d .step < o .cells
+
+abbrev pub Good : Object → Instr → Type 0
+Good o (HLT x) = Unit {0}
+Good o (CON c) = Within o (pos c)
+Good o (LOD a) = a < o .cells
+Good o (STO a) = a < o .cells
+Good o (LDE e) = GoodElement o e
+Good o (STE e) = GoodElement o e
+Good o (OP p) = Unit {0}
+Good o NEG = Unit {0}
+Good o (JMP a) = Unit {0}
+Good o (BR3 a b c) = Unit {0}
+Good o (BRC exits) = Unit {0}
+Good o (DOI n d) = GoodLoop o d
+Good o (DOE n d) = GoodLoop o d
+
+subscript-good : (o : Object) (s : Subscript) → rightSubscript o s ≡ true → s .cell < o .cells
+subscript-good o s e = ltb-true _ _ (both (fits (ruleOf o) (s .plus)) _ (both (fits (ruleOf o) (pos (s .times))) _ e .1) .1)
+
+element-good : (o : Object) (e : Element) → rightElement o e ≡ true → GoodElement o e
+unfolding rightElement
+element-good o e q =
+    let q₁ = both (leb 1 (e .rows)) _ q .1 in
+    let q₂ = both (leb 1 (e .columns)) _ q₁ .1 in
+    let q₃ = both (leb (e .base + e .rows * e .columns) (o .cells)) _ q₂ in
+    let q₄ = both (rightSubscript o (e .first)) _ (q₃ .1) in
+    record { span = leb-true _ _ (q₃ .0); first = subscript-good o (e .first) (q₄ .0); second = subscript-good o (e .second) (q₄ .1) }
+
+loop-good : (o : Object) (d : Loop) → rightLoop o d ≡ true → GoodLoop o d
+unfolding rightLoop
+loop-good o d q =
+    let q₁ = both (inCells o (d .variable)) _ q in
+    let q₂ = both (inCells o (d .limit)) _ (q₁ .1) in
+    let q₃ = both (inCells o (d .step)) _ (q₂ .1) in
+    record { variable = ltb-true _ _ (q₁ .0); limit = ltb-true _ _ (q₂ .0); step = ltb-true _ _ (q₃ .0) }
+
+constant-good : (o : Object) (c : ℕ) → rightConstant o c ≡ true → Within o (pos c)
+unfolding rightConstant
+constant-good o c q = fits-yes (ruleOf o) (pos c) q
+
+-- ---- by operation: where the operand is right, so is the entry, and what the instruction uses
+
+data Rows (o : Object) : List (Object → ℕ → Bool) → List (Object → ℕ → Bool) → List (Object → ℕ → Instr) → Type 0 where
+  end : Rows o [] [] []
+  row : {t e : Object → ℕ → Bool} {m : Object → ℕ → Instr} {ts es : List (Object → ℕ → Bool)} {ms : List (Object → ℕ → Instr)}
+      → ((x : ℕ) → t o x ≡ true → (e o x ≡ true) × Good o (m o x)) → Rows o ts es ms → Rows o (t ∷ ts) (e ∷ es) (m ∷ ms)
+
+rows-at : {o : Object} {ts es : List (Object → ℕ → Bool)} {ms : List (Object → ℕ → Instr)} → Rows o ts es ms → (op x : ℕ) → getD ts op unknownOperation o x ≡ true
+    → (getD es op noEntry o x ≡ true) × Good o (getD ms op unknown o x)
+rows-at end op x e = absurd (let z : _≡_ {A = ℕ} 0 1 = cc in omega arith)
+rows-at (row f r) zero x e = f x e
+rows-at (row f r) (suc op) x e = rows-at r op x e
+
+module _ {bytes : List ℕ} {o : Object} {table : List ℕ} (p : Passed bytes o table) where
+  rows : Rows o operandTests entryTests meanings
+  rows =
+      row (λ x e. (refl, tt))
+      (row (λ x e. let q = p .constants x (ltb-true _ _ e) in (q, constant-good o _ q))
+      (row (λ x e. (refl, ltb-true _ _ e))
+      (row (λ x e. (refl, ltb-true _ _ e))
+      (row (λ x e. let q = p .elements x (ltb-true _ _ e) in (q, element-good o _ q))
+      (row (λ x e. let q = p .elements x (ltb-true _ _ e) in (q, element-good o _ q))
+      (row (λ x e. (refl, tt))
+      (row (λ x e. (refl, tt))
+      (row (λ x e. (refl, tt))
+      (row (λ x e. (refl, tt))
+      (row (λ x e. (refl, tt))
+      (row (λ x e. (refl, tt))
+      (row (λ x e. (refl, tt))
+      (row (λ x e. (refl, tt))
+      (row (λ x e. let q = p .dos x (ltb-true _ _ e) in (q, loop-good o _ q))
+      (row (λ x e. let q = p .dos x (ltb-true _ _ e) in (q, loop-good o _ q)) end)))))))))))))))
+
+  pub word-good : (a : ℕ) → a < length (o .code) → (entryRight o (getD (o .code) a 0) ≡ true) × Good o (instruction o a)
+  unfolding right43 entryRight decode
+  word-good a l = rows-at rows (operationOf (getD (o .code) a 0)) (operandOf (getD (o .code) a 0)) (p .words a l)
+
+-- ---- where it leads
+
+-- a is in the code, and has the height h
+pub record Led (o : Object) (H : List ℕ) (a h : ℕ) : Type 0 where
+  pub inside : a < length (o .code)
+  pub low : h ≤ limits .stack
+  pub is : at H a ≡ h
+
+-- every successor of i at a, from the height h
+abbrev pub Leads : Object → List ℕ → ℕ → Instr → ℕ → Type 0
+Leads o H a i h = (k : ℕ) → k < length (successors a i) → Led o H (getD (successors a i) k 0) (h - pops i + pushes i)
+
+pub word-leads : {bytes : List ℕ} {o : Object} {table : List ℕ} → Passed bytes o table → (a h : ℕ) → a < length (o .code) → at table a ≡ h → h ≤ limits .stack
+    → (pops (instruction o a) ≤ h) × Leads o table a (instruction o a) h
+unfolding flowOf
+word-leads {o = o} {table = table} p a h l e b =
+    let f = p .least .valid .each a l (omega arith) in
+    let r = f .room in
+    (subst (λ x. pops (instruction o a) ≤ x) e r, λ k w. let d = f .leads k w in subst (λ x. Led o table (getD (successors a (instruction o a)) k 0) (x - pops (instruction o a) + pushes (instruction o a))) e (record { inside = d .inside; low = d .low; is = d .is }))

@@ -1,0 +1,127 @@
+-- Each limit of 41, at it and over it; each operation's operand (43), at its end and past it; and the map's table.
+-- Assumes nothing.
+use mathlib.Core.Path.{refl}
+use mathlib.Core.List.{List, [], _∷_, _++_}
+use Prim.Native.Nat.{ℕ}
+use lib.ListN.{replicate}
+use lib.IntN.{pos}
+use Rattle.number.specs.Number.{ceiling, fits}
+use Rattle.rules_object.specs.Object.{Object}
+use Rattle.rules_object.specs.Bytes.{signedOf, signedWord, objectWords, objectBytes, readObject}
+use Rattle.rules_object.specs.Machine.{operationOf, operandOf, decode}
+use Rattle.rules_object.specs.Check.{right41, rightConstant, rightElement, rightLoop, rightLine, rightNamed, right43, flowOf}
+use Rattle.rules_object.specs.Heights.{heights}
+use Rattle.rules_object.specs.Calls.{Refusal, refusal, accepted, refused42, refused43, checked, checking, Written, write, mapOf, mapping}
+use Rattle.rules_object.specs.Small.{HLT, CON, LOD, STO, LDE, STE, ADD, SUB, MUL, DIV, NEG, JMP, BR3, BRC, DOI, DOE, object, plain, element, loop, line, named, withLines, withNames}
+use Rattle.rules_object.proofs.ObjectExamples.{Agree}
+
+abbrev judges : Object → Refusal
+judges o = checking (objectBytes o)
+
+abbrev stop : List ℕ
+stop = HLT 0 ∷ []
+
+-- one cell, and an element, a DO, a line and a name of it
+abbrev constants : ℕ → Object
+constants n = object 1 (replicate n 7) [] [] [] stop
+
+abbrev elements : ℕ → Object
+elements n = object 1 [] (replicate n (element 0 1 1 0 0 (pos 1) 0 0 (pos 1))) [] [] stop
+
+abbrev exits : ℕ → Object
+exits n = object 1 [] [] (replicate n 9) [] stop
+
+abbrev dos : ℕ → Object
+dos n = object 1 [] [] [] (replicate n (loop 0 0 0 0)) stop
+
+abbrev codes : ℕ → Object
+codes n = plain (replicate n (HLT 0))
+
+abbrev lines : ℕ → Object
+lines n = withLines (replicate n (line 1 0 0)) (plain stop)
+
+abbrev names : ℕ → Object
+names n = withNames (replicate n (named (73 ∷ []) 0 0 0)) (object 1 [] [] [] [] stop)
+
+limits-41 : Agree
+    ((judges (constants 256), accepted)
+    ∷ (judges (constants 257), refusal 41 0 0)
+    ∷ (judges (elements 256), accepted)
+    ∷ (judges (elements 257), refusal 41 0 0)
+    ∷ (judges (exits 1024), accepted)
+    ∷ (judges (exits 1025), refusal 41 0 0)
+    ∷ (judges (dos 64), accepted)
+    ∷ (judges (dos 65), refusal 41 0 0)
+    ∷ (judges (codes 4096), accepted)
+    ∷ (judges (codes 4097), refusal 41 0 0)
+    ∷ (judges (lines 400), accepted)
+    ∷ (judges (lines 401), refusal 41 0 0)
+    ∷ (judges (names 100), accepted)
+    ∷ (judges (names 101), refusal 41 0 0)
+    ∷ (judges (object 4096 [] [] [] [] stop), accepted)
+    ∷ (judges (object 4097 [] [] [] [] stop), refusal 41 0 0)
+    ∷ [])
+unfolding checking checked objectBytes objectWords signedWord readObject signedOf right41 refused42 refused43 rightConstant rightElement rightLoop rightLine rightNamed right43 flowOf heights decode operationOf operandOf fits ceiling
+limits-41 = refl
+
+-- one of everything, and the word second, where it is never reached
+abbrev second : ℕ → Refusal
+second word = judges (object 1 (7 ∷ []) (element 0 1 1 0 0 (pos 1) 0 0 (pos 1) ∷ []) (2 ∷ 0 ∷ 1 ∷ []) (loop 0 0 0 1 ∷ []) (HLT 0 ∷ word ∷ []))
+
+operands-43 : Agree
+    ((second (HLT 1), accepted)
+    ∷ (second (HLT 2), refusal 43 1 5)
+    ∷ (second (CON 0), accepted)
+    ∷ (second (CON 1), refusal 43 1 5)
+    ∷ (second (LOD 0), accepted)
+    ∷ (second (LOD 1), refusal 43 1 5)
+    ∷ (second (STO 0), accepted)
+    ∷ (second (STO 1), refusal 43 1 5)
+    ∷ (second (LDE 0), accepted)
+    ∷ (second (LDE 1), refusal 43 1 5)
+    ∷ (second (STE 0), accepted)
+    ∷ (second (STE 1), refusal 43 1 5)
+    ∷ (second (ADD 0), accepted)
+    ∷ (second (ADD 1), refusal 43 1 5)
+    ∷ (second (SUB 0), accepted)
+    ∷ (second (SUB 1), refusal 43 1 5)
+    ∷ (second (MUL 0), accepted)
+    ∷ (second (MUL 1), refusal 43 1 5)
+    ∷ (second (DIV 0), accepted)
+    ∷ (second (DIV 1), refusal 43 1 5)
+    ∷ (second (NEG 0), accepted)
+    ∷ (second (NEG 1), refusal 43 1 5)
+    ∷ (second (JMP 1), accepted)
+    ∷ (second (JMP 2), refusal 43 1 5)
+    ∷ (second (BR3 0), refusal 43 1 5)
+    ∷ (second (BRC 0), accepted)
+    ∷ (second (DOI 0), accepted)
+    ∷ (second (DOI 1), refusal 43 1 5)
+    ∷ (second (DOE 0), accepted)
+    ∷ (second (DOE 1), refusal 43 1 5)
+    ∷ [])
+unfolding checking checked objectBytes objectWords signedWord readObject signedOf right41 refused42 refused43 rightConstant rightElement rightLoop rightLine rightNamed right43 flowOf heights decode operationOf operandOf fits ceiling
+operands-43 = refl
+
+-- ---- the map
+
+abbrev two : Object
+two = withNames (named (73 ∷ []) 0 0 0 ∷ named (76 ∷ 49 ∷ []) 1 2 0 ∷ []) (object 3 [] [] [] [] stop)
+
+abbrev entries : List ℕ
+entries =
+    73 ∷ 32 ∷ 32 ∷ 32 ∷ 32 ∷ 32 ∷ 32 ∷ 32 ∷ (replicate 12 0 ++
+    76 ∷ 49 ∷ 32 ∷ 32 ∷ 32 ∷ 32 ∷ 32 ∷ 32 ∷ 1 ∷ 0 ∷ 0 ∷ 0 ∷ 2 ∷ 0 ∷ 0 ∷ 0 ∷ replicate 4 0)
+
+abbrev answered : Refusal → ℕ → List ℕ → Written
+answered r n table = record { refusal = r; length = n; output = table }
+
+maps : Agree
+    ((mapping (objectBytes two) (replicate 40 9), answered accepted 40 entries)
+    ∷ (mapping (objectBytes two) (replicate 45 9), answered accepted 40 (entries ++ replicate 5 9))
+    ∷ (mapping (objectBytes two) (replicate 39 9), answered (refusal 30 0 0) 0 (replicate 39 9))
+    ∷ (mapping (objectBytes (plain stop)) [], answered accepted 0 [])
+    ∷ (mapping (objectBytes (plain (JMP 1 ∷ []))) (replicate 3 9), answered (refusal 43 0 5) 0 (replicate 3 9))
+    ∷ [])
+unfolding mapping write mapOf checked objectBytes objectWords signedWord readObject signedOf right41 refused42 refused43 rightConstant rightElement rightLoop rightLine rightNamed right43 flowOf heights decode operationOf operandOf fits ceiling
+maps = refl

@@ -1,0 +1,147 @@
+-- Over bytes: a longer store is the same run with its further cells put back, and no run changes a store's length.
+-- Assumes nothing.
+use mathlib.Core.Path.{_≡_, refl, sym, ap, ap₂, _∙_, subst}
+use mathlib.Core.Bool.{Bool, true, false}
+use mathlib.Core.List.{List, _++_}
+use mathlib.Core.Option.{Option, none, some}
+use Prim.Native.Nat.{ℕ, zero, suc, _+_}
+use native.Mathlib.Omega.{arith}
+use lib.ListN.{length, set, length-set, length-append}
+use lib.Seq.{take-append-le}
+use lib.IntN.{ℤ}
+use borrow.Author.Tests.{le-leb}
+use Rattle.number.specs.Number.{Rule, Result, value, byZero, apply, fits}
+use Rattle.rules_object.specs.Limits.{limits}
+use Rattle.rules_object.specs.Runs.{Out, go, halt, then, run, steps}
+use Rattle.rules_object.specs.Choose.{exit, positive, allPositive, Turn, again, over, turn}
+use Rattle.rules_object.specs.Object.{Element, Loop, Object}
+use Rattle.rules_object.specs.Machine.{Instr, HLT, CON, LOD, STO, LDE, STE, OP, NEG, JMP, BR3, BRC, DOI, DOE, State, cell, top, under, operated, placeOf, elementLoaded, elementStored, branched, begun, turned, ended, act, ruleOf, step}
+use Rattle.rules_object.specs.Check.{instruction}
+use Rattle.rules_object.specs.Calls.{refusal, orElse, unless, Lent, taken, given, all, right50, right51, right52, Ran, ran, runFrom, orRefused, runChecked, running}
+use Rattle.rules_object.specs.Safe.{withCells, ranWithCells}
+use Rattle.rules_object.proofs.RunLaws.{mapOut}
+use Rattle.rules_object.proofs.Passed.{Passed}
+use Rattle.rules_object.proofs.Lents.{long-enough, taken-stands}
+use Rattle.rules_object.proofs.PastCells.{run-past-cells, steps-past-cells}
+use Rattle.rules_object.proofs.Accepts.{Verdict, bad, good, judge, Answer, refuses, runs, answer}
+
+-- ---- a step keeps the store's length
+
+-- going on or halted, with a store of n cells
+abbrev pub Long : ℕ → Out State → Type 0
+Long n (go u) = length (u .store) ≡ n
+Long n (halt h u) = length (u .store) ≡ n
+
+module _ (t : State) where
+  operated-long : (r : Result) (s : List ℤ) → Long (length (t .store)) (operated r t s)
+  operated-long (value v lost) s = refl
+  operated-long byZero s = refl
+
+  loaded-long : (e : Element) (p : Option ℕ) → Long (length (t .store)) (elementLoaded p e t)
+  loaded-long e none = refl
+  loaded-long e (some p) = refl
+
+  stored-long : (e : Element) (p : Option ℕ) → Long (length (t .store)) (elementStored p e t)
+  stored-long e none = refl
+  stored-long e (some p) = length-set (t .store) (e .base + p) (top (t .stack))
+
+  branched-long : (p : Option ℕ) → Long (length (t .store)) (branched p t)
+  branched-long none = refl
+  branched-long (some a) = refl
+
+  begun-long : (b : Bool) (d : Loop) (m₁ m₂ m₃ : ℤ) → Long (length (t .store)) (begun b d m₁ m₂ m₃ t)
+  begun-long false d m₁ m₂ m₃ = refl
+  begun-long true d m₁ m₂ m₃ =
+      let c₁ = set (t .store) (d .variable) m₁ in
+      let c₂ = set c₁ (d .limit) m₂ in
+      length-set c₂ (d .step) m₃ ∙ length-set c₁ (d .limit) m₂ ∙ length-set (t .store) (d .variable) m₁
+
+  turned-long : (r : Turn) (d : Loop) → Long (length (t .store)) (turned r d t)
+  turned-long (again i) d = length-set (t .store) (d .variable) i
+  turned-long over d = refl
+
+  ended-long : (b : Bool) (d : Loop) → Long (length (t .store)) (ended b d t)
+  ended-long false d = refl
+  ended-long true d = turned-long (turn (cell (t .store) (d .variable)) (cell (t .store) (d .limit)) (cell (t .store) (d .step))) d
+
+  act-long : (r : Rule) (i : Instr) → Long (length (t .store)) (act r i t)
+  act-long r (HLT x) = refl
+  act-long r (CON c) = refl
+  act-long r (LOD a) = refl
+  act-long r (STO a) = length-set (t .store) a (top (t .stack))
+  act-long r (LDE e) = loaded-long e (placeOf (t .store) e)
+  act-long r (STE e) = stored-long e (placeOf (t .store) e)
+  act-long r (OP f) = operated-long (apply r f (top (under (t .stack))) (top (t .stack))) (under (under (t .stack)))
+  act-long r NEG = refl
+  act-long r (JMP a) = refl
+  act-long r (BR3 a b c) = refl
+  act-long r (BRC ts) = branched-long (exit ts (top (t .stack)))
+  act-long r (DOI n d) =
+      begun-long (allPositive (top (under (under (t .stack)))) (top (under (t .stack))) (top (t .stack))) d (top (under (under (t .stack)))) (top (under (t .stack))) (top (t .stack))
+  act-long r (DOE n d) = ended-long (positive (cell (t .store) (d .step))) d
+
+pub run-long : (o : Object) (n : ℕ) (t : State) → Long (length (t .store)) (run (step o) n t)
+unfolding step
+run-long o zero t = refl
+run-long o (suc n) t = on (step o t) (act-long t (ruleOf o) (instruction o (t .index))) (λ u. run-long o n u)
+  where
+    on : (x : Out State) → Long (length (t .store)) x → ((u : State) → Long (length (u .store)) (run (step o) n u)) → Long (length (t .store)) (then x (λ u. run (step o) n u))
+    on (go u) e f = subst (λ m. Long m (run (step o) n u)) e (f u)
+    on (halt h u) e f = e
+
+-- a store comes back as long as it was lent
+pub store-length : (bytes : List ℕ) (store : List ℤ) (l : Lent) (a : ℕ) → length (running bytes store l a .store) ≡ length store
+unfolding taken
+store-length bytes store l a = by (answer bytes store l)
+  where
+    out : (o : Object) (n : ℕ) (x : Out State) → Long (length store) x → length (ran o n x .store) ≡ length store
+    out o n (go u) e = e
+    out o n (halt h u) e = e
+
+    by : Answer bytes store l → length (running bytes store l a .store) ≡ length store
+    by (refuses r p q) = ap (λ x. length (x .store)) (q a)
+    by (runs x q) = ap (λ x. length (x .store)) (q a) ∙ out (x .object) _ (run (step (x .object)) a (taken l store)) (run-long (x .object) a (taken l store))
+
+-- ---- cells past the count
+
+module _ (c extra : List ℤ) (o : Object) where
+  more-50 : right50 o c ≡ true → right50 o (c ++ extra) ≡ true
+  unfolding right50
+  more-50 e = let l = long-enough o c e in le-leb (o .cells) (length (c ++ extra)) (omega (arith, length-append c extra))
+
+  more-51 : right50 o c ≡ true → right51 o (c ++ extra) ≡ right51 o c
+  unfolding right51
+  more-51 e = ap (all (fits (ruleOf o))) (take-append-le (o .cells) c extra (long-enough o c e))
+
+ran-more : (extra : List ℤ) (o : Object) (n : ℕ) (x : Out State) → ran o n (mapOut (withCells extra) x) ≡ ranWithCells extra (ran o n x)
+unfolding given
+ran-more extra o n (go u) = refl
+ran-more extra o n (halt h u) = refl
+
+-- where the store is not too short, further cells change nothing but that they come back behind it
+pub past-cells : (bytes : List ℕ) (c extra : List ℤ) (l : Lent) (a : ℕ) → length (l .places) ≡ limits .stack → (running bytes c l a .refusal .number ≡ 50 → ⊥)
+    → running bytes (c ++ extra) l a ≡ ranWithCells extra (running bytes c l a)
+unfolding running taken
+past-cells bytes c extra l a forty not50 = by (judge bytes)
+  where
+    R : List ℤ → Object → Bool → Bool → Bool → Ran
+    R store o x y z = orRefused (orElse (unless x 50) (orElse (unless y 51) (unless z 52))) l store (runFrom o (step o) a (taken l store))
+
+    on : (o : Object) (table : List ℕ) → Passed bytes o table → (x y z : Bool) → right50 o c ≡ x → right51 o c ≡ y → right52 o table l ≡ z → (R c o x y z .refusal .number ≡ 50 → ⊥)
+        → R (c ++ extra) o (right50 o (c ++ extra)) (right51 o (c ++ extra)) z ≡ ranWithCells extra (R c o x y z)
+    on o table p false y z e f g n = absurd (n refl)
+    on o table p true y z e f g n = ap₂ (λ x y. R (c ++ extra) o x y z) (more-50 c extra o e) (more-51 c extra o e ∙ f) ∙ rest y z f g
+      where
+        rest : (y z : Bool) → right51 o c ≡ y → right52 o table l ≡ z → R (c ++ extra) o true y z ≡ ranWithCells extra (R c o true y z)
+        rest false z f g = refl
+        rest true false f g = refl
+        rest true true f g =
+            let s = taken-stands o table l c forty e f g in
+            ap₂ (λ n x. ran o n x) (steps-past-cells p extra a (taken l c) s) (run-past-cells p extra a (taken l c) s) ∙ ran-more extra o (steps (step o) a (taken l c)) (run (step o) a (taken l c))
+
+    by : Verdict bytes → running bytes (c ++ extra) l a ≡ ranWithCells extra (running bytes c l a)
+    by (bad r e p w) = ap (λ k. runChecked k (c ++ extra) l a) e ∙ ap (λ k. ranWithCells extra (runChecked k c l a)) (sym e)
+    by (good o table e p) =
+        ap (λ k. runChecked k (c ++ extra) l a) e
+        ∙ on o table p (right50 o c) (right51 o c) (right52 o table l) refl refl refl (λ q. not50 (ap (λ k. runChecked k c l a .refusal .number) e ∙ q))
+        ∙ ap (λ k. ranWithCells extra (runChecked k c l a)) (sym e)

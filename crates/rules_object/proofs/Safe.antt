@@ -1,0 +1,284 @@
+-- No fault: a state that stands is right, and each step from it stands again or halts there by no fault; so of whole runs. Promise 6.
+-- Assumes nothing.
+use mathlib.Core.Path.{_≡_, refl, sym, _∙_, subst}
+use mathlib.Core.Bool.{Bool, true, false}
+use mathlib.Core.List.{List, [], _∷_}
+use mathlib.Core.Option.{Option, none, some}
+use Prim.Native.Nat.{ℕ, zero, suc, _+_, _-_, _*_, _≤_, _<_}
+use native.Mathlib.Nat.{mul-le-mul-right, mul-comm, suc-mul}
+use native.Mathlib.Omega.{arith}
+use lib.Dec.{ltb}
+use lib.ListN.{length, getD, getElem?, set, length-set}
+use lib.IntN.{ℤ, pos, negsuc}
+use borrow.Author.Tests.{ltb-true}
+use Rattle.number.specs.Number.{Op, add, sub, mul, div, Result, value, byZero, apply}
+use Rattle.number.proofs.Laws.{ResultFits, apply-fits, neg-fits}
+use Rattle.rules_object.specs.Limits.{limits}
+use Rattle.rules_object.specs.Runs.{Halt, haltNumber, Out, go, halt, run}
+use Rattle.rules_object.specs.Choose.{sign3, exit, below, right, byColumns, place, positive, allPositive, Turn, again, over, turn, marked}
+use Rattle.rules_object.specs.Object.{Element, Loop, Object}
+use Rattle.rules_object.specs.Machine.{Instr, HLT, CON, LOD, STO, LDE, STE, OP, NEG, JMP, BR3, BRC, DOI, DOE, State, state, cell, top, under, operated, placeOf, elementLoaded, elementStored, branched, begun, turned, ended, halts, act, ruleOf, step}
+use Rattle.rules_object.specs.Check.{pops, pushes, instruction}
+use Rattle.rules_object.specs.Writable.{Each}
+use Rattle.rules_object.specs.Safe.{elementCell, elementCells, touchedBy, touches, Right, Within, Stands}
+use Rattle.rules_object.proofs.RunLaws.{run-keeps, halted}
+use Rattle.rules_object.proofs.Passed.{Passed}
+use Rattle.rules_object.proofs.Numbers.{top-within, under-within, set-within, TurnWithin, turn-within, under-length}
+use Rattle.rules_object.proofs.GoodWords.{GoodElement, GoodLoop, Good, word-good, Led, Leads, word-leads}
+
+-- ---- an element's place is in its array
+
+right-below : (dimension : ℕ) (z : ℤ) (p : ℕ) → right dimension z ≡ some p → p < dimension
+right-below d (pos zero) p e = absurd (let z : _≡_ {A = ℕ} 0 1 = cc in omega arith)
+right-below d (pos (suc n)) p e = by (ltb n d) refl e
+  where
+    by : (b : Bool) → ltb n d ≡ b → below b n ≡ some p → p < d
+    by true q e = let s : n ≡ p = cc in let l = ltb-true n d q in omega arith
+    by false q e = absurd (let z : _≡_ {A = ℕ} 0 1 = cc in omega arith)
+right-below d (negsuc n) p e = absurd (let z : _≡_ {A = ℕ} 0 1 = cc in omega arith)
+
+pub place-below : (rows columns : ℕ) (v w : ℤ) (p : ℕ) → place rows columns v w ≡ some p → p < rows * columns
+unfolding place
+place-below rows columns v w p e = by (right rows v) (right columns w) refl refl e
+  where
+    by : (i j : Option ℕ) → right rows v ≡ i → right columns w ≡ j → byColumns rows i j ≡ some p → p < rows * columns
+    by none j q r e = absurd (let z : _≡_ {A = ℕ} 0 1 = cc in omega arith)
+    by (some i) none q r e = absurd (let z : _≡_ {A = ℕ} 0 1 = cc in omega arith)
+    by (some i) (some j) q r e =
+        let s : j * rows + i ≡ p = cc in
+        let l = right-below rows v i q in
+        let m = right-below columns w j r in
+        let n : suc j * rows ≤ columns * rows = mul-le-mul-right rows m in
+        omega (arith, suc-mul j rows, mul-comm columns rows)
+
+-- ---- one step
+
+halts-fault : (x : ℕ) → haltNumber (halts x) < 7
+unfolding haltNumber
+halts-fault zero = omega arith
+halts-fault (suc x) = omega arith
+
+-- going on where it stands, or halted at t by no fault
+abbrev Kept : Object → List ℕ → State → Out State → Type 0
+Kept o H t (go u) = Stands o H u
+Kept o H t (halt h u) = (u ≡ t) × (haltNumber h < 7)
+
+abbrev LedTo : Object → List ℕ → ℕ → Option ℕ → Type 0
+LedTo o H h none = Unit {0}
+LedTo o H h (some a) = Led o H a h
+
+module _ {o : Object} {H : List ℕ} {h : ℕ} where
+  sign-led : {a b c : ℕ} (z : ℤ) → Led o H a h → Led o H b h → Led o H c h → Led o H (sign3 z a b c) h
+  sign-led (negsuc n) p q r = p
+  sign-led (pos zero) p q r = q
+  sign-led (pos (suc n)) p q r = r
+
+  nth-led : (ts : List ℕ) (n : ℕ) → ((k : ℕ) → k < length ts → Led o H (getD ts k 0) h) → LedTo o H h (getElem? ts n)
+  nth-led [] n f = tt
+  nth-led (t ∷ ts) zero f = f 0 (omega arith)
+  nth-led (t ∷ ts) (suc n) f = nth-led ts n (λ k l. f (suc k) (omega arith))
+
+  exit-led : (ts : List ℕ) (z : ℤ) → ((k : ℕ) → k < length ts → Led o H (getD ts k 0) h) → LedTo o H h (exit ts z)
+  exit-led ts (pos zero) f = tt
+  exit-led ts (pos (suc n)) f = nth-led ts n f
+  exit-led ts (negsuc n) f = tt
+
+marked-inside : (m : ℕ) (lost : Bool) (a n : ℕ) → m ≤ n → a < n → marked m lost a ≤ n
+marked-inside m false a n h l = h
+marked-inside zero true a n h l = omega arith
+marked-inside (suc m) true a n h l = h
+
+two-one : (p : Op) → (pops (OP p) ≡ 2) × (pushes (OP p) ≡ 1)
+two-one add = (refl, refl)
+two-one sub = (refl, refl)
+two-one mul = (refl, refl)
+two-one div = (refl, refl)
+
+module _ (o : Object) (H : List ℕ) (t : State) (s : Stands o H t) where
+  -- what is popped, and what is left, is within the digits
+  rest₁ : Each (Within o) (under (t .stack))
+  rest₁ = under-within o (t .stack) (s .stack)
+
+  rest₂ : Each (Within o) (under (under (t .stack)))
+  rest₂ = under-within o (under (t .stack)) rest₁
+
+  rest₃ : Each (Within o) (under (under (under (t .stack))))
+  rest₃ = under-within o (under (under (t .stack))) rest₂
+
+  top₁ : Within o (top (t .stack))
+  top₁ = top-within o (t .stack) (s .stack)
+
+  top₂ : Within o (top (under (t .stack)))
+  top₂ = top-within o (under (t .stack)) rest₁
+
+  top₃ : Within o (top (under (under (t .stack))))
+  top₃ = top-within o (under (under (t .stack))) rest₂
+
+  -- at a state of the given stack, store and mark
+  arrive : (a h : ℕ) (stack store : List ℤ) (m : ℕ) → Led o H a h → length stack ≡ h → Each (Within o) stack → o .cells ≤ length store → ((b : ℕ) → b < o .cells → Within o (cell store b)) → m ≤ length (o .code)
+      → Stands o H (state a stack store m)
+  arrive a h stack store m l e w n c k =
+      let low = l .low in
+      let is = l .is in
+      record { inside = l .inside; height = is ∙ sym e; low = omega arith; stack = w; long = n; store = c; mark = k }
+
+  -- the store as it is
+  moves : (a h : ℕ) (stack : List ℤ) → Led o H a h → length stack ≡ h → Each (Within o) stack → Stands o H (state a stack (t .store) (t .mark))
+  moves a h stack l e w = arrive a h stack (t .store) (t .mark) l e w (s .long) (s .store) (s .mark)
+
+  -- a cell set
+  writes : (a h x : ℕ) (v : ℤ) (stack : List ℤ) → Led o H a h → length stack ≡ h → Each (Within o) stack → Within o v → Stands o H (state a stack (set (t .store) x v) (t .mark))
+  writes a h x v stack l e w z = let n = s .long in arrive a h stack _ (t .mark) l e w (omega (arith, length-set (t .store) x v)) (set-within o (t .store) x v (s .store) z) (s .mark)
+
+  operated-kept : (r : Result) (h : ℕ) → ResultFits (ruleOf o) r → Led o H (suc (t .index)) h → length (under (under (t .stack))) + 1 ≡ h → Kept o H t (operated r t (under (under (t .stack))))
+  unfolding haltNumber
+  operated-kept (value v lost) h f l e =
+      arrive _ h _ (t .store) (marked (t .mark) lost (t .index)) l (omega arith) (f, rest₂) (s .long) (s .store) (marked-inside (t .mark) lost (t .index) _ (s .mark) (s .inside))
+  operated-kept byZero h f l e = (refl, omega arith)
+
+  loaded-kept : (e : Element) (p : Option ℕ) (h : ℕ) → GoodElement o e → ((q : ℕ) → p ≡ some q → q < e .rows * e .columns) → Led o H (suc (t .index)) h → suc (length (t .stack)) ≡ h → Kept o H t (elementLoaded p e t)
+  unfolding haltNumber
+  loaded-kept e none h g b l q = (refl, omega arith)
+  loaded-kept e (some p) h g b l q = let z = b p refl in let y = g .span in moves _ h _ l q (s .store (e .base + p) (omega arith), s .stack)
+
+  stored-kept : (e : Element) (p : Option ℕ) (h : ℕ) → Led o H (suc (t .index)) h → length (under (t .stack)) ≡ h → Kept o H t (elementStored p e t)
+  unfolding haltNumber
+  stored-kept e none h l q = (refl, omega arith)
+  stored-kept e (some p) h l q = writes _ h (e .base + p) (top (t .stack)) _ l q rest₁ top₁
+
+  branched-kept : (p : Option ℕ) (h : ℕ) → LedTo o H h p → length (under (t .stack)) ≡ h → Kept o H t (branched p t)
+  unfolding haltNumber
+  branched-kept none h l q = (refl, omega arith)
+  branched-kept (some a) h l q = moves a h _ l q rest₁
+
+  begun-kept : (b : Bool) (d : Loop) (h : ℕ) → Led o H (suc (t .index)) h → length (under (under (under (t .stack)))) ≡ h
+      → Kept o H t (begun b d (top (under (under (t .stack)))) (top (under (t .stack))) (top (t .stack)) t)
+  unfolding haltNumber
+  begun-kept false d h l q = (refl, omega arith)
+  begun-kept true d h l q =
+      let m₁ = top (under (under (t .stack))) in
+      let m₂ = top (under (t .stack)) in
+      let m₃ = top (t .stack) in
+      let c₁ = set (t .store) (d .variable) m₁ in
+      let c₂ = set c₁ (d .limit) m₂ in
+      let n = s .long in
+      arrive _ h _ (set c₂ (d .step) m₃) (t .mark) l q rest₃
+      (omega (arith, length-set (t .store) (d .variable) m₁, length-set c₁ (d .limit) m₂, length-set c₂ (d .step) m₃))
+      (set-within o c₂ (d .step) m₃ (set-within o c₁ (d .limit) m₂ (set-within o (t .store) (d .variable) m₁ (s .store) top₃) top₂) top₁) (s .mark)
+
+  turned-kept : (r : Turn) (d : Loop) (h : ℕ) → TurnWithin o r → Led o H (d .body) h → Led o H (suc (t .index)) h → length (t .stack) ≡ h → Kept o H t (turned r d t)
+  turned-kept (again i) d h w l m q = writes (d .body) h (d .variable) i _ l q (s .stack) w
+  turned-kept over d h w l m q = moves _ h _ m q (s .stack)
+
+  ended-kept : (b : Bool) (d : Loop) (h : ℕ) → positive (cell (t .store) (d .step)) ≡ b → GoodLoop o d → Led o H (d .body) h → Led o H (suc (t .index)) h → length (t .stack) ≡ h → Kept o H t (ended b d t)
+  unfolding haltNumber
+  ended-kept false d h e g l m q = (refl, omega arith)
+  ended-kept true d h e g l m q =
+      let v = cell (t .store) (d .variable) in
+      let m₂ = cell (t .store) (d .limit) in
+      let m₃ = cell (t .store) (d .step) in
+      turned-kept (turn v m₂ m₃) d h (turn-within o v m₂ m₃ e (s .store _ (g .variable)) (s .store _ (g .limit)) (s .store _ (g .step))) l m q
+
+  act-kept : (i : Instr) → Good o i → pops i ≤ length (t .stack) → Leads o H (t .index) i (length (t .stack)) → Kept o H t (act (ruleOf o) i t)
+  act-kept (HLT x) g p l = (refl, halts-fault x)
+  act-kept (CON c) g p l = moves _ _ _ (l 0 (omega arith)) (omega arith) (g, s .stack)
+  act-kept (LOD a) g p l = moves _ _ _ (l 0 (omega arith)) (omega arith) (s .store a g, s .stack)
+  act-kept (STO a) g p l = writes _ _ a _ _ (l 0 (omega arith)) (omega (arith, under-length (t .stack))) rest₁ top₁
+  act-kept (LDE e) g p l = loaded-kept e (placeOf (t .store) e) _ g (λ q r. place-below (e .rows) (e .columns) _ _ q r) (l 0 (omega arith)) (omega arith)
+  act-kept (STE e) g p l = stored-kept e (placeOf (t .store) e) _ (l 0 (omega arith)) (omega (arith, under-length (t .stack)))
+  act-kept (OP f) g p l =
+      let e₁ = two-one f .0 in
+      let e₂ = two-one f .1 in
+      operated-kept (apply (ruleOf o) f (top (under (t .stack))) (top (t .stack))) _ (apply-fits (ruleOf o) f _ _ top₂) (l 0 (omega arith))
+      (omega (arith, under-length (t .stack), under-length (under (t .stack))))
+  act-kept NEG g p l = moves _ _ _ (l 0 (omega arith)) (omega (arith, under-length (t .stack))) (neg-fits (ruleOf o) (top (t .stack)) top₁, rest₁)
+  act-kept (JMP a) g p l = moves a _ _ (l 0 (omega arith)) (omega arith) (s .stack)
+  act-kept (BR3 a b c) g p l =
+      moves _ _ _ (sign-led (top (t .stack)) (l 0 (omega arith)) (l 1 (omega arith)) (l 2 (omega arith))) (omega (arith, under-length (t .stack))) rest₁
+  act-kept (BRC ts) g p l = branched-kept (exit ts (top (t .stack))) _ (exit-led ts (top (t .stack)) l) (omega (arith, under-length (t .stack)))
+  act-kept (DOI n d) g p l =
+      begun-kept (allPositive (top (under (under (t .stack)))) (top (under (t .stack))) (top (t .stack))) d _ (l 0 (omega arith))
+      (omega (arith, under-length (t .stack), under-length (under (t .stack)), under-length (under (under (t .stack)))))
+  act-kept (DOE n d) g p l = ended-kept (positive (cell (t .store) (d .step))) d _ refl g (l 0 (omega arith)) (l 1 (omega arith)) (omega arith)
+
+-- ---- what an instruction touches, and the height after it
+
+after-low : {o : Object} {H : List ℕ} (a : ℕ) (i : Instr) (h : ℕ) → h ≤ limits .stack → Leads o H a i h → h - pops i + pushes i ≤ limits .stack
+after-low a (HLT x) h b l = omega arith
+after-low a (CON c) h b l = l 0 (omega arith) .low
+after-low a (LOD x) h b l = l 0 (omega arith) .low
+after-low a (STO x) h b l = l 0 (omega arith) .low
+after-low a (LDE e) h b l = l 0 (omega arith) .low
+after-low a (STE e) h b l = l 0 (omega arith) .low
+after-low a (OP p) h b l = l 0 (omega arith) .low
+after-low a NEG h b l = l 0 (omega arith) .low
+after-low a (JMP t) h b l = l 0 (omega arith) .low
+after-low a (BR3 t u v) h b l = l 0 (omega arith) .low
+after-low a (BRC ts) h b l = omega arith
+after-low a (DOI n d) h b l = l 0 (omega arith) .low
+after-low a (DOE n d) h b l = l 0 (omega arith) .low
+
+module _ (o : Object) where
+  element-touched : (e : Element) (store : List ℤ) → GoodElement o e → Each (λ a. a < o .cells) (elementCells e store)
+  element-touched e store g = (g .first, (g .second, by (placeOf store e) (λ q r. place-below (e .rows) (e .columns) _ _ q r)))
+    where
+      by : (p : Option ℕ) → ((q : ℕ) → p ≡ some q → q < e .rows * e .columns) → Each (λ a. a < o .cells) (elementCell e p)
+      by none f = tt
+      by (some p) f = let z = f p refl in let y = g .span in (omega arith, tt)
+
+  touched-below : (i : Instr) (store : List ℤ) → Good o i → Each (λ a. a < o .cells) (touchedBy i store)
+  touched-below (HLT x) c g = tt
+  touched-below (CON n) c g = tt
+  touched-below (LOD a) c g = (g, tt)
+  touched-below (STO a) c g = (g, tt)
+  touched-below (LDE e) c g = element-touched e c g
+  touched-below (STE e) c g = element-touched e c g
+  touched-below (OP f) c g = tt
+  touched-below NEG c g = tt
+  touched-below (JMP a) c g = tt
+  touched-below (BR3 x y z) c g = tt
+  touched-below (BRC ts) c g = tt
+  touched-below (DOI n d) c g = (g .variable, (g .limit, (g .step, tt)))
+  touched-below (DOE n d) c g = (g .variable, (g .limit, (g .step, tt)))
+
+-- ---- the theorems
+
+module _ {bytes : List ℕ} {o : Object} {table : List ℕ} (p : Passed bytes o table) where
+  -- one step
+  kept : (t : State) → Stands o table t → Kept o table t (step o t)
+  unfolding step
+  kept t s =
+      let l = word-leads p (t .index) (length (t .stack)) (s .inside) (s .height) (s .low) in
+      act-kept o table t s (instruction o (t .index)) (word-good p (t .index) (s .inside) .1) (l .0) (l .1)
+
+  pub step-stands : (t u : State) → Stands o table t → step o t ≡ go u → Stands o table u
+  step-stands t u s e = subst (λ x. Kept o table t x) e (kept t s)
+
+  -- a halt leaves all as before the instruction, and is none of 7 and 8
+  pub step-halts : (t u : State) (h : Halt) → Stands o table t → step o t ≡ halt h u → (u ≡ t) × (haltNumber h < 7)
+  step-halts t u h s e = subst (λ x. Kept o table t x) e (kept t s)
+
+  pub stands-right : (t : State) → Stands o table t → Right o t
+  unfolding touches
+  stands-right t s =
+      let l = word-leads p (t .index) (length (t .stack)) (s .inside) (s .height) (s .low) in
+      let g = word-good p (t .index) (s .inside) in
+      record {
+        inside = s .inside;
+        operand = p .words (t .index) (s .inside);
+        entry = g .0;
+        popped = l .0;
+        pushed = after-low (t .index) (instruction o (t .index)) (length (t .stack)) (s .low) (l .1);
+        cells = touched-below o (instruction o (t .index)) (t .store) (g .1);
+      }
+
+  -- whole runs, at any allowance
+  pub run-stands : (n : ℕ) (t u : State) → Stands o table t → run (step o) n t ≡ go u → Stands o table u × Right o u
+  run-stands n t u s e = let r = run-keeps (Stands o table) (step o) step-stands n t u s e in (r, stands-right u r)
+
+  pub run-halts : (n : ℕ) (t u : State) (h : Halt) → Stands o table t → run (step o) n t ≡ halt h u → (Stands o table u × Right o u) × (haltNumber h < 7)
+  run-halts n t u h s e =
+      let x = halted (step o) n t u h e in
+      let r = run-stands (x .before) t (x .at) s (x .goes) in
+      let q = step-halts (x .at) u h (r .0) (x .halts) in
+      (subst (λ v. Stands o table v × Right o v) (sym (q .0)) r, q .1)

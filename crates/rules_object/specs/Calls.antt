@@ -1,0 +1,214 @@
+-- What the calls on objects answer: check, run, bench and map, each with one outcome for whatever is lent. 01 "Refusal numbers", "Running".
+-- Assumes nothing.
+use Prim.Native.Nat.{ℕ, zero, suc, _+_, _-_, _*_}
+use mathlib.Core.Bool.{Bool, true, false, _&&_, cond}
+use mathlib.Core.List.{List, [], _∷_, _++_, map, reverse}
+use mathlib.Core.Option.{Option, none, some}
+use lib.Dec.{ltb, leb, eqb}
+use lib.ListN.{length, take, drop, replicate}
+use lib.IntN.{ℤ, pos}
+use Rattle.number.specs.Number.{fits}
+use Rattle.rules_object.specs.Limits.{limits}
+use Rattle.rules_object.specs.Runs.{haltNumber, Out, go, halt, run, steps}
+use Rattle.rules_object.specs.Object.{Line, Object}
+use Rattle.rules_object.specs.Bytes.{concat, bytesOf, nameWords, readObject}
+use Rattle.rules_object.specs.Machine.{State, state, fresh, ruleOf, step}
+use Rattle.rules_object.specs.Flow.{at}
+use Rattle.rules_object.specs.Heights.{heights}
+use Rattle.rules_object.specs.Check.{right41, rightConstant, rightElement, rightLoop, rightLine, rightNamed, right43, flowOf, benchStep}
+
+pub record Refusal : Type 0 where
+  pub number : ℕ
+  pub place : ℕ
+  pub kind : ℕ
+
+abbrev pub refusal : ℕ → ℕ → ℕ → Refusal
+refusal n p k = record { number = n; place = p; kind = k }
+
+abbrev pub accepted : Refusal
+accepted = refusal 0 0 0
+
+-- ---- the check: 40 to 44
+
+-- the first entry that fails the test, counted from n
+abbrev pub firstBad : {A : Type 0} → (A → Bool) → List A → ℕ → Option ℕ
+firstBad test [] n = none
+firstBad test (a ∷ more) n = cond (test a) (firstBad test more (suc n)) (some n)
+
+abbrev pub atEntry : ℕ → ℕ → Option ℕ → Option Refusal
+atEntry number kind none = none
+atEntry number kind (some entry) = some (refusal number entry kind)
+
+abbrev pub orElse : {A : Type 0} → Option A → Option A → Option A
+orElse none b = b
+orElse (some a) b = some a
+
+abbrev pub unless : Bool → ℕ → Option Refusal
+unless true number = none
+unless false number = some (refusal number 0 0)
+
+-- lowest kind, then lowest entry; exits and code are judged by 43 alone
+unfoldable pub refused42 : Object → Option Refusal
+refused42 o =
+    orElse (atEntry 42 1 (firstBad (rightConstant o) (o .constants) 0))
+    (orElse (atEntry 42 2 (firstBad (rightElement o) (o .elements) 0))
+    (orElse (atEntry 42 4 (firstBad (rightLoop o) (o .dos) 0))
+    (orElse (atEntry 42 6 (firstBad (rightLine o) (o .lines) 0)) (atEntry 42 7 (firstBad (rightNamed o) (o .names) 0)))))
+
+unfoldable pub refused43 : Object → Option Refusal
+refused43 o = atEntry 43 5 (firstBad (right43 o) (o .code) 0)
+
+-- refused, or the object with the least table of its heights
+pub data Checked : Type 0 where
+  refused : Refusal → Checked
+  passed : Object → List ℕ → Checked
+
+abbrev pub judged44 : Object → Option (List ℕ) → Checked
+judged44 o none = refused (refusal 44 0 0)
+judged44 o (some table) = passed o table
+
+abbrev pub judged : Object → Option Refusal → Checked
+judged o (some r) = refused r
+judged o none = judged44 o (heights (flowOf o))
+
+abbrev pub checkedObject : Option Object → Checked
+checkedObject none = refused (refusal 40 0 0)
+checkedObject (some o) = judged o (orElse (unless (right41 o) 41) (orElse (refused42 o) (refused43 o)))
+
+unfoldable pub checked : List ℕ → Checked
+checked bytes = checkedObject (readObject bytes)
+
+abbrev pub verdict : Checked → Refusal
+verdict (refused r) = r
+verdict (passed o table) = accepted
+
+-- the call `check`
+unfoldable pub checking : List ℕ → Refusal
+checking bytes = verdict (checked bytes)
+
+-- ---- the state as it is lent, and 50 to 52
+
+-- index, height, drop mark and the stack's forty places, the lowest first
+pub record Lent : Type 0 where
+  pub index : ℕ
+  pub height : ℕ
+  pub mark : ℕ
+  pub places : List ℤ
+
+unfoldable pub taken : Lent → List ℤ → State
+taken l store = state (l .index) (reverse (take (l .height) (l .places))) store (l .mark)
+
+-- places above the height come back 0
+unfoldable pub given : State → Lent
+given t =
+    record {
+      index = t .index;
+      height = length (t .stack);
+      mark = t .mark;
+      places = reverse (t .stack) ++ replicate (limits .stack - length (t .stack)) (pos 0);
+    }
+
+abbrev pub all : {A : Type 0} → (A → Bool) → List A → Bool
+all test [] = true
+all test (a ∷ more) = test a && all test more
+
+unfoldable pub right50 : Object → List ℤ → Bool
+right50 o store = leb (o .cells) (length store)
+
+unfoldable pub right51 : Object → List ℤ → Bool
+right51 o store = all (fits (ruleOf o)) (take (o .cells) store)
+
+-- reachable, at its height, its stack within k digits, its mark of the code or 0
+unfoldable pub right52 : Object → List ℕ → Lent → Bool
+right52 o table l =
+    ltb (l .index) (length (o .code)) && (leb (at table (l .index)) (limits .stack) && (eqb (l .height) (at table (l .index)) &&
+    (all (fits (ruleOf o)) (take (l .height) (l .places)) && leb (l .mark) (length (o .code)))))
+
+-- ---- run and bench run
+
+-- the sequence number of the last entry with an address at or before that of a mark, else 0
+abbrev pub lastAt : List Line → ℕ → ℕ → ℕ
+lastAt [] address found = found
+lastAt (l ∷ ls) address found = lastAt ls address (cond (leb (l .address) address) (l .sequence) found)
+
+unfoldable pub sequenceOf : List Line → ℕ → ℕ
+sequenceOf lines zero = 0
+sequenceOf lines (suc address) = lastAt lines address 0
+
+-- all that a run answers and leaves
+pub record Ran : Type 0 where
+  pub refusal : Refusal
+  pub halt : ℕ
+  pub steps : ℕ
+  pub sequence : ℕ
+  pub lent : Lent
+  pub store : List ℤ
+
+-- a refusal changes nothing that was lent
+abbrev pub notRun : Refusal → Lent → List ℤ → Ran
+notRun r l store = record { refusal = r; halt = 0; steps = 0; sequence = 0; lent = l; store = store }
+
+abbrev pub halted : ℕ → ℕ → Object → State → Ran
+halted h n o t = record { refusal = accepted; halt = h; steps = n; sequence = sequenceOf (o .lines) (t .mark); lent = given t; store = t .store }
+
+-- halt 2 where the allowance is used
+abbrev pub ran : Object → ℕ → Out State → Ran
+ran o n (go t) = halted 2 n o t
+ran o n (halt h t) = halted (haltNumber h) n o t
+
+abbrev pub runFrom : Object → (State → Out State) → ℕ → State → Ran
+runFrom o f allowance t = ran o (steps f allowance t) (run f allowance t)
+
+abbrev pub orRefused : Option Refusal → Lent → List ℤ → Ran → Ran
+orRefused (some r) l store a = notRun r l store
+orRefused none l store a = a
+
+abbrev pub runChecked : Checked → List ℤ → Lent → ℕ → Ran
+runChecked (refused r) store l allowance = notRun r l store
+runChecked (passed o table) store l allowance =
+    orRefused (orElse (unless (right50 o store) 50) (orElse (unless (right51 o store) 51) (unless (right52 o table l) 52))) l store
+    (runFrom o (step o) allowance (taken l store))
+
+-- the call `run`
+unfoldable pub running : List ℕ → List ℤ → Lent → ℕ → Ran
+running bytes store l allowance = runChecked (checked bytes) store l allowance
+
+abbrev pub benchObject : Option Object → List ℤ → Lent → ℕ → Ran
+benchObject none store l allowance = notRun (refusal 40 0 0) l store
+benchObject (some o) store l allowance =
+    orRefused (orElse (unless (right41 o) 41) (orElse (unless (right50 o store) 50) (unless (right51 o store) 51))) l store
+    (runFrom o (benchStep o) allowance (fresh store))
+
+-- The call `bench`: it starts fresh; what was lent for the state takes the state after it.
+unfoldable pub benching : List ℕ → List ℤ → Lent → ℕ → Ran
+benching bytes store l allowance = benchObject (readObject bytes) store l allowance
+
+-- ---- bytes written to a lent output: 30 if it is too short; bytes past them stay
+
+pub record Written : Type 0 where
+  pub refusal : Refusal
+  pub length : ℕ
+  pub output : List ℕ
+
+abbrev pub notWritten : Refusal → List ℕ → Written
+notWritten r output = record { refusal = r; length = 0; output = output }
+
+abbrev pub writtenIf : Bool → List ℕ → List ℕ → Written
+writtenIf true bytes output = record { refusal = accepted; length = length bytes; output = bytes ++ drop (length bytes) output }
+writtenIf false bytes output = notWritten (refusal 30 0 0) output
+
+unfoldable pub write : List ℕ → List ℕ → Written
+write bytes output = writtenIf (leb (length bytes) (length output)) bytes output
+
+-- ---- the map: body 7
+
+unfoldable pub mapOf : Object → List ℕ
+mapOf o = bytesOf (concat (map nameWords (o .names)))
+
+abbrev pub mapChecked : Checked → List ℕ → Written
+mapChecked (refused r) table = notWritten r table
+mapChecked (passed o heights) table = write (mapOf o) table
+
+-- the call `map`
+unfoldable pub mapping : List ℕ → List ℕ → Written
+mapping bytes table = mapChecked (checked bytes) table

@@ -1,0 +1,68 @@
+-- Choices on numbers that the deck's meaning and the machine make alike: an exit, a subscript's place, a DO's next turn.
+-- Assumes nothing.
+use Prim.Native.Nat.{ℕ, zero, suc, _+_, _*_}
+use mathlib.Core.Bool.{Bool, true, false, _&&_, cond}
+use mathlib.Core.List.{List}
+use mathlib.Core.Option.{Option, none, some}
+use lib.Dec.{ltb}
+use lib.ListN.{getElem?}
+use lib.IntN.{ℤ, pos, negsuc, _+ℤ_}
+use lib.Signed.{leZ}
+
+-- below, at or above 0
+abbrev pub sign3 : {A : Type 0} → ℤ → A → A → A → A
+sign3 (negsuc n) a b c = a
+sign3 (pos zero) a b c = b
+sign3 (pos (suc n)) a b c = c
+
+-- the exit for a value from 1 to the count of exits
+abbrev pub nth : {A : Type 0} → List A → ℕ → Option A
+nth ts zero = none
+nth ts (suc n) = getElem? ts n
+
+abbrev pub exit : {A : Type 0} → List A → ℤ → Option A
+exit ts (pos n) = nth ts n
+exit ts (negsuc n) = none
+
+-- A subscript is right when its value is from 1 to its dimension; it is then a place from 0.
+abbrev pub below : Bool → ℕ → Option ℕ
+below true n = some n
+below false n = none
+
+abbrev pub right : ℕ → ℤ → Option ℕ
+right dimension (pos zero) = none
+right dimension (pos (suc n)) = below (ltb n dimension) n
+right dimension (negsuc n) = none
+
+-- elements lie by columns
+abbrev pub byColumns : ℕ → Option ℕ → Option ℕ → Option ℕ
+byColumns rows none j = none
+byColumns rows (some i) none = none
+byColumns rows (some i) (some j) = some (j * rows + i)
+
+-- rows, columns and the two subscripts' values: the element's place in its array
+unfoldable pub place : ℕ → ℕ → ℤ → ℤ → Option ℕ
+place rows columns v w = byColumns rows (right rows v) (right columns w)
+
+-- all of a DO's parameters must exceed 0
+abbrev pub positive : ℤ → Bool
+positive (pos zero) = false
+positive (pos (suc n)) = true
+positive (negsuc n) = false
+
+abbrev pub allPositive : ℤ → ℤ → ℤ → Bool
+allPositive a b c = positive a && (positive b && positive c)
+
+-- The exact sum of variable and step is compared with the limit: not greater, the variable takes it.
+pub data Turn : Type 0 where
+  again : ℤ → Turn
+  over : Turn
+
+unfoldable pub turn : ℤ → ℤ → ℤ → Turn
+turn variable limit step = cond (leZ (variable +ℤ step) limit) (again (variable +ℤ step)) over
+
+-- a mark is one more than the first place that dropped, or 0
+abbrev pub marked : ℕ → Bool → ℕ → ℕ
+marked m false at = m
+marked zero true at = suc at
+marked (suc m) true at = suc m

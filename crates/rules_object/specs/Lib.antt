@@ -1,0 +1,13 @@
+pub mod Limits
+pub mod Runs
+pub mod Choose
+pub mod Object
+pub mod Bytes
+pub mod Writable
+pub mod Machine
+pub mod Flow
+pub mod Heights
+pub mod Check
+pub mod Calls
+pub mod Safe
+pub mod Small

@@ -1,0 +1,49 @@
+-- The object: seven lists with the digits and the cell count. 01 "Object".
+-- Assumes nothing.
+use Prim.Native.Nat.{ℕ}
+use mathlib.Core.List.{List}
+use lib.IntN.{ℤ}
+
+-- multiplier, cell and signed addend
+pub record Subscript : Type 0 where
+  pub times : ℕ
+  pub cell : ℕ
+  pub plus : ℤ
+
+pub record Element : Type 0 where
+  pub base : ℕ
+  pub rows : ℕ
+  pub columns : ℕ
+  pub first : Subscript
+  pub second : Subscript
+
+-- a DO: the cells of its variable, limit and step, and its body's address
+pub record Loop : Type 0 where
+  pub variable : ℕ
+  pub limit : ℕ
+  pub step : ℕ
+  pub body : ℕ
+
+-- an executable statement, or END
+pub record Line : Type 0 where
+  pub sequence : ℕ
+  pub number : ℕ
+  pub address : ℕ
+
+-- eight bytes, blank-filled; rows and columns are 0 for a plain name, columns 0 for one dimension
+pub record Named : Type 0 where
+  pub name : List ℕ
+  pub first : ℕ
+  pub rows : ℕ
+  pub columns : ℕ
+
+pub record Object : Type 0 where
+  pub digits : ℕ
+  pub cells : ℕ
+  pub constants : List ℕ
+  pub elements : List Element
+  pub exits : List ℕ
+  pub dos : List Loop
+  pub code : List ℕ
+  pub lines : List Line
+  pub names : List Named

@@ -1,0 +1,141 @@
+-- What holds at every state of a run of an object that passes the check: promise 6, "no fault".
+-- Assumes nothing.
+use mathlib.Core.Path.{_≡_}
+use mathlib.Core.Logic.{_⊎_}
+use mathlib.Core.Bool.{true}
+use mathlib.Core.List.{List, [], _∷_, _++_}
+use mathlib.Core.Option.{Option, none, some}
+use Prim.Native.Nat.{ℕ, _+_, _-_, _≤_, _<_}
+use lib.ListN.{length, getD, take, drop, replicate}
+use lib.IntN.{ℤ, pos, natAbs}
+use Rattle.number.specs.Number.{ceiling}
+use Rattle.rules_object.specs.Limits.{limits}
+use Rattle.rules_object.specs.Runs.{Halt, haltNumber, Out, go, halt, run, steps}
+use Rattle.rules_object.specs.Object.{Element, Loop, Object}
+use Rattle.rules_object.specs.Writable.{Each}
+use Rattle.rules_object.specs.Machine.{Instr, HLT, CON, LOD, STO, LDE, STE, OP, NEG, JMP, BR3, BRC, DOI, DOE, State, state, cell, placeOf, ruleOf, step}
+use Rattle.rules_object.specs.Check.{right43, entryRight, pops, pushes, instruction, benchStep}
+use Rattle.rules_object.specs.Flow.{at}
+use Rattle.rules_object.specs.Calls.{accepted, Lent, Ran, Written, mapOf}
+
+-- ---- every cell that an instruction reads or writes
+
+abbrev pub elementCell : Element → Option ℕ → List ℕ
+elementCell e none = []
+elementCell e (some place) = (e .base + place) ∷ []
+
+-- both subscripts' cells and, where the subscripts are right, the element's
+abbrev pub elementCells : Element → List ℤ → List ℕ
+elementCells e store = e .first .cell ∷ e .second .cell ∷ elementCell e (placeOf store e)
+
+abbrev pub loopCells : Loop → List ℕ
+loopCells d = d .variable ∷ d .limit ∷ d .step ∷ []
+
+abbrev pub touchedBy : Instr → List ℤ → List ℕ
+touchedBy (HLT x) store = []
+touchedBy (CON c) store = []
+touchedBy (LOD a) store = a ∷ []
+touchedBy (STO a) store = a ∷ []
+touchedBy (LDE e) store = elementCells e store
+touchedBy (STE e) store = elementCells e store
+touchedBy (OP o) store = []
+touchedBy NEG store = []
+touchedBy (JMP a) store = []
+touchedBy (BR3 a b c) store = []
+touchedBy (BRC exits) store = []
+touchedBy (DOI n d) store = loopCells d
+touchedBy (DOE n d) store = loopCells d
+
+unfoldable pub touches : Object → State → List ℕ
+touches o t = touchedBy (instruction o (t .index)) (t .store)
+
+-- These are all of them: of two states that agree in these cells a step makes two that agree in these cells, and it changes no other.
+abbrev pub In : ℕ → List ℕ → Type 0
+In a [] = ⊥
+In a (b ∷ l) = (a ≡ b) ⊎ In a l
+
+pub record AgreeIn (cells : List ℕ) (t u : State) : Type 0 where
+  pub index : t .index ≡ u .index
+  pub stack : t .stack ≡ u .stack
+  pub mark : t .mark ≡ u .mark
+  pub long : length (t .store) ≡ length (u .store)
+  pub values : (a : ℕ) → In a cells → cell (t .store) a ≡ cell (u .store) a
+
+abbrev pub AlikeIn : List ℕ → Out State → Out State → Type 0
+AlikeIn cells (go t) (go u) = AgreeIn cells t u
+AlikeIn cells (go t) (halt h u) = ⊥
+AlikeIn cells (halt h t) (go u) = ⊥
+AlikeIn cells (halt h t) (halt i u) = (h ≡ i) × AgreeIn cells t u
+
+-- ---- the instruction to be done can be done, and touches only what it may
+
+pub record Right (o : Object) (t : State) : Type 0 where
+  pub inside : t .index < length (o .code)
+  pub operand : right43 o (getD (o .code) (t .index) 0) ≡ true
+  pub entry : entryRight o (getD (o .code) (t .index) 0) ≡ true
+  pub popped : pops (instruction o (t .index)) ≤ length (t .stack)
+  pub pushed : length (t .stack) - pops (instruction o (t .index)) + pushes (instruction o (t .index)) ≤ limits .stack
+  pub cells : Each (λ a. a < o .cells) (touches o t)
+
+-- at every state of the unguarded run from t the instruction can be done, no halt is 7 or 8, and the guarded run is the same, step by step
+pub record NoFault (o : Object) (t : State) : Type 0 where
+  pub right : (n : ℕ) (u : State) → run (step o) n t ≡ go u → Right o u
+  pub halts : (n : ℕ) (h : Halt) (u : State) → run (step o) n t ≡ halt h u → haltNumber h < 7
+  pub guarded : (n : ℕ) → run (benchStep o) n t ≡ run (step o) n t
+  pub counted : (n : ℕ) → steps (benchStep o) n t ≡ steps (step o) n t
+
+-- ---- what a state of a run has
+
+-- of at most k digits
+abbrev pub Within : Object → ℤ → Type 0
+Within o z = natAbs z < ceiling (ruleOf o)
+
+-- in the code, at its height, all numbers within the digits, and the mark of the code or 0
+pub record Stands (o : Object) (table : List ℕ) (t : State) : Type 0 where
+  pub inside : t .index < length (o .code)
+  pub height : at table (t .index) ≡ length (t .stack)
+  pub low : length (t .stack) ≤ limits .stack
+  pub stack : Each (Within o) (t .stack)
+  pub long : o .cells ≤ length (t .store)
+  pub store : (a : ℕ) → a < o .cells → Within o (cell (t .store) a)
+  pub mark : t .mark ≤ length (o .code)
+
+-- ---- cells past the count
+
+abbrev pub withCells : List ℤ → State → State
+withCells extra t = state (t .index) (t .stack) (t .store ++ extra) (t .mark)
+
+abbrev pub ranWithCells : List ℤ → Ran → Ran
+ranWithCells extra r = record { refusal = r .refusal; halt = r .halt; steps = r .steps; sequence = r .sequence; lent = r .lent; store = r .store ++ extra }
+
+-- ---- runs of bytes, compared
+
+-- a fresh state, as it is lent
+abbrev pub freshLent : Lent
+freshLent = record { index = 0; height = 0; mark = 0; places = replicate (limits .stack) (pos 0) }
+
+-- the same after n steps more
+abbrev pub afterSteps : ℕ → Ran → Ran
+afterSteps n r = record { refusal = r .refusal; halt = r .halt; steps = n + r .steps; sequence = r .sequence; lent = r .lent; store = r .store }
+
+-- ---- a refusal changes nothing
+
+-- what was lent came back as it was, and every other field is 0
+pub record Unchanged (l : Lent) (store : List ℤ) (r : Ran) : Type 0 where
+  pub noHalt : r .halt ≡ 0
+  pub noSteps : r .steps ≡ 0
+  pub noSequence : r .sequence ≡ 0
+  pub sameLent : r .lent ≡ l
+  pub sameStore : r .store ≡ store
+
+pub record MapUnchanged (table : List ℕ) (m : Written) : Type 0 where
+  pub noLength : m .length ≡ 0
+  pub sameTable : m .output ≡ table
+
+-- An accepted map: its bytes stand at the table's start, and the bytes past them stay.
+pub record Maps (o : Object) (table : List ℕ) (m : Written) : Type 0 where
+  pub accepts : m .refusal ≡ accepted
+  pub count : m .length ≡ length (mapOf o)
+  pub first : take (m .length) (m .output) ≡ mapOf o
+  pub rest : drop (m .length) (m .output) ≡ drop (m .length) table
+  pub long : length (m .output) ≡ length table

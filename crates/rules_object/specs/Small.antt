@@ -1,0 +1,88 @@
+-- Small objects of k = 5, written by what they have, for examples.
+-- Assumes nothing.
+use Prim.Native.Nat.{ℕ, _+_, _*_, _^_}
+use mathlib.Core.List.{List, [], _∷_, _++_}
+use lib.ListN.{take, replicate}
+use lib.IntN.{ℤ}
+use Rattle.rules_object.specs.Object.{Element, Loop, Line, Named, Object}
+
+-- operation and operand
+abbrev pub does : ℕ → ℕ → ℕ
+does operation operand = operation * 2 ^ 24 + operand
+
+abbrev pub HLT : ℕ → ℕ
+HLT x = does 0 x
+
+abbrev pub CON : ℕ → ℕ
+CON x = does 1 x
+
+abbrev pub LOD : ℕ → ℕ
+LOD x = does 2 x
+
+abbrev pub STO : ℕ → ℕ
+STO x = does 3 x
+
+abbrev pub LDE : ℕ → ℕ
+LDE x = does 4 x
+
+abbrev pub STE : ℕ → ℕ
+STE x = does 5 x
+
+abbrev pub ADD : ℕ → ℕ
+ADD x = does 6 x
+
+abbrev pub SUB : ℕ → ℕ
+SUB x = does 7 x
+
+abbrev pub MUL : ℕ → ℕ
+MUL x = does 8 x
+
+abbrev pub DIV : ℕ → ℕ
+DIV x = does 9 x
+
+abbrev pub NEG : ℕ → ℕ
+NEG x = does 10 x
+
+abbrev pub JMP : ℕ → ℕ
+JMP x = does 11 x
+
+abbrev pub BR3 : ℕ → ℕ
+BR3 x = does 12 x
+
+abbrev pub BRC : ℕ → ℕ
+BRC x = does 13 x
+
+abbrev pub DOI : ℕ → ℕ
+DOI x = does 14 x
+
+abbrev pub DOE : ℕ → ℕ
+DOE x = does 15 x
+
+abbrev pub object : ℕ → List ℕ → List Element → List ℕ → List Loop → List ℕ → Object
+object cells constants elements exits dos code =
+    record { digits = 5; cells = cells; constants = constants; elements = elements; exits = exits; dos = dos; code = code; lines = []; names = [] }
+
+abbrev pub plain : List ℕ → Object
+plain code = object 0 [] [] [] [] code
+
+abbrev pub element : ℕ → ℕ → ℕ → ℕ → ℕ → ℤ → ℕ → ℕ → ℤ → Element
+element base rows columns m c a n d b =
+    record { base = base; rows = rows; columns = columns; first = record { times = m; cell = c; plus = a }; second = record { times = n; cell = d; plus = b } }
+
+abbrev pub loop : ℕ → ℕ → ℕ → ℕ → Loop
+loop variable limit step body = record { variable = variable; limit = limit; step = step; body = body }
+
+abbrev pub line : ℕ → ℕ → ℕ → Line
+line sequence number address = record { sequence = sequence; number = number; address = address }
+
+-- a name of up to eight characters, blank-filled
+abbrev pub named : List ℕ → ℕ → ℕ → ℕ → Named
+named name first rows columns = record { name = take 8 (name ++ replicate 8 32); first = first; rows = rows; columns = columns }
+
+abbrev pub withLines : List Line → Object → Object
+withLines lines o =
+    record { digits = o .digits; cells = o .cells; constants = o .constants; elements = o .elements; exits = o .exits; dos = o .dos; code = o .code; lines = lines; names = o .names }
+
+abbrev pub withNames : List Named → Object → Object
+withNames names o =
+    record { digits = o .digits; cells = o .cells; constants = o .constants; elements = o .elements; exits = o .exits; dos = o .dos; code = o .code; lines = o .lines; names = names }

@@ -1,0 +1,73 @@
+-- What an object's lists must be for its bytes to hold them: words, signed words, names of eight bytes, and code.
+-- Assumes nothing.
+use mathlib.Core.Path.{_≡_}
+use Prim.Native.Nat.{ℕ, _+_, _*_, _^_, _<_}
+use mathlib.Core.List.{List, [], _∷_}
+use lib.ListN.{length}
+use lib.IntN.{ℤ, pos, negsuc}
+use Rattle.rules_object.specs.Object.{Subscript, Element, Loop, Line, Named, Object}
+
+-- a predicate of every element
+abbrev pub Each : {A : Type 0} → (A → Type 0) → List A → Type 0
+Each P [] = Unit {0}
+Each P (x ∷ xs) = P x × Each P xs
+
+abbrev pub IsByte : ℕ → Type 0
+IsByte b = b < 256
+
+abbrev pub IsWord : ℕ → Type 0
+IsWord w = w < 2 ^ 32
+
+abbrev pub IsSigned : ℤ → Type 0
+IsSigned (pos n) = n < 2 ^ 31
+IsSigned (negsuc n) = n < 2 ^ 31
+
+pub record WritableSubscript (s : Subscript) : Type 0 where
+  pub times : IsWord (s .times)
+  pub cell : IsWord (s .cell)
+  pub plus : IsSigned (s .plus)
+
+pub record WritableElement (e : Element) : Type 0 where
+  pub base : IsWord (e .base)
+  pub rows : IsWord (e .rows)
+  pub columns : IsWord (e .columns)
+  pub first : WritableSubscript (e .first)
+  pub second : WritableSubscript (e .second)
+
+pub record WritableLoop (d : Loop) : Type 0 where
+  pub variable : IsWord (d .variable)
+  pub limit : IsWord (d .limit)
+  pub step : IsWord (d .step)
+  pub body : IsWord (d .body)
+
+pub record WritableLine (l : Line) : Type 0 where
+  pub sequence : IsWord (l .sequence)
+  pub number : IsWord (l .number)
+  pub address : IsWord (l .address)
+
+pub record WritableNamed (n : Named) : Type 0 where
+  pub eight : length (n .name) ≡ 8
+  pub bytes : Each IsByte (n .name)
+  pub first : IsWord (n .first)
+  pub rows : IsWord (n .rows)
+  pub columns : IsWord (n .columns)
+
+-- the words of the seven bodies, by their entries' sizes
+abbrev pub bodyWords : Object → ℕ
+bodyWords o =
+    length (o .constants) + 9 * length (o .elements) + length (o .exits) + 4 * length (o .dos) + length (o .code) + 3 * length (o .lines)
+    + 5 * length (o .names)
+
+pub record Writable (o : Object) : Type 0 where
+  pub digits : IsWord (o .digits)
+  pub cells : IsWord (o .cells)
+  pub constants : Each IsWord (o .constants)
+  pub elements : Each WritableElement (o .elements)
+  pub exits : Each IsWord (o .exits)
+  pub dos : Each WritableLoop (o .dos)
+  pub code : Each IsWord (o .code)
+  pub lines : Each WritableLine (o .lines)
+  pub names : Each WritableNamed (o .names)
+  pub someCode : 0 < length (o .code)
+  -- so that each body's first byte is a word
+  pub small : 100 + 4 * bodyWords o < 2 ^ 32
