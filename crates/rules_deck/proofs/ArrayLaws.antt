@@ -1,0 +1,171 @@
+-- The arrays and the names of a map: what a statement brings to them; the arrays of a deck's map are those that it declares.
+-- Assumes nothing.
+use mathlib.Core.Path.{_≡_, refl, sym, ap, _∙_}
+use Prim.Native.Nat.{ℕ, suc, _≤_}
+use native.Mathlib.Omega.{arith}
+use mathlib.Core.Logic.{_⊎_, inl, inr}
+use mathlib.Core.Bool.{Bool, true, false, _||_, cond, false≢true}
+use mathlib.Core.List.{List, [], _∷_, _++_, map, append-nil, append-assoc}
+use Rattle.rules_deck.specs.Trees.{Name, Array, Form, assign, goTo, computed, ifs, loop, continue, stop, end, dimension, Statement}
+use Rattle.rules_deck.specs.Deck.{sameName, Declared, declare, arraysIn, arraysOf, dimsIn, dimsOf}
+use Rattle.rules_deck.specs.Translation.{Held, name, array, hidden, arraySize, cellCount, isName, isArray, holds, appear, formPlain, hiddenIn, brings, heldFrom, heldOf}
+use Rattle.rules_deck.specs.Judge.{Reference, rightCount, rightReference}
+use Rattle.rules_deck.specs.Cells.{sizeOf}
+use Rattle.rules_deck.specs.Accepted.{Among, here, there}
+use Rattle.rules_deck.proofs.CardsLaws.{cases}
+use Rattle.rules_deck.proofs.TestLaws.{or-neither, or-either, or-one, name-same}
+
+-- ---- the arrays of a map
+
+abbrev pub arraysHeld : List Held → List Declared
+arraysHeld [] = []
+arraysHeld (name v ∷ held) = arraysHeld held
+arraysHeld (array a ∷ held) = a ∷ arraysHeld held
+arraysHeld (hidden q ∷ held) = arraysHeld held
+
+arrays-append : (a b : List Held) → arraysHeld (a ++ b) ≡ arraysHeld a ++ arraysHeld b
+arrays-append [] b = refl
+arrays-append (name v ∷ a) b = arrays-append a b
+arrays-append (array x ∷ a) b = ap (λ (l : List Declared). x ∷ l) (arrays-append a b)
+arrays-append (hidden q ∷ a) b = arrays-append a b
+
+arrays-appear : (held : List Held) (vs : List Name) → arraysHeld (appear held vs) ≡ arraysHeld held
+arrays-appear held [] = refl
+arrays-appear held (v ∷ vs) =
+    arrays-appear (cond (holds (isName v) held) held (held ++ (name v ∷ []))) vs ∙
+    cases (λ (l : List Held). arraysHeld l ≡ arraysHeld held) (holds (isName v) held) held (held ++ (name v ∷ [])) (λ e. refl) (λ e. arrays-append held (name v ∷ []) ∙ append-nil (arraysHeld held))
+
+arrays-declared : (arrays : List Array) → arraysHeld (map (λ a. array (declare a)) arrays) ≡ map declare arrays
+arrays-declared [] = refl
+arrays-declared (a ∷ arrays) = ap (λ (l : List Declared). declare a ∷ l) (arrays-declared arrays)
+
+arrays-hidden : (q : ℕ) (f : Form) (held : List Held) → arraysHeld (hiddenIn q f ++ held) ≡ arraysHeld held
+arrays-hidden q (assign t e) held = refl
+arrays-hidden q (goTo n) held = refl
+arrays-hidden q (computed ns v) held = refl
+arrays-hidden q (ifs e a b c) held = refl
+arrays-hidden q (loop n v p₁ p₂ p₃) held = refl
+arrays-hidden q continue held = refl
+arrays-hidden q stop held = refl
+arrays-hidden q end held = refl
+arrays-hidden q (dimension arrays) held = refl
+
+-- a statement brings the arrays that it declares
+pub arrays-brings : (q : ℕ) (f : Form) (held : List Held) → arraysHeld (brings q f held) ≡ arraysHeld held ++ map declare (arraysIn f)
+arrays-brings q f held =
+    let new = map (λ a. array (declare a)) (arraysIn f) in
+    let right : arraysHeld (hiddenIn q f ++ new) ≡ map declare (arraysIn f) = arrays-hidden q f new ∙ arrays-declared (arraysIn f) in
+    arrays-append (appear held (formPlain f)) (hiddenIn q f ++ new) ∙ ap (λ (l : List Declared). l ++ arraysHeld (hiddenIn q f ++ new)) (arrays-appear held (formPlain f)) ∙
+    ap (λ (l : List Declared). arraysHeld held ++ l) right
+
+arrays-from : (q : ℕ) (deck : List Statement) (held : List Held) → arraysHeld (heldFrom q deck held) ≡ arraysHeld held ++ arraysOf deck
+arrays-from q [] held = sym (append-nil (arraysHeld held))
+arrays-from q (s ∷ deck) held =
+    arrays-from (suc q) deck (brings q (s .form) held) ∙ ap (λ (l : List Declared). l ++ arraysOf deck) (arrays-brings q (s .form) held) ∙
+    append-assoc (arraysHeld held) (map declare (arraysIn (s .form))) (arraysOf deck)
+
+pub arrays-held : (deck : List Statement) → arraysHeld (heldOf deck) ≡ arraysOf deck
+unfolding heldOf
+arrays-held deck = arrays-from 0 deck []
+
+-- ---- sizes
+
+size-in : (held : List Held) (v : Name) → sizeOf held v ≡ arraySize (dimsIn (arraysHeld held) v)
+size-in [] v = refl
+size-in (name w ∷ held) v = size-in held v
+size-in (array a ∷ held) v = go (sameName (a .name) v) (size-in held v)
+  where
+    go : (t : Bool) → sizeOf held v ≡ arraySize (dimsIn (arraysHeld held) v) →
+        cond t (arraySize (a .dims)) (sizeOf held v) ≡ arraySize (cond t (a .dims) (dimsIn (arraysHeld held) v))
+    go true h = refl
+    go false h = h
+size-in (hidden q ∷ held) v = size-in held v
+
+-- the cells of an array in the map are those of its dimensions in the deck; none where the deck has no such array
+pub size-held : (deck : List Statement) (v : Name) → sizeOf (heldOf deck) v ≡ arraySize (dimsOf deck v)
+unfolding dimsOf
+size-held deck v = size-in (heldOf deck) v ∙ ap (λ (l : List Declared). arraySize (dimsIn l v)) (arrays-held deck)
+
+pub array-within : (held : List Held) (a : Declared) → Among a (arraysHeld held) → arraySize (a .dims) ≤ cellCount held
+array-within (name v ∷ held) a h = let r = array-within held a h in omega arith
+array-within (array x ∷ held) a here = omega arith
+array-within (array x ∷ held) a (there h) = let r = array-within held a h in omega arith
+array-within (hidden q ∷ held) a h = let r = array-within held a h in omega arith
+
+-- ---- which array a reference means
+
+-- the array of the reference's name, whose dimensions are as many as its subscripts
+pub record Means (arrays : List Declared) (e : Reference) : Type 0 where
+  pub array : Declared
+  pub among : Among array arrays
+  pub named : sameName (array .name) (e .name) ≡ true
+  pub dims : dimsIn arrays (e .name) ≡ array .dims
+  pub count : rightCount (array .dims) (e .subscripts) ≡ true
+
+-- the first array of a name stays the first
+pub means-in : (held : List Held) (more : List Declared) (e : Reference) → rightReference held e ≡ true → Means (arraysHeld held ++ more) e
+means-in [] more e h = absurd (false≢true h)
+means-in (name v ∷ held) more e h = means-in held more e h
+means-in (array a ∷ held) more e h = go (sameName (a .name) (e .name)) refl (means-in held more e) h
+  where
+    later : sameName (a .name) (e .name) ≡ false → Means (arraysHeld held ++ more) e → Means (a ∷ (arraysHeld held ++ more)) e
+    later s m =
+        record {
+          array = m .array;
+          among = there (m .among);
+          named = m .named;
+          dims = ap (λ (t : Bool). cond t (a .dims) (dimsIn (arraysHeld held ++ more) (e .name))) s ∙ m .dims;
+          count = m .count;
+        }
+
+    go : (t : Bool) → sameName (a .name) (e .name) ≡ t → (rightReference held e ≡ true → Means (arraysHeld held ++ more) e) →
+        cond t (rightCount (a .dims) (e .subscripts)) (rightReference held e) ≡ true → Means (a ∷ (arraysHeld held ++ more)) e
+    go true s rest c =
+        record { array = a; among = here; named = s; dims = ap (λ (t : Bool). cond t (a .dims) (dimsIn (arraysHeld held ++ more) (e .name))) s; count = c }
+    go false s rest c = later s (rest c)
+means-in (hidden q ∷ held) more e h = means-in held more e h
+
+-- ---- what a map holds
+
+pub holds-left : (test : Held → Bool) (a b : List Held) → holds test a ≡ true → holds test (a ++ b) ≡ true
+holds-left test [] b e = absurd (false≢true e)
+holds-left test (h ∷ a) b e = go (or-one (test h) (holds test a) e) (holds-left test a b)
+  where
+    go : (test h ≡ true) ⊎ (holds test a ≡ true) → (holds test a ≡ true → holds test (a ++ b) ≡ true) → (test h || holds test (a ++ b)) ≡ true
+    go (inl x) rest = or-either (test h) (holds test (a ++ b)) (inl x)
+    go (inr x) rest = or-either (test h) (holds test (a ++ b)) (inr (rest x))
+
+holds-last : (v : Name) (held : List Held) → holds (isName v) (held ++ (name v ∷ [])) ≡ true
+holds-last v [] = or-either (sameName v v) false (inl (name-same v))
+holds-last v (h ∷ held) = or-either (isName v h) (holds (isName v) (held ++ (name v ∷ []))) (inr (holds-last v held))
+
+appear-keeps : (test : Held → Bool) (held : List Held) (vs : List Name) → holds test held ≡ true → holds test (appear held vs) ≡ true
+appear-keeps test held [] e = e
+appear-keeps test held (v ∷ vs) e =
+    appear-keeps test (cond (holds (isName v) held) held (held ++ (name v ∷ []))) vs
+    (cases (λ (l : List Held). holds test l ≡ true) (holds (isName v) held) held (held ++ (name v ∷ [])) (λ x. e) (λ x. holds-left test held (name v ∷ []) e))
+
+appear-holds : (held : List Held) (v : Name) (vs : List Name) → Among v vs → holds (isName v) (appear held vs) ≡ true
+appear-holds held v (w ∷ vs) here =
+    appear-keeps (isName v) (cond (holds (isName v) held) held (held ++ (name v ∷ []))) vs
+    (cases (λ (l : List Held). holds (isName v) l ≡ true) (holds (isName v) held) held (held ++ (name v ∷ [])) (λ x. x) (λ x. holds-last v held))
+appear-holds held v (w ∷ vs) (there a) = appear-holds (cond (holds (isName w) held) held (held ++ (name w ∷ []))) v vs a
+
+-- what is held stays held, and a statement's plain names are held after it
+pub brings-keeps : (test : Held → Bool) (q : ℕ) (f : Form) (held : List Held) → holds test held ≡ true → holds test (brings q f held) ≡ true
+brings-keeps test q f held e = holds-left test (appear held (formPlain f)) (hiddenIn q f ++ map (λ a. array (declare a)) (arraysIn f)) (appear-keeps test held (formPlain f) e)
+
+pub brings-names : (q : ℕ) (f : Form) (held : List Held) (v : Name) → Among v (formPlain f) → holds (isName v) (brings q f held) ≡ true
+brings-names q f held v a = holds-left (isName v) (appear held (formPlain f)) (hiddenIn q f ++ map (λ a. array (declare a)) (arraysIn f)) (appear-holds held v (formPlain f) a)
+
+pub no-array : (v : Name) (held : List Held) → holds (isArray v) held ≡ false → (a : Declared) → Among a (arraysHeld held) → sameName (a .name) v ≡ false
+no-array v (name w ∷ held) e a h = no-array v held e a h
+no-array v (array x ∷ held) e a here = or-neither (sameName (a .name) v) (holds (isArray v) held) e .0
+no-array v (array x ∷ held) e a (there h) = no-array v held (or-neither (sameName (x .name) v) (holds (isArray v) held) e .1) a h
+no-array v (hidden q ∷ held) e a h = no-array v held e a h
+
+pub array-none : (v : Name) (held : List Held) → ((a : Declared) → Among a (arraysHeld held) → sameName (a .name) v ≡ false) → holds (isArray v) held ≡ false
+array-none v [] h = refl
+array-none v (name w ∷ held) h = array-none v held h
+array-none v (array x ∷ held) h = rw (h x here) (array-none v held (λ a b. h a (there b)))
+array-none v (hidden q ∷ held) h = array-none v held h

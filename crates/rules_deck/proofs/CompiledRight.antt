@@ -1,0 +1,219 @@
+-- An accepted deck's object passes 41, 42 and 43.
+-- Assumes nothing.
+use mathlib.Core.Path.{_≡_, refl, sym, ap, _∙_}
+use mathlib.Core.Logic.{_⊎_, inl, inr}
+use Prim.Native.Nat.{ℕ, zero, suc, _+_, _*_, _^_, _≤_, _<_}
+use native.Mathlib.Omega.{arith}
+use mathlib.Core.Bool.{Bool, true, _||_}
+use mathlib.Core.List.{List, [], _∷_, _++_}
+use mathlib.Core.Option.{none, some}
+use lib.Dec.{leb, ltb, eqb}
+use lib.ListN.{length, getElem?, getD, take, replicate}
+use lib.IntN.{ℤ, pos, natAbs}
+use borrow.Author.Tests.{le-leb, lt-ltb, eq-eqb}
+use Rattle.number.specs.Number.{add, sub, mul, div, ceiling, fits}
+use Rattle.rules_object.specs.Limits.{limits}
+use Rattle.rules_object.specs.Object.{Subscript, Element, Loop, Line, Named, Object}
+use Rattle.rules_object.specs.Machine.{Instr, HLT, CON, LOD, STO, LDE, STE, OP, NEG, JMP, BR3, BRC, DOI, DOE, operationOf, operandOf, ruleOf}
+use Rattle.rules_object.specs.Check.{right41, rightConstant, rightSubscript, rightElement, rightLoop, rightLine, blanks, nameTail, rightName, span, rightNamed, targets, exitAt, operandTests, unknownOperation, right43, operationNumber}
+use Rattle.rules_object.specs.Calls.{firstBad, atEntry, refused42, refused43}
+use Rattle.rules_object.specs.Writable.{Each}
+use Rattle.rules_object.proofs.Words.{each-map}
+use Rattle.rules_deck.specs.Trees.{Name, Statement}
+use Rattle.rules_deck.specs.Tokens.{isDigit, isLetter, isLetterOrDigit}
+use Rattle.rules_deck.specs.Judge.{startsInteger}
+use Rattle.rules_deck.specs.Translation.{heldOf, cellCount, codeOf, filled, translate}
+use Rattle.rules_deck.specs.Accepted.{Accepted}
+use Rattle.rules_deck.proofs.CardsLaws.{and-both}
+use Rattle.rules_deck.proofs.Readers.{All, all-none, all-more, Passes, IsName, is-name}
+use Rattle.rules_deck.proofs.TestLaws.{both, or-either, at-before}
+use Rattle.rules_deck.proofs.Addresses.{at-head, at-tail, at-fits, at-some}
+use Rattle.rules_deck.proofs.Tables.{getD-at, slice-at, InTables}
+use Rattle.rules_deck.proofs.Emitted.{each-at, code-length, sized, emitted}
+use Rattle.rules_deck.proofs.FittingDeck.{fitting}
+use Rattle.rules_deck.proofs.RightCode.{RightSubscript, RightElement, Right}
+use Rattle.rules_deck.proofs.RightDeck.{each-place, LoopWithin, LineWithin, ProperName, NameWithin, lines-few, digits-right, right-code, right-tables, right-loops, right-lines, right-names}
+
+-- ---- nothing fails
+
+none-bad : {A : Type 0} (test : A → Bool) (l : List A) (i : ℕ) → Each (λ x. test x ≡ true) l → firstBad test l i ≡ none
+none-bad test [] i h = refl
+none-bad test (x ∷ l) i h = rw (h .0) (none-bad test l (suc i) (h .1))
+
+none-of : {A : Type 0} (P : A → Type 0) (test : A → Bool) (l : List A) → ((x : A) → P x → test x ≡ true) → Each P l → firstBad test l 0 ≡ none
+none-of P test l f h = none-bad test l 0 (each-map P (λ x. test x ≡ true) f l h)
+
+-- ---- names
+
+blanks-only : (t b : ℕ) → blanks (take t (replicate b 32)) ≡ true
+blanks-only zero b = refl
+blanks-only (suc t) zero = refl
+blanks-only (suc t) (suc b) = blanks-only t b
+
+tail-blank : (i t b : ℕ) → nameTail i (take t (replicate b 32)) ≡ true
+tail-blank zero t b = blanks-only t b
+tail-blank (suc i) zero b = refl
+tail-blank (suc i) (suc t) zero = refl
+tail-blank (suc i) (suc t) (suc b) = blanks-only t b
+
+tail-none : (i : ℕ) → nameTail i [] ≡ true
+tail-none zero = refl
+tail-none (suc i) = refl
+
+tail-right : (i t b : ℕ) (s : List ℕ) → length s ≤ i → All (Passes isLetterOrDigit) s → nameTail i (take t (s ++ replicate b 32)) ≡ true
+unfolding isLetterOrDigit isLetter isDigit
+tail-right i t b [] l all-none = tail-blank i t b
+tail-right zero t b (c ∷ s) l h = absurd (omega arith)
+tail-right (suc i) zero b (c ∷ s) l h = refl
+tail-right (suc i) (suc t) b (c ∷ s) l (all-more p ps) = rw p (tail-right i t b s (omega arith) ps)
+
+name-right : (v : Name) → ProperName v → rightName (filled v) ≡ true
+name-right v p = go v (p .name) (p .short) (p .integer)
+  where
+    go : (v : Name) → IsName v → length v ≤ limits .nameLength → startsInteger v ≡ true → rightName (filled v) ≡ true
+    go (c ∷ s) (is-name q qs) l h =
+        let t = and-both (leb 73 c) (leb c 78) h in
+        both (leb 73 c) _ (t .0) (both (leb c 78) _ (t .1) (tail-right 5 7 8 s (omega arith) qs))
+
+-- ---- entries and operands of an object of k digits, n words of code and so many cells
+
+record Sizes (o : Object) (m n c : ℕ) : Type 0 where
+  digits : m ≡ 10 ^ o .digits
+  code : length (o .code) ≡ n
+  cells : o .cells ≡ c
+
+module _ {o : Object} {m n c : ℕ} (sizes : Sizes o m n c) where
+  fits-right : (z : ℤ) → natAbs z < m → fits (ruleOf o) z ≡ true
+  unfolding fits ceiling
+  fits-right z h = lt-ltb (natAbs z) (10 ^ o .digits) (omega (arith, sizes .digits))
+
+  in-cells : (a : ℕ) → a < c → ltb a (o .cells) ≡ true
+  in-cells a h = lt-ltb a (o .cells) (omega (arith, sizes .cells))
+
+  in-code : (a : ℕ) → a < n → ltb a (length (o .code)) ≡ true
+  in-code a h = lt-ltb a (length (o .code)) (omega (arith, sizes .code))
+
+  constant-right : (x : ℕ) → x < m → rightConstant o x ≡ true
+  unfolding rightConstant
+  constant-right x h = fits-right (pos x) h
+
+  subscript-right : (s : Subscript) → RightSubscript m n c s → rightSubscript o s ≡ true
+  subscript-right s h =
+      both (fits (ruleOf o) (pos (s .times))) _ (fits-right (pos (s .times)) (h .0)) (both (fits (ruleOf o) (s .plus)) _ (fits-right (s .plus) (h .1)) (in-cells (s .cell) (h .2)))
+
+  element-right : (e : Element) → RightElement m n c e → rightElement o e ≡ true
+  unfolding rightElement
+  element-right e h =
+      both (leb 1 (e .rows)) _ (le-leb 1 (e .rows) (h .0)) (both (leb 1 (e .columns)) _ (le-leb 1 (e .columns) (h .1))
+      (both (leb (e .base + e .rows * e .columns) (o .cells)) _ (le-leb (e .base + e .rows * e .columns) (o .cells) (omega (arith, h .2, sizes .cells)))
+      (both (rightSubscript o (e .first)) _ (subscript-right (e .first) (h .3)) (subscript-right (e .second) (h .4)))))
+
+  loop-right : (d : Loop) → LoopWithin n c d → rightLoop o d ≡ true
+  unfolding rightLoop
+  loop-right d h =
+      both (ltb (d .variable) (o .cells)) _ (in-cells (d .variable) (h .0)) (both (ltb (d .limit) (o .cells)) _ (in-cells (d .limit) (h .1))
+      (both (ltb (d .step) (o .cells)) _ (in-cells (d .step) (h .2)) (in-code (d .body) (h .3))))
+
+  line-right : (l : Line) → LineWithin n l → rightLine o l ≡ true
+  unfolding rightLine
+  line-right l h = in-code (l .address) (h .2)
+
+  named-right : (e : Named) → NameWithin c e → rightNamed o e ≡ true
+  unfolding rightNamed
+  named-right e h =
+      let r : rightName (e .name) ≡ true = rw (h .named) (name-right (h .of) (h .proper)) in
+      both (rightName (e .name)) _ r
+      (both (leb 1 (e .rows) || eqb (e .columns) 0) _ (or-either (leb 1 (e .rows)) (eqb (e .columns) 0) (shape (h .inside .either)))
+      (le-leb (e .first + span (e .rows) (e .columns)) (o .cells) (omega (arith, h .inside .within, sizes .cells))))
+    where
+      shape : ((e .rows ≡ 0) × (e .columns ≡ 0)) ⊎ (1 ≤ e .rows) → (leb 1 (e .rows) ≡ true) ⊎ (eqb (e .columns) 0 ≡ true)
+      shape (inl z) = inr (eq-eqb (e .columns) 0 (z .1))
+      shape (inr l) = inl (le-leb 1 (e .rows) l)
+
+  targets-right : (ts : List ℕ) → Each (λ t. t < n) ts → targets o ts ≡ true
+  targets-right [] h = refl
+  targets-right (t ∷ ts) h = both (ltb t (length (o .code))) (targets o ts) (in-code t (h .0)) (targets-right ts (h .1))
+
+  operand-right : (i : Instr) (x : ℕ) → Right m n c i → InTables o i x → getD operandTests (operationNumber i) unknownOperation o x ≡ true
+  operand-right (HLT y) x r h = le-leb x 1 (omega arith)
+  operand-right (CON v) x r h = lt-ltb x (length (o .constants)) (at-before (o .constants) x (at-head h))
+  operand-right (LOD a) x r h = in-cells x (omega arith)
+  operand-right (STO a) x r h = in-cells x (omega arith)
+  operand-right (LDE e) x r h = lt-ltb x (length (o .elements)) (at-before (o .elements) x (at-head h))
+  operand-right (STE e) x r h = lt-ltb x (length (o .elements)) (at-before (o .elements) x (at-head h))
+  operand-right (OP add) x r h = eq-eqb x 0 h
+  operand-right (OP sub) x r h = eq-eqb x 0 h
+  operand-right (OP mul) x r h = eq-eqb x 0 h
+  operand-right (OP div) x r h = eq-eqb x 0 h
+  operand-right NEG x r h = eq-eqb x 0 h
+  operand-right (JMP a) x r h = in-code x (omega arith)
+  operand-right (BR3 t u v) x r h =
+      both (ltb (x + 2) (length (o .exits))) _ (lt-ltb (x + 2) (length (o .exits)) (omega (arith, at-fits x t (u ∷ v ∷ []) h)))
+      (ap (targets o) (slice-at x (t ∷ u ∷ v ∷ []) h) ∙ targets-right (t ∷ u ∷ v ∷ []) (r .0, (r .1, (r .2, tt))))
+  operand-right (BRC ts) x r h =
+      let e : exitAt o x ≡ length ts = getD-at (o .exits) x (length ts) 0 (at-head h) in
+      let one : x + 1 ≡ suc x = omega arith in
+      both (leb (limits .fewestExits) (exitAt o x)) _ (le-leb (limits .fewestExits) (exitAt o x) (omega (arith, r .0)))
+      (both (leb (exitAt o x) (limits .mostExits)) _ (le-leb (exitAt o x) (limits .mostExits) (omega (arith, r .1)))
+      (both (ltb (x + exitAt o x) (length (o .exits))) _ (lt-ltb (x + exitAt o x) (length (o .exits)) (omega (arith, at-fits x (length ts) ts h)))
+      (rw (e, one) (ap (targets o) (slice-at (suc x) ts (at-tail h)) ∙ targets-right ts (r .2)))))
+  operand-right (DOI q d) x r h = lt-ltb x (length (o .dos)) (at-before (o .dos) x (at-head (h .1)))
+  operand-right (DOE q d) x r h = lt-ltb x (length (o .dos)) (at-before (o .dos) x (at-head (h .1)))
+
+-- ---- the deck's object
+
+module _ {k : ℕ} {deck : List Statement} (accepted : Accepted k deck) where
+  sizes : Sizes (translate k deck) (10 ^ k) (length (codeOf deck)) (cellCount (heldOf deck))
+  unfolding translate
+  sizes = record { digits = refl; code = code-length k deck; cells = refl }
+
+  pub passes-41 : right41 (translate k deck) ≡ true
+  unfolding right41 translate
+  passes-41 =
+      let o : Object = translate k deck in
+      let s = sized k deck (fitting accepted) in
+      let d = digits-right accepted in
+      both (leb 1 k) _ (le-leb 1 k (d .0)) (both (leb k (limits .digits)) _ (le-leb k (limits .digits) (d .1))
+      (both (leb (o .cells) (limits .cells)) _ (le-leb (o .cells) (limits .cells) (s .cells))
+      (both (leb (length (o .constants)) (limits .constants)) _ (le-leb (length (o .constants)) (limits .constants) (s .constants))
+      (both (leb (length (o .elements)) (limits .elements)) _ (le-leb (length (o .elements)) (limits .elements) (s .elements))
+      (both (leb (length (o .exits)) (limits .exits)) _ (le-leb (length (o .exits)) (limits .exits) (s .exits))
+      (both (leb (length (o .dos)) (limits .dos)) _ (le-leb (length (o .dos)) (limits .dos) (s .dos))
+      (both (leb (length (o .code)) (limits .code)) _ (le-leb (length (o .code)) (limits .code) (s .code))
+      (both (leb (length (o .lines)) (limits .statements)) _ (le-leb (length (o .lines)) (limits .statements) (omega (arith, lines-few deck 0 deck, accepted .count)))
+      (le-leb (length (o .names)) (limits .names) (fitting accepted .names))))))))))
+
+  pub passes-42 : refused42 (translate k deck) ≡ none
+  unfolding refused42 translate
+  passes-42 =
+      let o : Object = translate k deck in
+      let t = right-tables accepted in
+      let c = none-of _ (rightConstant o) (o .constants) (constant-right sizes) (t .constants) in
+      let e = none-of _ (rightElement o) (o .elements) (element-right sizes) (t .elements) in
+      let d = none-of _ (rightLoop o) (o .dos) (loop-right sizes) (right-loops accepted) in
+      let l = none-of _ (rightLine o) (o .lines) (line-right sizes) (right-lines accepted) in
+      let n = none-of _ (rightNamed o) (o .names) (named-right sizes) (right-names accepted) in
+      rw (c, e, d, l, n)
+
+  -- each word of the code, and the instruction that it is
+  pub coded : (a w : ℕ) → getElem? (translate k deck .code) a ≡ some w
+      → (i : Instr) × Right (10 ^ k) (length (codeOf deck)) (cellCount (heldOf deck)) i × (operationOf w ≡ operationNumber i) × InTables (translate k deck) i (operandOf w)
+  coded a w e =
+      let x = at-some (codeOf deck) a (omega (arith, at-before (translate k deck .code) a e, code-length k deck)) in
+      let m = emitted k deck (fitting accepted) a (x .0) (x .1) in
+      let same : m .word ≡ w = is-some (sym (m .stands) ∙ e) in (
+        x .0,
+        each-at (Right (10 ^ k) (length (codeOf deck)) (cellCount (heldOf deck))) (codeOf deck) a (x .0) (x .1) (right-code accepted),
+        rw same at (m .operation),
+        rw same at (m .inTables),
+      )
+    where
+      is-some : {u v : ℕ} → some u ≡ some v → u ≡ v
+      is-some h = cc
+
+  pub passes-43 : refused43 (translate k deck) ≡ none
+  unfolding refused43 right43
+  passes-43 =
+      ap (atEntry 43 5) (none-bad (right43 (translate k deck)) (translate k deck .code) 0 (each-place (translate k deck .code) (λ a w e.
+      let x = coded a w e in
+      rw (x .2) (operand-right sizes (x .0) (operandOf w) (x .1) (x .3)))))

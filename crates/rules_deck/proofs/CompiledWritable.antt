@@ -1,0 +1,193 @@
+-- An accepted deck's object is as its bytes hold it, so they read back as it; and it passes the check, 40 to 44.
+-- Assumes nothing.
+use mathlib.Core.Path.{_≡_, ap}
+use mathlib.Core.Logic.{_⊎_, inl, inr}
+use Prim.Native.Nat.{ℕ, zero, suc, _+_, _*_, _≤_, _<_}
+use native.Mathlib.Omega.{arith}
+use mathlib.Core.Bool.{true}
+use mathlib.Core.List.{List, [], _∷_, _++_}
+use mathlib.Core.Option.{some}
+use lib.ListN.{length, replicate, length-append, length-take}
+use lib.IntN.{ℤ, pos, negsuc, natAbs}
+use Rattle.number.specs.Number.{add, sub, mul, div}
+use Rattle.rules_object.specs.Limits.{limits}
+use Rattle.rules_object.specs.Object.{Subscript, Element, Loop, Line, Named, Object}
+use Rattle.rules_object.specs.Bytes.{objectBytes, readObject}
+use Rattle.rules_object.specs.Machine.{Instr, HLT, CON, LOD, STO, LDE, STE, OP, NEG, JMP, BR3, BRC, DOI, DOE, operationOf}
+use Rattle.rules_object.specs.Flow.{Reached}
+use Rattle.rules_object.specs.Check.{span, operationNumber, flowOf}
+use Rattle.rules_object.specs.Calls.{passed, checked, verdict, checking}
+use Rattle.rules_object.specs.Writable.{Each, IsByte, IsWord, IsSigned, WritableSubscript, WritableElement, WritableLoop, WritableLine, WritableNamed, Writable}
+use Rattle.rules_object.proofs.Words.{each-map, each-append, each-take}
+use Rattle.rules_object.proofs.RoundTrip.{reads-back}
+use Rattle.rules_deck.specs.Trees.{Name, Statement}
+use Rattle.rules_deck.specs.Tokens.{isDigit, isLetter, isLetterOrDigit}
+use Rattle.rules_deck.specs.Translation.{filled, translate}
+use Rattle.rules_deck.specs.Compile.{read, deckOf}
+use Rattle.rules_deck.specs.Seen.{levelsIn}
+use Rattle.rules_deck.specs.Accepted.{Accepted}
+use Rattle.rules_deck.proofs.Readers.{All, all-none, all-more, Passes, IsName, is-name, digit-bounds, letter-bounds}
+use Rattle.rules_deck.proofs.TestLaws.{or-one}
+use Rattle.rules_deck.proofs.FittingDeck.{fitting}
+use Rattle.rules_deck.proofs.Emitted.{code-length, sized}
+use Rattle.rules_deck.proofs.Values.{ten-most}
+use Rattle.rules_deck.proofs.HeightsCompiled.{below}
+use Rattle.rules_deck.proofs.TableCompiled.{stands, levels-most, compiled-table, compiled-height}
+use Rattle.rules_deck.proofs.RightCode.{RightSubscript, RightElement}
+use Rattle.rules_deck.proofs.RightDeck.{each-place, LoopWithin, LineWithin, NameWithin, lines-few, digits-right, right-tables, right-loops, right-lines, right-names}
+use Rattle.rules_deck.proofs.CompiledRight.{passes-41, passes-42, passes-43, coded}
+
+-- ---- names of eight bytes
+
+filled-eight : (v : Name) → length (filled v) ≡ 8
+filled-eight v =
+    let t = length-take 8 (v ++ replicate 8 32) in
+    let a = length-append v (replicate 8 32) in
+    omega arith
+
+blank-bytes : (b : ℕ) → Each IsByte (replicate b 32)
+blank-bytes zero = tt
+blank-bytes (suc b) = (omega arith, blank-bytes b)
+
+tail-bytes : (s : List ℕ) → All (Passes isLetterOrDigit) s → Each IsByte s
+unfolding isLetterOrDigit
+tail-bytes [] all-none = tt
+tail-bytes (c ∷ s) (all-more p ps) = (go (or-one (isLetter c) (isDigit c) p), tail-bytes s ps)
+  where
+    go : (isLetter c ≡ true) ⊎ (isDigit c ≡ true) → c < 256
+    go (inl h) = omega (arith, letter-bounds c h)
+    go (inr h) = omega (arith, digit-bounds c h)
+
+name-bytes : (v : Name) → IsName v → Each IsByte v
+name-bytes (c ∷ s) (is-name q qs) = (omega (arith, letter-bounds c q), tail-bytes s qs)
+
+-- ---- entries
+
+signed-small : (m : ℕ) (z : ℤ) → m ≤ 1000000000 → natAbs z < m → IsSigned z
+signed-small m (pos x) l h = omega arith
+signed-small m (negsuc x) l h = omega arith
+
+span-rows : (r c : ℕ) → r ≤ span r c
+span-rows zero c = omega arith
+span-rows (suc r) zero = omega arith
+span-rows (suc r) (suc c) = omega arith
+
+span-columns : (r c : ℕ) → 1 ≤ r → c ≤ span r c
+span-columns zero c h = absurd (omega arith)
+span-columns (suc r) zero h = omega arith
+span-columns (suc r) (suc c) h = omega arith
+
+module _ {m n cells : ℕ} (digits : m ≤ 1000000000) (code : n ≤ limits .code) (most : cells ≤ limits .cells) where
+  subscript-writable : (s : Subscript) → RightSubscript m n cells s → WritableSubscript s
+  subscript-writable s h = record { times = omega (arith, h .0); cell = omega (arith, h .2); plus = signed-small m (s .plus) digits (h .1) }
+
+  rows-most : (b r c : ℕ) → 1 ≤ r → 1 ≤ c → b + r * c ≤ cells → (b ≤ cells) × (r ≤ cells) × (c ≤ cells)
+  rows-most b (suc r) zero p q h = absurd (omega arith)
+  rows-most b zero c p q h = absurd (omega arith)
+  rows-most b (suc r) (suc c) p q h = (omega arith, omega arith, omega arith)
+
+  element-writable : (e : Element) → RightElement m n cells e → WritableElement e
+  element-writable e h =
+      let x = rows-most (e .base) (e .rows) (e .columns) (h .0) (h .1) (h .2) in
+      record {
+        base = omega (arith, x .0);
+        rows = omega (arith, x .1);
+        columns = omega (arith, x .2);
+        first = subscript-writable (e .first) (h .3);
+        second = subscript-writable (e .second) (h .4);
+      }
+
+  loop-writable : (d : Loop) → LoopWithin n cells d → WritableLoop d
+  loop-writable d h = record { variable = omega (arith, h .0); limit = omega (arith, h .1); step = omega (arith, h .2); body = omega (arith, h .3) }
+
+  line-writable : (l : Line) → LineWithin n l → WritableLine l
+  line-writable l h = record { sequence = omega (arith, h .0); number = omega (arith, h .1); address = omega (arith, h .2) }
+
+  named-writable : (e : Named) → NameWithin cells e → WritableNamed e
+  named-writable e h =
+      record {
+        eight = rw (h .named) (filled-eight (h .of));
+        bytes = rw (h .named) (each-take IsByte 8 (h .of ++ replicate 8 32) (each-append IsByte (h .of) (replicate 8 32) (name-bytes (h .of) (h .proper .name)) (blank-bytes 8)));
+        first = omega (arith, h .inside .within);
+        rows = omega (arith, h .inside .within, span-rows (e .rows) (e .columns));
+        columns = go (h .inside .either);
+      }
+    where
+      go : ((e .rows ≡ 0) × (e .columns ≡ 0)) ⊎ (1 ≤ e .rows) → IsWord (e .columns)
+      go (inl z) = omega (arith, z .1)
+      go (inr l) = omega (arith, h .inside .within, span-columns (e .rows) (e .columns) l)
+
+operation-few : (i : Instr) → operationNumber i ≤ 15
+operation-few (HLT x) = omega arith
+operation-few (CON c) = omega arith
+operation-few (LOD a) = omega arith
+operation-few (STO a) = omega arith
+operation-few (LDE e) = omega arith
+operation-few (STE e) = omega arith
+operation-few (OP add) = omega arith
+operation-few (OP sub) = omega arith
+operation-few (OP mul) = omega arith
+operation-few (OP div) = omega arith
+operation-few NEG = omega arith
+operation-few (JMP a) = omega arith
+operation-few (BR3 a b c) = omega arith
+operation-few (BRC ts) = omega arith
+operation-few (DOI q d) = omega arith
+operation-few (DOE q d) = omega arith
+
+word-small : (w : ℕ) → operationOf w ≤ 15 → IsWord w
+unfolding operationOf
+word-small w h = omega arith
+
+-- ---- the deck's object
+
+module _ {k : ℕ} {deck : List Statement} (accepted : Accepted k deck) where
+  pub compiled-writable : Writable (translate k deck)
+  unfolding translate
+  compiled-writable =
+      let o : Object = translate k deck in
+      let s = sized k deck (fitting accepted) in
+      let d = ten-most k (digits-right accepted .1) in
+      let n = fitting accepted .code in
+      let c = fitting accepted .cells in
+      let t = right-tables accepted in
+      record {
+        digits = omega (arith, digits-right accepted .1);
+        cells = omega (arith, c);
+        constants = each-map _ IsWord (λ x h. omega arith) (o .constants) (t .constants);
+        elements = each-map _ WritableElement (element-writable d n c) (o .elements) (t .elements);
+        exits = each-map _ IsWord (λ x h. omega arith) (o .exits) (t .exits);
+        dos = each-map _ WritableLoop (loop-writable d n c) (o .dos) (right-loops accepted);
+        code = each-place (o .code) (λ a w e. let x = coded accepted a w e in word-small w (omega (arith, x .2, operation-few (x .0))));
+        lines = each-map _ WritableLine (line-writable d n c) (o .lines) (right-lines accepted);
+        names = each-map _ WritableNamed (named-writable d n c) (o .names) (right-names accepted);
+        someCode = omega (arith, code-length k deck, below deck (stands accepted) 0 (stands accepted .some));
+        small = omega (arith, s .constants, s .elements, s .exits, s .dos, s .code, lines-few deck 0 deck, accepted .count, fitting accepted .names);
+      }
+
+  -- an accepted deck's bytes read back as its object
+  pub compiled-reads : readObject (objectBytes (translate k deck)) ≡ some (translate k deck)
+  compiled-reads = reads-back (translate k deck) compiled-writable
+
+  low : 2 * levelsIn deck + 3 ≤ limits .stack
+  low = omega (arith, levels-most accepted)
+
+  pub accepted-passes : (table : List ℕ) × (checked (objectBytes (translate k deck)) ≡ passed (translate k deck) table)
+  unfolding checked
+  accepted-passes =
+      let h = compiled-table k (stands accepted) (fitting accepted) low in
+      (h .0, rw (compiled-reads, passes-41 accepted, passes-42 accepted, passes-43 accepted, h .1))
+
+  -- a deck with p levels of parentheses never stands above 2p+3
+  pub accepted-height : (a h : ℕ) → Reached (flowOf (translate k deck)) a h → h ≤ 2 * levelsIn deck + 3
+  accepted-height = compiled-height k (stands accepted) (fitting accepted) low
+
+-- ---- everything compiled
+
+pub compiled-checked : (k : ℕ) (bytes : List ℕ) (deck : List Statement) → deckOf k bytes ≡ read deck
+    → (table : List ℕ) × (checked (objectBytes (translate k deck)) ≡ passed (translate k deck) table)
+compiled-checked k bytes deck e = accepted-passes (Rattle.rules_deck.proofs.AcceptedDeck.accepted k bytes deck e)
+
+pub compiled-passes : (k : ℕ) (bytes : List ℕ) (deck : List Statement) → deckOf k bytes ≡ read deck → checking (objectBytes (translate k deck)) ≡ Rattle.rules_object.specs.Calls.accepted
+unfolding checking
+compiled-passes k bytes deck e = ap verdict (compiled-checked k bytes deck e .1)

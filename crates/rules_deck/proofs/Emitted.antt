@@ -1,0 +1,139 @@
+-- The words of a translated deck decode to its code, and each operand stands in its table.
+-- Assumes nothing.
+use mathlib.Core.Path.{_≡_, refl, sym, subst}
+use Prim.Native.Nat.{ℕ, zero, suc, _+_, _≤_}
+use native.Mathlib.Omega.{arith}
+use mathlib.Core.Bool.{Bool, true, false, cond}
+use mathlib.Core.List.{List, [], _∷_, map}
+use mathlib.Core.Option.{some}
+use lib.ListN.{length, getElem?, getD, length-map}
+use Rattle.rules_object.specs.Object.{Object}
+use Rattle.rules_object.specs.Machine.{Instr, DOE, decode}
+use Rattle.rules_object.specs.Writable.{Each}
+use Rattle.rules_object.proofs.Words.{each-append}
+use Rattle.rules_deck.specs.Trees.{Name, valueOf, Expr, con, var, elm, neg, par, bin, Target, cell, element, Form, assign, goTo, computed, ifs, loop, continue, stop, end, dimension, Statement}
+use Rattle.rules_deck.specs.Deck.{positionOf, Do, Dims, doOf, dosFrom, dosOf, dimsOf, endings}
+use Rattle.rules_deck.specs.Meaning.{third}
+use Rattle.rules_deck.specs.Translation.{Held, size, cellCount, firstCell, cellOf, heldOf, exprCode, storeCode, formCode, addressOf, loopEntry, doInstr, enterCode, statementCode, codeFrom, codeOf, noTables, translate}
+use Rattle.rules_deck.specs.Accepted.{Among, here, there, Fitting}
+use Rattle.rules_deck.proofs.Addresses.{address-most}
+use Rattle.rules_deck.proofs.TestLaws.{clash, among-left, among-right}
+use Rattle.rules_deck.proofs.DoLaws.{among-endings}
+use Rattle.rules_deck.proofs.Rows.{do-row}
+use Rattle.rules_deck.proofs.Tables.{within-self, Bounded, Sized, Emitted, emit-length, emitted-at, decoded}
+
+pub each-at : {A : Type 0} (P : A → Type 0) (l : List A) (a : ℕ) (x : A) → getElem? l a ≡ some x → Each P l → P x
+each-at P [] a x e h = absurd (clash (sym e))
+each-at P (y ∷ l) zero x e h = let same : y ≡ x = cc in subst P same (h .0)
+each-at P (y ∷ l) (suc a) x e h = each-at P l a x e (h .1)
+
+-- ---- cells are at most the count
+
+pub first-most : (test : Held → Bool) (held : List Held) → firstCell test held ≤ cellCount held
+first-most test [] = omega arith
+first-most test (h ∷ held) = go (test h) (first-most test held)
+  where
+    go : (t : Bool) → firstCell test held ≤ cellCount held → cond t 0 (size h + firstCell test held) ≤ size h + cellCount held
+    go true l = omega arith
+    go false l = omega arith
+
+pub cell-most : (held : List Held) (v : Name) → cellOf held v ≤ cellCount held
+unfolding cellOf
+cell-most held v = first-most _ held
+
+-- ---- code
+
+module _ (o : Object) (held : List Held) (dims : Name → Dims) (cells : (v : Name) → cellOf held v ≤ o .cells) where
+  expr-bounded : (e : Expr) → Each (Bounded o) (exprCode held dims e)
+  expr-bounded (con c) = (tt, tt)
+  expr-bounded (var v) = (cells v, tt)
+  expr-bounded (elm v s) = (tt, tt)
+  expr-bounded (neg e) = each-append (Bounded o) (exprCode held dims e) _ (expr-bounded e) (tt, tt)
+  expr-bounded (par e) = expr-bounded e
+  expr-bounded (bin p a b) =
+      each-append (Bounded o) (exprCode held dims a) _ (expr-bounded a) (each-append (Bounded o) (exprCode held dims b) _ (expr-bounded b) (tt, tt))
+
+  store-bounded : (t : Target) → Bounded o (storeCode held dims t)
+  store-bounded (cell v) = cells v
+  store-bounded (element v s) = tt
+
+  form-bounded : (address : ℕ → ℕ) (entry : Instr) (f : Form) → ((n : ℕ) → address n ≤ length (o .code)) → Bounded o entry → Each (Bounded o) (formCode held dims address entry f)
+  form-bounded address entry (assign t e) a b = each-append (Bounded o) (exprCode held dims e) _ (expr-bounded e) (store-bounded t, tt)
+  form-bounded address entry (goTo n) a b = (a (valueOf n), tt)
+  form-bounded address entry (computed ns v) a b = (cells v, (tt, tt))
+  form-bounded address entry (ifs e x y z) a b = each-append (Bounded o) (exprCode held dims e) _ (expr-bounded e) (tt, tt)
+  form-bounded address entry (loop n v p₁ p₂ p₃) a b =
+      each-append (Bounded o) (exprCode held dims p₁) _ (expr-bounded p₁)
+      (each-append (Bounded o) (exprCode held dims p₂) _ (expr-bounded p₂) (each-append (Bounded o) (exprCode held dims (third p₃)) _ (expr-bounded (third p₃)) (b, tt)))
+  form-bounded address entry continue a b = tt
+  form-bounded address entry stop a b = (omega arith, tt)
+  form-bounded address entry end a b = (omega arith, tt)
+  form-bounded address entry (dimension arrays) a b = tt
+
+-- ---- the deck's object
+
+module _ (k : ℕ) (deck : List Statement) where
+  pub code-length : length (translate k deck .code) ≡ length (codeOf deck)
+  unfolding translate
+  code-length = emit-length noTables (codeOf deck)
+
+  entry-bounded : (q : ℕ) (f : Form) → ((d : Do) → Among d (doOf q f) → Among d (dosOf deck)) → Bounded (translate k deck) (enterCode deck q f)
+  unfolding translate
+  entry-bounded q (assign t e) g = tt
+  entry-bounded q (goTo n) g = tt
+  entry-bounded q (computed ns v) g = tt
+  entry-bounded q (ifs e a b c) g = tt
+  entry-bounded q (loop n v p₁ p₂ p₃) g = do-row deck _ (g _ here)
+  entry-bounded q continue g = tt
+  entry-bounded q stop g = tt
+  entry-bounded q end g = tt
+  entry-bounded q (dimension arrays) g = tt
+
+  ends-bounded : (ds : List Do) → ((d : Do) → Among d ds → Among d (dosOf deck)) → Each (Bounded (translate k deck)) (map (doInstr deck DOE) ds)
+  unfolding translate
+  ends-bounded [] g = tt
+  ends-bounded (d ∷ ds) g = (do-row deck d (g d here), ends-bounded ds (λ c h. g c (there h)))
+
+  cells-most : (v : Name) → cellOf (heldOf deck) v ≤ translate k deck .cells
+  unfolding translate
+  cells-most v = cell-most (heldOf deck) v
+
+  statement-bounded : (q : ℕ) (s : Statement) → ((d : Do) → Among d (doOf q (s .form)) → Among d (dosOf deck)) → Each (Bounded (translate k deck)) (statementCode deck q s)
+  statement-bounded q s g =
+      let entry : Instr = enterCode deck q (s .form) in
+      each-append (Bounded (translate k deck)) (formCode (heldOf deck) (dimsOf deck) (addressOf deck) entry (s .form)) (map (doInstr deck DOE) (endings deck (s .number)))
+      (form-bounded (translate k deck) (heldOf deck) (dimsOf deck) cells-most (addressOf deck) entry (s .form)
+      (λ n. omega (arith, code-length, address-most deck (positionOf deck n))) (entry-bounded q (s .form) g))
+      (ends-bounded (endings deck (s .number)) (λ d h. among-endings deck (s .number) d h .0))
+
+  from-bounded : (q : ℕ) (more : List Statement) → ((d : Do) → Among d (dosFrom q more) → Among d (dosOf deck)) → Each (Bounded (translate k deck)) (codeFrom deck q more)
+  from-bounded q [] g = tt
+  from-bounded q (s ∷ more) g =
+      each-append (Bounded (translate k deck)) (statementCode deck q s) (codeFrom deck (suc q) more) (statement-bounded q s (λ d h. g d (among-left (dosFrom (suc q) more) h)))
+      (from-bounded (suc q) more (λ d h. g d (among-right (doOf q (s .form)) h)))
+
+  code-bounded : Each (Bounded (translate k deck)) (codeOf deck)
+  unfolding codeOf dosOf
+  code-bounded = from-bounded 0 deck (λ d h. h)
+
+  pub bounded : (a : ℕ) (i : Instr) → getElem? (codeOf deck) a ≡ some i → Bounded (translate k deck) i
+  bounded a i e = each-at (Bounded (translate k deck)) (codeOf deck) a i e code-bounded
+
+  pub sized : Fitting deck → Sized (translate k deck)
+  unfolding translate
+  sized f =
+      record {
+        cells = f .cells;
+        code = omega (arith, f .code, emit-length noTables (codeOf deck));
+        constants = f .constants;
+        elements = f .elements;
+        exits = f .exits;
+        dos = omega (arith, f .dos, length-map (dosOf deck) (loopEntry deck));
+      }
+
+  pub emitted : Fitting deck → (a : ℕ) (i : Instr) → getElem? (codeOf deck) a ≡ some i → Emitted (translate k deck) a i
+  unfolding translate
+  emitted f a i e = emitted-at (translate k deck) noTables (codeOf deck) refl (within-self (translate k deck)) (sized f) a i e (bounded a i e)
+
+  pub fetched : Fitting deck → (a : ℕ) (i : Instr) → getElem? (codeOf deck) a ≡ some i → decode (translate k deck) (getD (translate k deck .code) a 0) ≡ i
+  fetched f a i e = decoded (translate k deck) a i (emitted f a i e)

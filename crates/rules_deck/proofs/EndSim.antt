@@ -1,0 +1,96 @@
+-- The machine goes alike with the meaning through the DOs that end with a statement.
+-- Assumes nothing.
+use mathlib.Core.Path.{_≡_, refl, sym, ap, _∙_, subst}
+use mathlib.Core.Logic.{_⊎_, inl, inr}
+use Prim.Native.Nat.{ℕ, zero, suc, _+_, _≤_, _<_}
+use native.Mathlib.Omega.{arith}
+use mathlib.Core.List.{List, [], _∷_, map}
+use mathlib.Core.Option.{some}
+use lib.ListN.{length, getElem?}
+use lib.IntN.{ℤ}
+use Rattle.rules_object.specs.Runs.{Halt, Out, go, halt}
+use Rattle.rules_object.specs.Choose.{positive, Turn, again, over, turn}
+use Rattle.rules_object.specs.Machine.{DOE, State, state}
+use Rattle.rules_object.specs.Machine
+use Rattle.rules_deck.specs.Trees.{cell, Statement}
+use Rattle.rules_deck.specs.Deck.{Do, dosOf}
+use Rattle.rules_deck.specs.Meaning.{plain, Values, Bounds, Standing, standing, turned, endOf, finish}
+use Rattle.rules_deck.specs.Cost.{turnedSteps, endSteps, finishSteps}
+use Rattle.rules_deck.specs.Translation.{heldOf, addressAt, loopEntry, doInstr, codeOf}
+use Rattle.rules_deck.specs.Whole.{lastOf}
+use Rattle.rules_deck.specs.Accepted.{Among, here, there}
+use Rattle.rules_deck.specs.Cells.{key, limit, Has, Holds, SameMark}
+use Rattle.rules_deck.specs.Sound.{Sound}
+use Rattle.rules_deck.proofs.CellLaws.{holds-put}
+use Rattle.rules_deck.proofs.DeckCells.{variable-has}
+use Rattle.rules_deck.proofs.Addresses.{At, at-head, at-tail}
+use Rattle.rules_deck.proofs.Ranges.{range-last}
+use Rattle.rules_deck.proofs.MachineRuns.{ruled, Runs, stay, and-then, on}
+use Rattle.rules_deck.proofs.Standings.{Bound, Inside, Stands, inside-put, inside-body}
+
+-- From machine state t, inside the statement at j₀, the machine comes to what the meaning comes to, in n steps, which are no more than the statement has words from there.
+pub data Sim (k : ℕ) (deck : List Statement) (j₀ : ℕ) (t : State) (n : ℕ) : Out Standing → Type 0 where
+  goes : {j lost m : ℕ} {env : Values} {inside : ℕ → Bounds} {c : List ℤ} → Runs k deck n t (go (state (addressAt deck j) [] c m)) → t .index + n ≤ addressAt deck (suc j₀)
+      → Stands deck j env inside lost c m → (zero < n) ⊎ (j ≡ suc j₀) → Sim k deck j₀ t n (go (standing j env inside lost))
+  halts : {h : Halt} {j lost p m : ℕ} {env : Values} {inside : ℕ → Bounds} {s c : List ℤ} → Runs k deck n t (halt h (state p s c m)) → t .index + n ≤ addressAt deck (suc j₀)
+      → Holds (heldOf deck) env c → SameMark deck lost m → Sim k deck j₀ t n (halt h (standing j env inside lost))
+
+-- some steps first
+pub first : {k : ℕ} {deck : List Statement} {j n n₂ : ℕ} {s t : State} {o : Out Standing} → Runs k deck n s (go t) → s .index + n ≡ t .index → Sim k deck j t n₂ o → Sim k deck j s (n + n₂) o
+first r e (goes r′ l st (inl z)) = goes (and-then r r′) (omega arith) st (inl (omega arith))
+first r e (goes r′ l st (inr q)) = goes (and-then r r′) (omega arith) st (inr q)
+first r e (halts r′ l h m) = halts (and-then r r′) (omega arith) h m
+
+-- ---- the statement's main part is done, the DOs that end with it follow
+
+pub record Ending (deck : List Statement) (j : ℕ) (d : Do) : Type 0 where
+  pub among : Among d (dosOf deck)
+  pub last : lastOf deck d ≡ j
+
+pub record Ready (deck : List Statement) (j : ℕ) (env : Values) (inside : ℕ → Bounds) (lost : ℕ) (c : List ℤ) (m : ℕ) : Type 0 where
+  pub holds : Holds (heldOf deck) env c
+  pub mark : SameMark deck lost m
+  pub now : Inside deck inside c j
+  pub next : Inside deck inside c (suc j)
+  pub more : suc j < length deck
+
+module _ (k : ℕ) {deck : List Statement} (sound : Sound deck) {j lost m : ℕ} {env : Values} {inside : ℕ → Bounds} {c : List ℤ} (r : Ready deck j env inside lost c m) where
+  turn-sim : (d : Do) (u : Turn) {p n : ℕ} {o : Out Standing} → Ending deck j d → getElem? (codeOf deck) p ≡ some (doInstr deck DOE d) → p < addressAt deck (suc j)
+      → Machine.act (ruled k) (doInstr deck DOE d) (state p [] c m) ≡ Machine.turned u (loopEntry deck d) (state p [] c m)
+      → Sim k deck j (state (suc p) [] c m) n o → Sim k deck j (state p [] c m) (turnedSteps u n) (turned u d j env inside lost o)
+  turn-sim d (again i) {p} w a l e o =
+      let v = variable-has deck d (w .among) in
+      let f = sound .nested .after d (w .among) in
+      let q = w .last in
+      let g = r .more in
+      goes (on (sound .fitting) a e stay) (omega arith)
+      (record {
+        holds = holds-put (r .holds) (plain (d .variable)) i v;
+        mark = r .mark;
+        around = inside-put (inside-body (sound .nested) (w .among) (w .last) (r .now)) (plain (d .variable)) i v;
+        here = omega arith;
+      }) (inl (omega arith))
+  turn-sim d over {p} w a l e o = first (on (sound .fitting) a e stay) (omega arith) o
+
+  doe-acts : (d : Do) (p : ℕ) → Has (heldOf deck) (key (plain (d .variable))) → (b : Bound (heldOf deck) inside c (d .position))
+      → Machine.act (ruled k) (doInstr deck DOE d) (state p [] c m) ≡ Machine.turned (turn (env (plain (d .variable))) (b .limit) (b .step)) (loopEntry deck d) (state p [] c m)
+  doe-acts d p v b =
+      let D = loopEntry deck d in
+      let t = state p [] c m in
+      let x = r .holds .same (plain (d .variable)) v in
+      ap (λ e. Machine.ended e D t) (ap positive (b .step-cell) ∙ b .exceeds)
+      ∙ ap (λ a. Machine.turned (turn a (Machine.cell c (D .limit)) (Machine.cell c (D .step))) D t) x
+      ∙ ap (λ a. Machine.turned (turn (env (plain (d .variable))) a (Machine.cell c (D .step))) D t) (b .limit-cell)
+      ∙ ap (λ a. Machine.turned (turn (env (plain (d .variable))) (b .limit) a) D t) (b .step-cell)
+
+  pub ends-sim : (es : List Do) {p : ℕ} → ((d : Do) → Among d es → Ending deck j d) → At (codeOf deck) p (map (doInstr deck DOE) es) → p + length es ≡ addressAt deck (suc j)
+      → Sim k deck j (state p [] c m) (finishSteps es env inside) (finish es j env inside lost)
+  ends-sim [] {p} f a e =
+      let e′ : p ≡ addressAt deck (suc j) = omega arith in
+      rw e′ (goes stay (omega arith) (record { holds = r .holds; mark = r .mark; around = r .next; here = r .more }) (inr refl))
+  ends-sim (d ∷ es) {p} f a e =
+      let w = f d here in
+      let b = r .now .bound d (w .among) (range-last (sound .nested) (w .among) (w .last)) in
+      subst (λ z. Sim k deck j (state p [] c m) (endSteps z d env (finishSteps es env inside)) (endOf z d j env inside lost (finish es j env inside lost))) (sym (b .is))
+      (turn-sim d (turn (env (plain (d .variable))) (b .limit) (b .step)) w (at-head a) (omega arith) (doe-acts d p (variable-has deck d (w .among)) b)
+      (ends-sim es (λ d x. f d (there x)) (at-tail a) (omega arith)))

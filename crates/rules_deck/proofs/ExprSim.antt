@@ -1,0 +1,111 @@
+-- Expressions: the postfix code, anywhere in a deck's code, pushes the value or halts alike.
+-- Assumes nothing.
+use mathlib.Core.Path.{_≡_, refl, ap, _∙_, subst}
+use Prim.Native.Nat.{ℕ, suc, _+_, _≤_}
+use native.Mathlib.Omega.{arith}
+use mathlib.Core.Bool.{Bool}
+use mathlib.Core.List.{List, _∷_, _++_}
+use mathlib.Core.Option.{Option, none, some}
+use lib.ListN.{length, getElem?, length-append}
+use lib.IntN.{ℤ, pos, _+ℤ_, _*ℤ_, zero-*ℤ, +ℤ-idl}
+use Rattle.number.specs.Number.{Op, Result, value, byZero, apply}
+use Rattle.rules_object.specs.Runs.{Halt, go, halt}
+use Rattle.rules_object.specs.Machine.{Instr, LDE, OP, NEG, state, cell, subscriptValue, placeOf, elementLoaded, operated}
+use Rattle.rules_deck.specs.Trees.{Name, valueOf, Subscript, constant, linear, Subscripts, one, two, subscriptNames, subscriptsNames, Expr, con, var, elm, neg, par, bin, Statement}
+use Rattle.rules_deck.specs.Deck.{dimsOf}
+use Rattle.rules_deck.specs.Meaning.{plain, elementAt, Values, Evaluated, val, bad, subscript, placeIn, elementValue, after, negated, joined, eval}
+use Rattle.rules_deck.specs.Cost.{andOne, joinedSteps, exprSteps}
+use Rattle.rules_deck.specs.Translation.{Held, baseOf, heldOf, exprPlain, subscriptEntry, elementEntry, exprCode, codeOf}
+use Rattle.rules_deck.specs.Accepted.{Among, here, Fitting}
+use Rattle.rules_deck.specs.Cells.{key, Has, Holds}
+use Rattle.rules_deck.proofs.Addresses.{At, at-head, at-left, at-right}
+use Rattle.rules_deck.proofs.DeckCells.{among-left, among-right, element-has}
+use Rattle.rules_deck.proofs.Marks.{Marked, quiet, widen, marked-then, marked-one}
+use Rattle.rules_deck.proofs.MachineRuns.{ruled, Runs, stay, and-then, on, out}
+
+-- every name of the list has a cell
+pub record Known (held : List Held) (vs : List Name) : Type 0 where
+  pub has : (v : Name) → Among v vs → Has held (key (plain v))
+
+pub known-left : {held : List Held} {l : List Name} (m : List Name) → Known held (l ++ m) → Known held l
+known-left m k = record { has = λ v a. k .has v (among-left m a) }
+
+pub known-right : {held : List Held} (l : List Name) {m : List Name} → Known held (l ++ m) → Known held m
+known-right l k = record { has = λ v a. k .has v (among-right l a) }
+
+-- The code from `pc` up to `pc′` pushes the value, in as many steps as it has words; or some of it leads to the halt. In n steps.
+pub data Gives (k : ℕ) (deck : List Statement) (pc pc′ : ℕ) (s c : List ℤ) (m n : ℕ) : Evaluated → Type 0 where
+  gives : {v : ℤ} {b : Bool} {m′ : ℕ} → Runs k deck n (state pc s c m) (go (state pc′ (v ∷ s) c m′)) → pc + n ≡ pc′ → Marked pc pc′ m m′ b → Gives k deck pc pc′ s c m n (val v b)
+  stops : {h : Halt} {b : Bool} {p m′ : ℕ} {s′ : List ℤ} → Runs k deck n (state pc s c m) (halt h (state p s′ c m′)) → pc + n ≤ pc′ → Marked pc pc′ m m′ b → Gives k deck pc pc′ s c m n (bad h b)
+
+module _ {k : ℕ} {deck : List Statement} (fit : Fitting deck) {pc p₂ m : ℕ} {s c : List ℤ} where
+  opGives : (r : Result) {n m₂ : ℕ} {v w : ℤ} {d : Bool} → pc ≤ p₂ → Runs k deck n (state pc s c m) (go (state p₂ (w ∷ v ∷ s) c m₂)) → pc + n ≡ p₂ → Marked pc p₂ m m₂ d
+      → {o : Op} → getElem? (codeOf deck) p₂ ≡ some (OP o) → apply (ruled k) o v w ≡ r → Gives k deck pc (suc p₂) s c m (n + 1) (after d r)
+  opGives (value x e) {m₂ = m₂} {v = v} {w = w} l p z q f a =
+      gives (and-then p (on fit f (ap (λ r. operated r (state p₂ (w ∷ v ∷ s) c m₂) s) a) stay)) (omega arith)
+      (marked-then (widen (omega arith) (omega arith) q) (widen l (omega arith) (marked-one e m₂ p₂)))
+  opGives byZero {m₂ = m₂} {v = v} {w = w} l p z q f a =
+      stops (and-then p (out fit f (ap (λ r. operated r (state p₂ (w ∷ v ∷ s) c m₂) s) a))) (omega arith) (widen (omega arith) (omega arith) q)
+
+  -- the first operand has run, the second has run or halts
+  secondGives : {p₁ n n₂ m₁ : ℕ} {v : ℤ} {d : Bool} {rb : Evaluated} {o : Op} → pc ≤ p₁ → p₁ ≤ p₂ → Runs k deck n (state pc s c m) (go (state p₁ (v ∷ s) c m₁)) → pc + n ≡ p₁
+      → Marked pc p₁ m m₁ d → Gives k deck p₁ p₂ (v ∷ s) c m₁ n₂ rb → getElem? (codeOf deck) p₂ ≡ some (OP o)
+      → Gives k deck pc (suc p₂) s c m (joinedSteps (val v d) rb n n₂) (joined (ruled k) o (val v d) rb)
+  secondGives l₁ l₂ p z q (gives p′ z′ q′) f =
+      opGives (apply (ruled k) _ _ _) (omega arith) (and-then p p′) (omega arith) (marked-then (widen (omega arith) l₂ q) (widen l₁ (omega arith) q′)) f refl
+  secondGives l₁ l₂ p z q (stops p′ z′ q′) f =
+      stops (and-then p p′) (omega arith) (marked-then (widen (omega arith) (omega arith) q) (widen l₁ (omega arith) q′))
+
+  joinGives : {p₁ n n₂ : ℕ} {ra rb : Evaluated} {o : Op} → pc ≤ p₁ → p₁ ≤ p₂ → Gives k deck pc p₁ s c m n ra → ((v : ℤ) (m′ : ℕ) → Gives k deck p₁ p₂ (v ∷ s) c m′ n₂ rb)
+      → getElem? (codeOf deck) p₂ ≡ some (OP o) → Gives k deck pc (suc p₂) s c m (joinedSteps ra rb n n₂) (joined (ruled k) o ra rb)
+  joinGives l₁ l₂ (stops p z q) g f = stops p (omega arith) (widen (omega arith) (omega arith) q)
+  joinGives l₁ l₂ (gives p z q) g f = secondGives l₁ l₂ p z q (g _ _) f
+
+  negGives : {n : ℕ} {r : Evaluated} → Gives k deck pc p₂ s c m n r → getElem? (codeOf deck) p₂ ≡ some NEG → Gives k deck pc (suc p₂) s c m (andOne r n) (negated r)
+  negGives (gives p z q) f = gives (and-then p (on fit f refl stay)) (omega arith) (widen (omega arith) (omega arith) q)
+  negGives (stops p z q) f = stops p (omega arith) (widen (omega arith) (omega arith) q)
+
+-- ---- elements: the entry finds the place that the subscripts find
+
+-- a constant is entered as 0 times a cell, and the constant
+constant-value : (x y : ℤ) → pos 0 *ℤ x +ℤ y ≡ y
+constant-value x y = ap (λ z. z +ℤ y) (zero-*ℤ x) ∙ +ℤ-idl y
+
+module _ (deck : List Statement) {env : Values} {c : List ℤ} (h : Holds (heldOf deck) env c) where
+  subscript-value : (s : Subscript) → Known (heldOf deck) (subscriptNames s) → subscriptValue c (subscriptEntry (heldOf deck) (dimsOf deck) s) ≡ subscript env s
+  subscript-value (constant d) f = constant-value (cell c 0) (pos (valueOf d))
+  subscript-value (linear m v a) f = rw (h .same (plain v) (f .has v here))
+
+  pub place-value : (v : Name) (s : Subscripts) → Known (heldOf deck) (subscriptsNames s) → placeOf c (elementEntry (heldOf deck) (dimsOf deck) v s) ≡ placeIn env (dimsOf deck v) s
+  place-value v (one s) f = simp (subscript-value s f, constant-value (cell c 0) (pos 1))
+  place-value v (two s t) f = simp (subscript-value s (known-left (subscriptNames t) f), subscript-value t (known-right (subscriptNames s) f))
+
+  elem-sim : {k pc m : ℕ} {s : List ℤ} → Fitting deck → (v : Name) (ss : Subscripts) → getElem? (codeOf deck) pc ≡ some (LDE (elementEntry (heldOf deck) (dimsOf deck) v ss))
+      → (o : Option ℕ) → placeOf c (elementEntry (heldOf deck) (dimsOf deck) v ss) ≡ o → placeIn env (dimsOf deck v) ss ≡ o → Gives k deck pc (suc pc) s c m 1 (elementValue env v o)
+  elem-sim {pc = pc} {m = m} {s = s} fit v ss a none e i =
+      stops (out fit a (ap (λ o. elementLoaded o (elementEntry (heldOf deck) (dimsOf deck) v ss) (state pc s c m)) e)) (omega arith) (quiet refl)
+  elem-sim {pc = pc} {m = m} {s = s} fit v ss a (some p) e i =
+      let q : cell c (baseOf (heldOf deck) v + p) ≡ env (elementAt v p) = h .same (elementAt v p) (element-has deck env v ss p i) in
+      gives (on fit a (ap (λ o. elementLoaded o (elementEntry (heldOf deck) (dimsOf deck) v ss) (state pc s c m)) e ∙ ap (λ x. go (state (suc pc) (x ∷ s) c m)) q) stay) (omega arith) (quiet refl)
+
+-- moved to an end that is written in another way
+moved : {k : ℕ} {deck : List Statement} {pc p p′ m n : ℕ} {s c : List ℤ} {r : Evaluated} → p ≡ p′ → Gives k deck pc p s c m n r → Gives k deck pc p′ s c m n r
+moved {k} {deck} {pc} {m = m} {n = n} {s = s} {c = c} {r = r} e g = subst (λ p. Gives k deck pc p s c m n r) e g
+
+abbrev code : List Statement → Expr → List Instr
+code deck e = exprCode (heldOf deck) (dimsOf deck) e
+
+module _ {k : ℕ} {deck : List Statement} {env : Values} {c : List ℤ} (fit : Fitting deck) (h : Holds (heldOf deck) env c) where
+  pub expr-sim : (e : Expr) → Known (heldOf deck) (exprPlain e) → (pc : ℕ) → At (codeOf deck) pc (exprCode (heldOf deck) (dimsOf deck) e)
+      → (s : List ℤ) (m : ℕ) → Gives k deck pc (pc + length (exprCode (heldOf deck) (dimsOf deck) e)) s c m (exprSteps (ruled k) deck env e) (eval (ruled k) deck env e)
+  expr-sim (con z) f pc a s m = moved (omega arith) (gives (on fit (at-head a) refl stay) (omega arith) (quiet refl))
+  expr-sim (var x) f pc a s m =
+      rw (← h .same (plain x) (f .has x here)) (moved (omega arith) (gives (on fit (at-head a) refl stay) (omega arith) (quiet refl)))
+  expr-sim (elm v ss) f pc a s m = moved (omega arith) (elem-sim deck h fit v ss (at-head a) (placeIn env (dimsOf deck v) ss) (place-value deck h v ss f) refl)
+  expr-sim (neg e) f pc a s m =
+      moved (simp length-append (omega arith)) (negGives fit (expr-sim e f pc (at-left (code deck e) _ a) s m) (at-head (at-right (code deck e) a)))
+  expr-sim (par e) f pc a s m = expr-sim e f pc a s m
+  expr-sim (bin o e₁ e₂) f pc a s m =
+      let a₂ = at-right (code deck e₁) a in
+      moved (simp length-append (omega arith)) (joinGives fit (omega arith) (omega arith) (expr-sim e₁ (known-left (exprPlain e₂) f) pc (at-left (code deck e₁) _ a) s m)
+      (λ v m′. expr-sim e₂ (known-right (exprPlain e₁) f) _ (at-left (code deck e₂) _ a₂) (v ∷ s) m′) (at-head (at-right (code deck e₂) a₂)))

@@ -1,0 +1,278 @@
+-- What was read as a statement is as the grammar says: its names, constants, exits, and a DO's parameters.
+-- Assumes nothing.
+use mathlib.Core.Path.{_≡_, refl, sym, subst}
+use mathlib.Core.List.{List, [], _∷_, _++_}
+use mathlib.Core.Bool.{Bool, true, false, cond}
+use mathlib.Core.Option.{Option, some, none}
+use Prim.Native.Nat.{ℕ, _+_, _≤_}
+use native.Mathlib.Omega.{arith}
+use lib.ListN.{length, take}
+use lib.Dec.{leb, eqb}
+use borrow.Author.Tests.{leb-true, eqb-true}
+use Rattle.rules_object.specs.Limits.{limits}
+use Rattle.rules_deck.specs.Trees.{Name, Digits, Expr, con, var, optional, Array, array, arrayNames, arrayConstants, Form, assign, goTo, computed, ifs, loop, continue, stop, end, dimension, formNames, formConstants, formExits, formLast}
+use Rattle.rules_deck.specs.Tokens.{leftParen, rightParen, comma, equals, wordContinue, wordStop, wordEnd, Found, found, bad, Reader, give, afterWord, allOf, whole}
+use Rattle.rules_deck.specs.Grammar.{assignment, plainGoTo, rightExits, computedGoTo, arithmeticIf, parameter, doLoop, arrayShape, dimensions, readAssignment, readGoTo, readComputed, readIf, readDo, readContinue, readStop, readEnd, readDimension, present, readings, firstOf, formOf}
+use Rattle.rules_deck.proofs.Readers.{All, all-none, all-more, all-append, all-one, IsDigits, IsName, NotEquals, Any, both-true, Sound, sound, sound-bad, Good, good-then, good-give, good-give-if, good-after, good-word, good-choose, good-listed, good-any, good-number, good-name}
+use Rattle.rules_deck.proofs.ReadTrees.{Right, right-join, RightExpr, good-place, good-expression}
+
+-- a DO's parameter is a c or a v
+pub data IsParameter : Expr → Type 0 where
+  a-constant : {c : Digits} → IsParameter (con c)
+  a-variable : {v : Name} → IsParameter (var v)
+
+pub data MaybeParameter : Option Expr → Type 0 where
+  not-written : MaybeParameter none
+  is-written : {e : Expr} → IsParameter e → MaybeParameter (some e)
+
+-- the parts of a form that have a type of their own
+abbrev pub Parameters : Form → Type 0
+Parameters (assign t e) = Unit {0}
+Parameters (goTo n) = Unit {0}
+Parameters (computed ns v) = Unit {0}
+Parameters (ifs e a b c) = Unit {0}
+Parameters (loop n v p q r) = IsParameter p × IsParameter q × MaybeParameter r
+Parameters continue = Unit {0}
+Parameters stop = Unit {0}
+Parameters end = Unit {0}
+Parameters (dimension arrays) = Unit {0}
+
+abbrev pub ExitCount : Form → Type 0
+ExitCount (assign t e) = Unit {0}
+ExitCount (goTo n) = Unit {0}
+ExitCount (computed ns v) = (limits .fewestExits ≤ length ns) × (length ns ≤ limits .mostExits)
+ExitCount (ifs e a b c) = Unit {0}
+ExitCount (loop n v p q r) = Unit {0}
+ExitCount continue = Unit {0}
+ExitCount stop = Unit {0}
+ExitCount end = Unit {0}
+ExitCount (dimension arrays) = Unit {0}
+
+pub record RightForm (f : Form) : Type 0 where
+  pub names : All IsName (formNames f)
+  pub constants : All IsDigits (formConstants f)
+  pub exits : All IsDigits (formExits f)
+  pub last : All IsDigits (formLast f)
+  pub parameters : Parameters f
+  pub exitCount : ExitCount f
+
+-- ---- each form
+
+pub good-assignment : Good Any RightForm assignment
+unfolding assignment formNames formConstants formExits formLast
+good-assignment =
+    good-then (good-any good-place) (λ t p. good-after equals tt (good-then (good-any good-expression) (λ e q.
+    let r = right-join p q in
+    good-give _ record { names = r .0; constants = r .1; exits = all-none; last = all-none; parameters = tt; exitCount = tt })))
+
+pub good-go-to : Good NotEquals RightForm plainGoTo
+unfolding plainGoTo formNames formConstants formExits formLast
+good-go-to =
+    good-word word (good-then good-number (λ n q.
+    good-give _ record { names = all-none; constants = all-none; exits = all-one q; last = all-none; parameters = tt; exitCount = tt }))
+  where
+    word : All NotEquals (71 ∷ 79 ∷ 84 ∷ 79 ∷ [])
+    word = all-more refl (all-more refl (all-more refl (all-one refl)))
+
+pub good-computed : Good NotEquals RightForm computedGoTo
+unfolding computedGoTo rightExits formNames formConstants formExits formLast
+good-computed =
+    good-word word (good-after leftParen refl (good-then (good-listed refl good-number) (λ ns qs.
+    good-after rightParen refl (good-after comma refl (good-then good-name (λ v q. good-give-if _ _ (λ e.
+    let two = both-true (leb (limits .fewestExits) (length ns)) (leb (length ns) (limits .mostExits)) e in
+    record {
+      names = all-one q;
+      constants = all-none;
+      exits = qs;
+      last = all-none;
+      parameters = tt;
+      exitCount = (leb-true (limits .fewestExits) (length ns) (two .0), leb-true (length ns) (limits .mostExits) (two .1));
+    })))))))
+  where
+    word : All NotEquals (71 ∷ 79 ∷ 84 ∷ 79 ∷ [])
+    word = all-more refl (all-more refl (all-more refl (all-one refl)))
+
+pub good-if : Good NotEquals RightForm arithmeticIf
+unfolding arithmeticIf formNames formConstants formExits formLast
+good-if =
+    good-word (all-more refl (all-one refl)) (good-after leftParen refl (good-then good-expression (λ e q. good-after rightParen refl
+    (good-then good-number (λ a p. good-after comma refl (good-then good-number (λ b p′. good-after comma refl (good-then good-number (λ c p″.
+    good-give _ record {
+      names = q .0;
+      constants = q .1;
+      exits = all-more p (all-more p′ (all-one p″));
+      last = all-none;
+      parameters = tt;
+      exitCount = tt;
+    })))))))))
+
+pub good-parameter : Good NotEquals (λ e. IsParameter e × RightExpr e) parameter
+unfolding parameter
+good-parameter =
+    good-choose _ (good-then good-number (λ c q. good-give _ (a-constant, (all-none, all-one q))))
+    (good-then good-name (λ v q. good-give _ (a-variable, (all-one q, all-none))))
+
+pub good-do : Good Any RightForm doLoop
+unfolding doLoop formNames formConstants formExits formLast
+good-do =
+    good-word (all-more tt (all-one tt)) (good-then (good-any good-number) (λ n qn. good-then (good-any good-name) (λ v qv.
+    good-after equals tt (good-then (good-any good-parameter) (λ p qp. good-after comma tt (good-then (good-any good-parameter) (λ q qq.
+    good-choose _
+    (good-after comma tt (good-then (good-any good-parameter) (λ r qr.
+    let three = right-join (qp .1) (right-join (qq .1) (qr .1)) in
+    good-give _ record {
+      names = all-more qv (three .0);
+      constants = three .1;
+      exits = all-none;
+      last = all-one qn;
+      parameters = (qp .0, qq .0, is-written (qr .0));
+      exitCount = tt;
+    })))
+    (let two = right-join (qp .1) (right-join (qq .1) (all-none, all-none)) in
+    good-give _ record {
+      names = all-more qv (two .0);
+      constants = two .1;
+      exits = all-none;
+      last = all-one qn;
+      parameters = (qp .0, qq .0, not-written);
+      exitCount = tt;
+    }))))))))
+
+abbrev RightArray : Array → Type 0
+RightArray (array v r c) = IsName v × All IsDigits (r ∷ optional c)
+
+good-array : Good NotEquals RightArray arrayShape
+unfolding arrayShape
+good-array =
+    good-then good-name (λ v q. good-after leftParen refl (good-then good-number (λ r p. good-choose _
+    (good-after comma refl (good-then good-number (λ c p′. good-after rightParen refl (good-give _ (q, all-more p (all-one p′))))))
+    (good-after rightParen refl (good-give _ (q, all-one p))))))
+
+right-arrays : (arrays : List Array) → All RightArray arrays → Right (arrayNames arrays) (arrayConstants arrays)
+right-arrays [] all-none = (all-none, all-none)
+right-arrays (array v r c ∷ others) (all-more q qs) = add (q .1) (right-arrays others qs)
+  where
+    add : All IsDigits (r ∷ optional c) → Right (arrayNames others) (arrayConstants others) → Right (v ∷ arrayNames others) (r ∷ (optional c ++ arrayConstants others))
+    add (all-more p ps) rest = (all-more (q .0) (rest .0), all-more p (all-append ps (rest .1)))
+
+pub good-dimension : Good NotEquals RightForm dimensions
+unfolding dimensions formNames formConstants formExits formLast
+good-dimension =
+    good-word word (good-then (good-listed refl good-array) (λ arrays q.
+    let r = right-arrays arrays q in
+    good-give _ record { names = r .0; constants = r .1; exits = all-none; last = all-none; parameters = tt; exitCount = tt }))
+  where
+    word : All NotEquals (68 ∷ 73 ∷ 77 ∷ 69 ∷ 78 ∷ 83 ∷ 73 ∷ 79 ∷ 78 ∷ [])
+    word =
+        all-more refl (all-more refl (all-more refl (all-more refl (all-more refl (all-more refl (all-more refl (all-more refl (all-one refl))))))))
+
+-- CONTINUE, STOP and END have no parts
+module _ (f : Form) (names-none : formNames f ≡ []) (constants-none : formConstants f ≡ []) (exits-none : formExits f ≡ []) (last-none : formLast f ≡ []) where
+  right-bare : Parameters f → ExitCount f → RightForm f
+  right-bare p c =
+      record {
+        names = subst (All IsName) (sym names-none) all-none;
+        constants = subst (All IsDigits) (sym constants-none) all-none;
+        exits = subst (All IsDigits) (sym exits-none) all-none;
+        last = subst (All IsDigits) (sym last-none) all-none;
+        parameters = p;
+        exitCount = c;
+      }
+
+pub right-continue : RightForm continue
+unfolding formNames formConstants formExits formLast
+right-continue = right-bare continue refl refl refl refl tt tt
+
+pub right-stop : RightForm stop
+unfolding formNames formConstants formExits formLast
+right-stop = right-bare stop refl refl refl refl tt tt
+
+pub right-end : RightForm end
+unfolding formNames formConstants formExits formLast
+right-end = right-bare end refl refl refl refl tt tt
+
+pub good-continue : Good NotEquals RightForm (afterWord wordContinue (give continue))
+good-continue =
+    good-word (all-more refl (all-more refl (all-more refl (all-more refl (all-more refl (all-more refl (all-more refl (all-one refl))))))))
+    (good-give _ right-continue)
+
+pub good-stop : Good NotEquals RightForm (afterWord wordStop (give stop))
+good-stop = good-word (all-more refl (all-more refl (all-more refl (all-one refl)))) (good-give _ right-stop)
+
+pub good-end : Good NotEquals RightForm (afterWord wordEnd (give end))
+good-end = good-word (all-more refl (all-more refl (all-one refl))) (good-give _ right-end)
+
+-- ---- the whole text
+
+pub whole-found : {A : Type 0} (r : Reader A) (s : List ℕ) (a : A) → whole r s ≡ some a → r s ≡ found a (length s)
+unfolding whole allOf
+whole-found {A} r s a e = go (r s) e
+  where
+    go : (o : Found A) → allOf (length s) o ≡ some a → o ≡ found a (length s)
+    go bad q = cc
+    go (found b k) q = when (eqb k (length s)) refl q
+      where
+        when : (t : Bool) → eqb k (length s) ≡ t → cond t (some b) none ≡ some a → found b k ≡ found a (length s)
+        when true p q =
+            let same : k ≡ length s = eqb-true k (length s) p in
+            let is : b ≡ a = cc in
+            cc
+        when false p q = cc
+
+pub sound-is : {A : Type 0} {P : ℕ → Type 0} {Q : A → Type 0} (s : List ℕ) (o : Found A) (a : A) (k : ℕ) → Sound P Q s o → o ≡ found a k → Q a × All P (take k s)
+sound-is {A} {P} {Q} s (found b _) a k (sound j q l p) e =
+    let same : b ≡ a = cc in
+    let long : j ≡ k = cc in
+    (subst Q same q, subst (λ (n : ℕ). All P (take n s)) long p)
+sound-is s bad a k sound-bad e =
+    let clash : _≡_ {A = ℕ} 0 1 = cc in
+    absurd (omega arith)
+
+-- what a reader gives of the whole text, and over what bytes
+pub whole-good : {A : Type 0} {P : ℕ → Type 0} {Q : A → Type 0} (r : Reader A) (s : List ℕ) (a : A) → Good P Q r → whole r s ≡ some a → Q a × All P (take (length s) s)
+whole-good r s a g e = sound-is s (r s) a (length s) (g .on s) (whole-found r s a e)
+
+abbrev Gives : Option Form → Type 0
+Gives o = (f : Form) → o ≡ some f → RightForm f
+
+first-right : (os : List (Option Form)) (f : Form) → All Gives os → firstOf (present os) ≡ some f → RightForm f
+unfolding firstOf present
+first-right [] f all-none e =
+    let clash : _≡_ {A = ℕ} 0 1 = cc in
+    absurd (omega arith)
+first-right (none ∷ os) f (all-more p ps) e = first-right os f ps e
+first-right (some g ∷ os) f (all-more p ps) e = p f e
+
+-- WHAT WAS READ IS RIGHT
+pub read-right : (s : List ℕ) (f : Form) → formOf s ≡ some f → RightForm f
+unfolding formOf readings readAssignment readGoTo readComputed readIf readDo readContinue readStop readEnd readDimension
+read-right s f e =
+    first-right _ f
+    (all-more (λ g q. whole-good assignment s g good-assignment q .0)
+    (all-more (λ g q. whole-good plainGoTo s g good-go-to q .0)
+    (all-more (λ g q. whole-good computedGoTo s g good-computed q .0)
+    (all-more (λ g q. whole-good arithmeticIf s g good-if q .0)
+    (all-more (λ g q. whole-good doLoop s g good-do q .0)
+    (all-more (λ g q. whole-good _ s g good-continue q .0)
+    (all-more (λ g q. whole-good _ s g good-stop q .0)
+    (all-more (λ g q. whole-good _ s g good-end q .0)
+    (all-one (λ g q. whole-good dimensions s g good-dimension q .0))))))))))
+    e
+
+pub read-names : (s : List ℕ) (f : Form) → formOf s ≡ some f → All IsName (formNames f)
+read-names s f e = read-right s f e .names
+
+pub read-constants : (s : List ℕ) (f : Form) → formOf s ≡ some f → All IsDigits (formConstants f)
+read-constants s f e = read-right s f e .constants
+
+pub read-exits : (s : List ℕ) (f : Form) → formOf s ≡ some f → All IsDigits (formExits f)
+read-exits s f e = read-right s f e .exits
+
+pub read-last : (s : List ℕ) (f : Form) → formOf s ≡ some f → All IsDigits (formLast f)
+read-last s f e = read-right s f e .last
+
+pub read-parameters : (s : List ℕ) (f : Form) → formOf s ≡ some f → Parameters f
+read-parameters s f e = read-right s f e .parameters
+
+pub read-exit-count : (s : List ℕ) (f : Form) → formOf s ≡ some f → ExitCount f
+read-exit-count s f e = read-right s f e .exitCount

@@ -1,0 +1,119 @@
+-- What is known of a deck that compiling accepts. These are facts that theorems use: no outcome is defined by them.
+-- Assumes nothing.
+use mathlib.Core.Path.{_≡_}
+use Prim.Native.Nat.{ℕ, zero, suc, _+_, _*_, _≤_, _<_}
+use mathlib.Core.Bool.{Bool, true, false}
+use mathlib.Core.List.{List, [], _∷_}
+use mathlib.Core.Option.{Option, none, some}
+use lib.ListN.{length, getElem?, take}
+use Rattle.number.specs.Number.{Op, add, sub, mul, div}
+use Rattle.rules_object.specs.Limits.{limits}
+use Rattle.rules_deck.specs.Trees.{Digits, valueOf, Subscripts, Name, Expr, con, var, elm, neg, par, bin, Form, assign, goTo, computed, ifs, loop, continue, stop, end, dimension, Statement, formExits}
+use Rattle.rules_deck.specs.Cards.{textLength, characters, rightDigits}
+use Rattle.rules_deck.specs.Grammar.{formOf}
+use Rattle.rules_deck.specs.Deck.{positionOf, Do, dosOf, endings}
+use Rattle.rules_deck.specs.Translation.{cellCount, heldOf, codeOf, noTables, tablesOf, namesFrom}
+use Rattle.rules_deck.specs.Judge.{Taken, nothingTaken, takes, right11, right12, right13, right14, right15, right16, right18}
+use Rattle.rules_deck.specs.Whole.{lastOf, judgeDeck}
+
+pub data Among {A : Type 0} (x : A) : List A → Type 0 where
+  here : {xs : List A} → Among x (x ∷ xs)
+  there : {y : A} {xs : List A} → Among x xs → Among x (y ∷ xs)
+
+-- ---- as compiling finds it
+
+abbrev pub takenFrom : ℕ → List Statement → Taken → Taken
+takenFrom q [] t = t
+takenFrom q (s ∷ more) t = takenFrom (suc q) more (takes q (s .form) t)
+
+-- what the statements before position q have taken
+unfoldable pub takenBefore : List Statement → ℕ → Taken
+takenBefore deck q = takenFrom 0 (take q deck) nothingTaken
+
+-- the statement at position q passed 10 to 18
+pub record JudgedAt (k : ℕ) (deck : List Statement) (q : ℕ) (s : Statement) : Type 0 where
+  pub text : List ℕ
+  -- of at most a first card and its continuations
+  pub short : length text ≤ (1 + limits .continuations) * textLength
+  pub written : characters text ≡ true
+  pub form : formOf text ≡ some (s .form)
+  pub passes11 : right11 (s .form) ≡ true
+  pub passes12 : right12 k (s .form) ≡ true
+  pub passes13 : right13 (s .form) ≡ true
+  pub passes14 : right14 (s .form) ≡ true
+  pub passes15 : right15 (takenBefore deck q .held) (s .form) ≡ true
+  pub passes16 : right16 (takenBefore deck q .held) (s .form) ≡ true
+  pub passes18 : right18 (takenBefore deck (suc q)) ≡ true
+  pub number : s .number ≤ limits .statementNumber
+
+pub record Accepted (k : ℕ) (deck : List Statement) : Type 0 where
+  pub digits : rightDigits k ≡ true
+  pub count : length deck ≤ limits .statements
+  pub judged : (q : ℕ) (s : Statement) → getElem? deck q ≡ some s → JudgedAt k deck q s
+  pub whole : judgeDeck deck ≡ none
+
+-- ---- as theorems use it
+
+-- each table of its object is within its limit
+pub record Fitting (deck : List Statement) : Type 0 where
+  pub cells : cellCount (heldOf deck) ≤ limits .cells
+  pub code : length (codeOf deck) ≤ limits .code
+  pub constants : length (tablesOf noTables (codeOf deck) .constants) ≤ limits .constants
+  pub elements : length (tablesOf noTables (codeOf deck) .elements) ≤ limits .elements
+  pub exits : length (tablesOf noTables (codeOf deck) .exits) ≤ limits .exits
+  pub dos : length (dosOf deck) ≤ limits .dos
+  pub names : length (namesFrom 0 (heldOf deck)) ≤ limits .names
+
+-- position j is in the range of the DO d: after the DO through its last statement
+pub record InRange (deck : List Statement) (d : Do) (j : ℕ) : Type 0 where
+  pub after : d .position < j
+  pub through : j ≤ lastOf deck d
+
+-- ranges lie one in another, and no jump leads into one from outside
+pub record Nested (deck : List Statement) : Type 0 where
+  -- a DO that ends with the statement at j has it as its last statement, and it comes after the DO
+  pub last : (j : ℕ) (s : Statement) → getElem? deck j ≡ some s → (d : Do) → Among d (endings deck (s .number)) → lastOf deck d ≡ j
+  pub after : (d : Do) → Among d (dosOf deck) → d .position < lastOf deck d
+  pub inner : (d outer : Do) → Among d (dosOf deck) → Among outer (dosOf deck) → InRange deck outer (d .position) → lastOf deck d ≤ lastOf deck outer
+  pub jumps : (j : ℕ) (s : Statement) → getElem? deck j ≡ some s → (n : Digits) → Among n (formExits (s .form)) → (d : Do) → Among d (dosOf deck) →
+      InRange deck d (positionOf deck (valueOf n)) → InRange deck d j
+
+-- ---- the shape that the grammar gives an expression: sums of products of factors
+
+mutual
+  pub data IsSum : Expr → Type 0 where
+    first : {e : Expr} → IsProduct e → IsSum e
+    minus : {e : Expr} → IsProduct e → IsSum (neg e)
+    plus : {a b : Expr} → IsSum a → IsProduct b → IsSum (bin add a b)
+    less : {a b : Expr} → IsSum a → IsProduct b → IsSum (bin sub a b)
+
+  pub data IsProduct : Expr → Type 0 where
+    only : {e : Expr} → IsFactor e → IsProduct e
+    times : {a b : Expr} → IsProduct a → IsFactor b → IsProduct (bin mul a b)
+    over : {a b : Expr} → IsProduct a → IsFactor b → IsProduct (bin div a b)
+
+  pub data IsFactor : Expr → Type 0 where
+    constant : {c : Digits} → IsFactor (con c)
+    name : {v : Name} → IsFactor (var v)
+    element : {v : Name} {s : Subscripts} → IsFactor (elm v s)
+    parens : {e : Expr} → IsSum e → IsFactor (par e)
+
+-- a DO's parameter is a constant or a name
+pub data IsParameter : Expr → Type 0 where
+  constant : {c : Digits} → IsParameter (con c)
+  name : {v : Name} → IsParameter (var v)
+
+abbrev pub OptionalParameter : Option Expr → Type 0
+OptionalParameter none = Unit {0}
+OptionalParameter (some e) = IsParameter e
+
+abbrev pub Shaped : Form → Type 0
+Shaped (assign t e) = IsSum e
+Shaped (goTo n) = Unit {0}
+Shaped (computed ns v) = (limits .fewestExits ≤ length ns) × (length ns ≤ limits .mostExits)
+Shaped (ifs e a b c) = IsSum e
+Shaped (loop n v p₁ p₂ p₃) = IsParameter p₁ × IsParameter p₂ × OptionalParameter p₃
+Shaped continue = Unit {0}
+Shaped stop = Unit {0}
+Shaped end = Unit {0}
+Shaped (dimension arrays) = Unit {0}

@@ -1,0 +1,48 @@
+-- What a caller is told of a deck that is compiled and run with a zero store for 1,000,000 steps, and what its meaning comes to. Examples are said in these words.
+-- Assumes nothing.
+use Prim.Native.Nat.{ℕ, zero, suc}
+use mathlib.Core.Bool.{Bool, true, false, cond}
+use mathlib.Core.List.{List, [], _∷_, map}
+use mathlib.Core.Option.{Option, none, some}
+use lib.Dec.{eqb}
+use lib.ListN.{replicate}
+use lib.IntN.{ℤ, pos}
+use Rattle.rules_object.specs.Runs.{haltNumber, Out, go, halt}
+use Rattle.rules_object.specs.Object.{Object}
+use Rattle.rules_object.specs.Bytes.{readObject}
+use Rattle.rules_object.specs.Calls.{Refusal, refusal, accepted, Ran, running, Written}
+use Rattle.rules_object.specs.Safe.{freshLent}
+use Rattle.rules_deck.specs.Meaning.{Key, Values, Standing}
+use Rattle.rules_deck.specs.Compile.{compiling}
+use Rattle.rules_deck.specs.Seen.{meaningOf, objectIn, namedValues}
+
+pub data Answer : Type 0 where
+  refused : ℕ → ℕ → Answer
+  -- halt, steps, the sequence number of the first drop, and some values
+  ran : ℕ → ℕ → ℕ → List ℤ → Answer
+
+abbrev pub zeroStore : Option Object → List ℤ
+zeroStore none = []
+zeroStore (some o) = replicate (o .cells) (pos 0)
+
+abbrev pub told : List ℕ → List Key → Ran → Answer
+told object keys r = ran (r .halt) (r .steps) (r .sequence) (map (namedValues object (r .store)) keys)
+
+abbrev pub runObject : List ℕ → List Key → Answer
+runObject object keys = told object keys (running object (zeroStore (readObject object)) freshLent 1000000)
+
+abbrev pub runWritten : Written → List Key → Bool → Answer
+runWritten w keys true = runObject (objectIn w) keys
+runWritten w keys false = refused (w .refusal .number) (w .refusal .place)
+
+-- k, a deck, the room for its object, and the names whose values are asked
+unfoldable pub answered : ℕ → List ℕ → ℕ → List Key → Answer
+answered k deck room keys = runWritten (compiling k deck (replicate room 0)) keys (eqb (compiling k deck (replicate room 0) .refusal .number) 0)
+
+-- the meaning from zero values: halt, first loss and values; it has no steps
+abbrev pub toldMeaning : List Key → Out Standing → Answer
+toldMeaning keys (go m) = ran 2 0 (m .lost) (map (m .values) keys)
+toldMeaning keys (halt h m) = ran (haltNumber h) 0 (m .lost) (map (m .values) keys)
+
+unfoldable pub meant : ℕ → List ℕ → List Key → Answer
+meant k deck keys = toldMeaning keys (meaningOf k deck (λ x. pos 0) 1000)

@@ -1,0 +1,205 @@
+-- Refusals of one statement, 11 to 18: tests on what was read, and the tables that it takes room in. 01 "Refusal numbers".
+-- Assumes nothing.
+use Prim.Native.Nat.{ℕ, zero, suc, _+_, _*_}
+use mathlib.Core.Bool.{Bool, true, false, _&&_, _||_, not, cond}
+use mathlib.Core.List.{List, [], _∷_, _++_, map}
+use mathlib.Core.Option.{Option, none, some}
+use lib.Dec.{leb, ltb, eqb}
+use lib.ListN.{length}
+use Rattle.rules_object.specs.Limits.{limits}
+use Rattle.rules_object.specs.Calls.{all, orElse}
+use Rattle.rules_deck.specs.Trees.{Name, Digits, valueOf, Subscripts, one, two, Array, array, Expr, con, var, elm, neg, par, bin, Target, cell, element, written, Form, assign, goTo, computed, ifs, loop, continue, stop, end, dimension, formNames, formConstants, formExits, formLast, formLevels}
+use Rattle.rules_deck.specs.Deck.{sameName, Dims, Declared, declare, arraysIn}
+use Rattle.rules_deck.specs.Meaning.{third}
+use Rattle.rules_deck.specs.Translation.{Held, name, hidden, cellCount, isName, isArray, holds, brings, formPlain, pool}
+
+-- ---- 11 to 14
+
+-- at most six characters, the first I to N
+abbrev pub startsInteger : Name → Bool
+startsInteger [] = false
+startsInteger (c ∷ v) = leb 73 c && leb c 78
+
+unfoldable pub right11 : Form → Bool
+right11 f = all (λ v. leb (length v) (limits .nameLength) && startsInteger v) (formNames f)
+
+-- at most k digits as written: leading zeros count
+unfoldable pub right12 : ℕ → Form → Bool
+right12 k f = all (λ c. leb (length c) k) (formConstants f)
+
+unfoldable pub right13 : Form → Bool
+right13 f = all (λ n. leb 1 (valueOf n) && leb (valueOf n) (limits .statementNumber)) (formExits f ++ formLast f)
+
+unfoldable pub right14 : Form → Bool
+right14 f = leb (formLevels f) (limits .parentheses)
+
+-- ---- 15: dimension 0; array's name already seen or ending in F
+
+abbrev pub endsInF : Name → Bool
+endsInF [] = false
+endsInF (c ∷ []) = eqb c 70
+endsInF (c ∷ d ∷ v) = endsInF (d ∷ v)
+
+abbrev pub seen : List Held → Name → Bool
+seen held v = holds (isName v) held || holds (isArray v) held
+
+abbrev pub someCells : Array → Bool
+someCells (array v r none) = leb 1 (valueOf r)
+someCells (array v r (some c)) = leb 1 (valueOf r) && leb 1 (valueOf c)
+
+-- earlier in the same DIMENSION counts as seen
+abbrev pub rightArrays : List Held → List Array → Bool
+rightArrays held [] = true
+rightArrays held (a ∷ more) =
+    someCells a && (not (seen held (declare a .name)) && (not (endsInF (declare a .name)) && rightArrays (held ++ (Held.array (declare a) ∷ [])) more))
+
+unfoldable pub right15 : List Held → Form → Bool
+right15 held f = rightArrays held (arraysIn f)
+
+-- ---- 16: element of an undeclared array or wrong subscript count; array name bare
+
+pub record Reference : Type 0 where
+  pub name : Name
+  pub subscripts : Subscripts
+
+abbrev pub exprReferences : Expr → List Reference
+exprReferences (con c) = []
+exprReferences (var v) = []
+exprReferences (elm v s) = record { name = v; subscripts = s } ∷ []
+exprReferences (neg e) = exprReferences e
+exprReferences (par e) = exprReferences e
+exprReferences (bin o a b) = exprReferences a ++ exprReferences b
+
+abbrev pub targetReferences : Target → List Reference
+targetReferences (cell v) = []
+targetReferences (element v s) = record { name = v; subscripts = s } ∷ []
+
+-- in order of emission: the expression's before the target's
+unfoldable pub formReferences : Form → List Reference
+formReferences (assign t e) = exprReferences e ++ targetReferences t
+formReferences (goTo n) = []
+formReferences (computed ns v) = []
+formReferences (ifs e a b c) = exprReferences e
+formReferences (loop n v p₁ p₂ p₃) = exprReferences p₁ ++ (exprReferences p₂ ++ written exprReferences p₃)
+formReferences continue = []
+formReferences stop = []
+formReferences end = []
+formReferences (dimension arrays) = []
+
+-- as many subscripts as dimensions: columns 0 stand for one
+abbrev pub rightCount : Dims → Subscripts → Bool
+rightCount d (one s) = eqb (d .columns) 0
+rightCount d (two s t) = leb 1 (d .columns)
+
+abbrev pub rightReference : List Held → Reference → Bool
+rightReference [] e = false
+rightReference (name v ∷ held) e = rightReference held e
+rightReference (Held.array a ∷ held) e = cond (sameName (a .name) (e .name)) (rightCount (a .dims) (e .subscripts)) (rightReference held e)
+rightReference (hidden q ∷ held) e = rightReference held e
+
+unfoldable pub right16 : List Held → Form → Bool
+right16 held f = all (rightReference held) (formReferences f) && all (λ v. not (holds (isArray v) held)) (formPlain f)
+
+-- ---- 18: this statement takes a table over its limit
+
+-- what the statements so far have taken
+pub record Taken : Type 0 where
+  pub held : List Held
+  pub constants : List ℕ
+  pub elements : ℕ
+  pub exits : ℕ
+  pub dos : ℕ
+  pub code : ℕ
+
+abbrev pub nothingTaken : Taken
+nothingTaken = record { held = []; constants = []; elements = 0; exits = 0; dos = 0; code = 0 }
+
+-- constants in the order of emission; those in subscripts and dimensions are not pooled
+abbrev pub exprPooled : Expr → List ℕ
+exprPooled (con c) = valueOf c ∷ []
+exprPooled (var v) = []
+exprPooled (elm v s) = []
+exprPooled (neg e) = exprPooled e
+exprPooled (par e) = exprPooled e
+exprPooled (bin o a b) = exprPooled a ++ exprPooled b
+
+unfoldable pub formPooled : Form → List ℕ
+formPooled (assign t e) = exprPooled e
+formPooled (goTo n) = []
+formPooled (computed ns v) = []
+formPooled (ifs e a b c) = exprPooled e
+formPooled (loop n v p₁ p₂ p₃) = exprPooled p₁ ++ (exprPooled p₂ ++ exprPooled (third p₃))
+formPooled continue = []
+formPooled stop = []
+formPooled end = []
+formPooled (dimension arrays) = []
+
+abbrev pub poolAll : List ℕ → List ℕ → List ℕ
+poolAll pooled [] = pooled
+poolAll pooled (c ∷ cs) = poolAll (pool pooled c) cs
+
+abbrev pub exprWords : Expr → ℕ
+exprWords (con c) = 1
+exprWords (var v) = 1
+exprWords (elm v s) = 1
+exprWords (neg e) = exprWords e + 1
+exprWords (par e) = exprWords e
+exprWords (bin o a b) = exprWords a + exprWords b + 1
+
+-- words of code; a DO brings its DOE
+unfoldable pub formWords : Form → ℕ
+formWords (assign t e) = exprWords e + 1
+formWords (goTo n) = 1
+formWords (computed ns v) = 2
+formWords (ifs e a b c) = exprWords e + 1
+formWords (loop n v p₁ p₂ p₃) = exprWords p₁ + exprWords p₂ + exprWords (third p₃) + 2
+formWords continue = 0
+formWords stop = 1
+formWords end = 1
+formWords (dimension arrays) = 0
+
+unfoldable pub formExitWords : Form → ℕ
+formExitWords (assign t e) = 0
+formExitWords (goTo n) = 0
+formExitWords (computed ns v) = suc (length ns)
+formExitWords (ifs e a b c) = 3
+formExitWords (loop n v p₁ p₂ p₃) = 0
+formExitWords continue = 0
+formExitWords stop = 0
+formExitWords end = 0
+formExitWords (dimension arrays) = 0
+
+-- with the statement at position q
+unfoldable pub takes : ℕ → Form → Taken → Taken
+takes q f t =
+    record {
+      held = brings q f (t .held);
+      constants = poolAll (t .constants) (formPooled f);
+      elements = t .elements + length (formReferences f);
+      exits = t .exits + formExitWords f;
+      dos = t .dos + length (formLast f);
+      code = t .code + formWords f;
+    }
+
+-- names are those of body 7: hidden cells have none
+abbrev pub nameCount : List Held → ℕ
+nameCount [] = 0
+nameCount (name v ∷ held) = suc (nameCount held)
+nameCount (Held.array a ∷ held) = suc (nameCount held)
+nameCount (hidden q ∷ held) = nameCount held
+
+unfoldable pub right18 : Taken → Bool
+right18 t =
+    leb (nameCount (t .held)) (limits .names) && (leb (t .dos) (limits .dos) && (leb (length (t .constants)) (limits .constants) &&
+    (leb (t .elements) (limits .elements) && (leb (t .exits) (limits .exits) && (leb (t .code) (limits .code) && leb (cellCount (t .held)) (limits .cells))))))
+
+-- ---- the lowest number of what is wrong anywhere in the statement at position q
+
+abbrev pub wrong : Bool → ℕ → Option ℕ
+wrong true number = none
+wrong false number = some number
+
+unfoldable pub judgeForm : ℕ → ℕ → Form → Taken → Option ℕ
+judgeForm k q f t =
+    orElse (wrong (right11 f) 11) (orElse (wrong (right12 k f) 12) (orElse (wrong (right13 f) 13) (orElse (wrong (right14 f) 14)
+    (orElse (wrong (right15 (t .held) f) 15) (orElse (wrong (right16 (t .held) f) 16) (wrong (right18 (takes q f t)) 18))))))

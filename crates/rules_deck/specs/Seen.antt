@@ -1,0 +1,110 @@
+-- How a caller sees a deck: its meaning from its bytes, its values through body 7, and runs one after the other. The promises are said in these words.
+-- Assumes nothing.
+use mathlib.Core.Path.{_≡_}
+use Prim.Native.Nat.{ℕ, zero, suc, _+_, max}
+use mathlib.Core.Bool.{Bool, true, false, _&&_, cond}
+use mathlib.Core.List.{List, [], _∷_, _++_}
+use mathlib.Core.Option.{Option, none, some}
+use lib.Dec.{ltb, eqb, leb}
+use lib.ListN.{take, replicate}
+use lib.IntN.{ℤ, pos}
+use Rattle.rules_object.specs.Limits.{limits}
+use Rattle.rules_object.specs.Runs.{Out}
+use Rattle.rules_object.specs.Object.{Named, Object}
+use Rattle.rules_object.specs.Bytes.{readObject}
+use Rattle.rules_object.specs.Machine.{cell}
+use Rattle.rules_object.specs.Check.{span}
+use Rattle.rules_object.specs.Calls.{Lent, Ran, right50, right51, running, Written}
+use Rattle.rules_deck.specs.Trees.{Name, Statement, formNames, formLevels}
+use Rattle.rules_deck.specs.Cards.{withoutBlanks}
+use Rattle.rules_deck.specs.Deck.{sameName, Dims, dimsOf}
+use Rattle.rules_deck.specs.Meaning.{Key, plain, elementAt, Values, Standing, meaning}
+use Rattle.rules_deck.specs.Compile.{Read, notRead, read, deckOf}
+
+-- ---- the deck
+
+-- the statements that k and some bytes are; none where they are refused
+abbrev pub statementsOf : Read → List Statement
+statementsOf (notRead r) = []
+statementsOf (read deck) = deck
+
+-- the meaning of a deck's bytes for at most n statements
+unfoldable pub meaningOf : ℕ → List ℕ → Values → ℕ → Out Standing
+meaningOf k bytes env n = meaning (record { digits = k }) (statementsOf (deckOf k bytes)) env n
+
+abbrev pub namesIn : List Statement → List Name
+namesIn [] = []
+namesIn (s ∷ deck) = formNames (s .form) ++ namesIn deck
+
+-- every name that stands in a deck
+unfoldable pub deckNames : ℕ → List ℕ → List Name
+deckNames k bytes = namesIn (statementsOf (deckOf k bytes))
+
+-- the rows and columns of an array, 0 and 0 of a plain name
+unfoldable pub deckDims : ℕ → List ℕ → Name → Dims
+deckDims k bytes v = dimsOf (statementsOf (deckOf k bytes)) v
+
+abbrev pub levelsIn : List Statement → ℕ
+levelsIn [] = 0
+levelsIn (s ∷ deck) = max (formLevels (s .form)) (levelsIn deck)
+
+-- its levels of parentheses
+unfoldable pub deckLevels : ℕ → List ℕ → ℕ
+deckLevels k bytes = levelsIn (statementsOf (deckOf k bytes))
+
+-- the object that compiling wrote
+unfoldable pub objectIn : Written → List ℕ
+objectIn w = take (w .length) (w .output)
+
+-- ---- values through body 7
+
+-- the cell of a named value, where the entry has one
+abbrev pub entryCell : Named → Key → Option ℕ
+entryCell n (plain v) = cond (sameName (withoutBlanks (n .name)) v && eqb (n .rows) 0) (some (n .first)) none
+entryCell n (elementAt v p) = cond (sameName (withoutBlanks (n .name)) v && (leb 1 (n .rows) && ltb p (span (n .rows) (n .columns)))) (some (n .first + p)) none
+
+abbrev pub orNext : Option ℕ → Option ℕ → Option ℕ
+orNext (some c) later = some c
+orNext none later = later
+
+abbrev pub cellIn : List Named → Key → Option ℕ
+cellIn [] x = none
+cellIn (n ∷ names) x = orNext (entryCell n x) (cellIn names x)
+
+abbrev pub cellInObject : Option Object → Key → Option ℕ
+cellInObject none x = none
+cellInObject (some o) x = cellIn (o .names) x
+
+-- the cell of a named value by an object's bytes
+unfoldable pub namedCell : List ℕ → Key → Option ℕ
+namedCell object x = cellInObject (readObject object) x
+
+abbrev pub cellValue : List ℤ → Option ℕ → ℤ
+cellValue store none = pos 0
+cellValue store (some c) = cell store c
+
+-- the named values that a store has
+unfoldable pub namedValues : List ℕ → List ℤ → Values
+namedValues object store x = cellValue store (namedCell object x)
+
+-- ---- runs
+
+abbrev pub rightStoreOf : Option Object → List ℤ → Bool
+rightStoreOf none store = false
+rightStoreOf (some o) store = right50 o store && right51 o store
+
+-- the store has the object's cells, each within its digits
+unfoldable pub rightStore : List ℕ → List ℤ → Bool
+rightStore object store = rightStoreOf (readObject object) store
+
+-- runs one after the other, each with the last one's state and store, until one halts other than by 2
+abbrev pub goOn : List ℕ → Ran → List ℕ → Ran
+goOn object r [] = r
+goOn object r (a ∷ allowances) = goOn object (cond (eqb (r .halt) 2) (running object (r .store) (r .lent) a) r) allowances
+
+unfoldable pub series : List ℕ → List ℤ → Lent → List ℕ → Ran
+series object store l allowances = goOn object (running object store l 0) allowances
+
+abbrev pub sum : List ℕ → ℕ
+sum [] = 0
+sum (a ∷ allowances) = a + sum allowances

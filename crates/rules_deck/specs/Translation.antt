@@ -1,0 +1,343 @@
+-- The translation of a deck: its cells, its code as instructions, and the object's seven lists. 01 "Translation".
+-- Assumes nothing.
+use Prim.Native.Nat.{ℕ, zero, suc, _+_, _*_, _^_}
+use mathlib.Core.Bool.{Bool, true, false, _&&_, _||_, cond}
+use mathlib.Core.List.{List, [], _∷_, _++_, map}
+use mathlib.Core.Option.{Option, none, some}
+use lib.Dec.{eqb, ltb}
+use lib.ListN.{length, take, replicate}
+use lib.IntN.{ℤ, pos, negℤ}
+use Rattle.number.specs.Number.{Op}
+use Rattle.rules_object.specs.Object.{Element, Loop, Line, Named, Object}
+use Rattle.rules_object.specs.Machine.{Instr, HLT, CON, LOD, STO, LDE, STE, OP, NEG, JMP, BR3, BRC, DOI, DOE}
+use Rattle.rules_object.specs.Check.{operationNumber}
+use Rattle.rules_deck.specs.Trees.{Name, Digits, valueOf, Subscript, constant, linear, Subscripts, one, two, subscriptNames, subscriptsNames, Expr, con, var, elm, neg, par, bin, Target, cell, element, written, Form, assign, goTo, computed, ifs, loop, continue, stop, end, dimension, Statement}
+use Rattle.rules_deck.specs.Deck.{sameName, positionOf, Do, dosOf, endings, Dims, Declared, declare, arraysIn, dimsOf, width}
+use Rattle.rules_deck.specs.Meaning.{times, addend, third}
+
+-- ---- cells go in order of first appearance in the text
+
+-- what stands in the cells, in their order: a name one cell, an array all its cells, the DO at position q its limit and step
+pub data Held : Type 0 where
+  name : Name → Held
+  array : Declared → Held
+  hidden : ℕ → Held
+
+-- rows and columns, 0 columns for one dimension
+abbrev pub arraySize : Dims → ℕ
+arraySize d = d .rows * width (d .columns)
+
+abbrev pub size : Held → ℕ
+size (name v) = 1
+size (array a) = arraySize (a .dims)
+size (hidden q) = 2
+
+-- the cells of everything in a list
+abbrev pub cellCount : List Held → ℕ
+cellCount [] = 0
+cellCount (h ∷ hs) = size h + cellCount hs
+
+abbrev pub isName : Name → Held → Bool
+isName v (name w) = sameName w v
+isName v (array a) = false
+isName v (hidden q) = false
+
+abbrev pub isArray : Name → Held → Bool
+isArray v (name w) = false
+isArray v (array a) = sameName (a .name) v
+isArray v (hidden q) = false
+
+abbrev pub isHidden : ℕ → Held → Bool
+isHidden q (name w) = false
+isHidden q (array a) = false
+isHidden q (hidden p) = eqb p q
+
+-- the first cell of the first that passes a test: the sizes of those before it
+abbrev pub firstCell : (Held → Bool) → List Held → ℕ
+firstCell test [] = 0
+firstCell test (h ∷ hs) = cond (test h) 0 (size h + firstCell test hs)
+
+unfoldable pub cellOf : List Held → Name → ℕ
+cellOf held v = firstCell (isName v) held
+
+unfoldable pub baseOf : List Held → Name → ℕ
+baseOf held v = firstCell (isArray v) held
+
+unfoldable pub limitOf : List Held → ℕ → ℕ
+limitOf held q = firstCell (isHidden q) held
+
+abbrev pub holds : (Held → Bool) → List Held → Bool
+holds test [] = false
+holds test (h ∷ hs) = test h || holds test hs
+
+-- a name takes a cell where it first appears
+abbrev pub appear : List Held → List Name → List Held
+appear held [] = held
+appear held (v ∷ vs) = appear (cond (holds (isName v) held) held (held ++ (name v ∷ []))) vs
+
+-- the plain names of a text in order; an array's name takes no cell where it is used
+abbrev pub exprPlain : Expr → List Name
+exprPlain (con c) = []
+exprPlain (var v) = v ∷ []
+exprPlain (elm v s) = subscriptsNames s
+exprPlain (neg e) = exprPlain e
+exprPlain (par e) = exprPlain e
+exprPlain (bin o a b) = exprPlain a ++ exprPlain b
+
+abbrev pub targetPlain : Target → List Name
+targetPlain (cell v) = v ∷ []
+targetPlain (element v s) = subscriptsNames s
+
+unfoldable pub formPlain : Form → List Name
+formPlain (assign t e) = targetPlain t ++ exprPlain e
+formPlain (goTo n) = []
+formPlain (computed ns v) = v ∷ []
+formPlain (ifs e a b c) = exprPlain e
+formPlain (loop n v p₁ p₂ p₃) = v ∷ (exprPlain p₁ ++ (exprPlain p₂ ++ written exprPlain p₃))
+formPlain continue = []
+formPlain stop = []
+formPlain end = []
+formPlain (dimension arrays) = []
+
+-- a DO's hidden cells come after its names, an array's cells at its DIMENSION
+abbrev pub hiddenIn : ℕ → Form → List Held
+hiddenIn q (assign t e) = []
+hiddenIn q (goTo n) = []
+hiddenIn q (computed ns v) = []
+hiddenIn q (ifs e a b c) = []
+hiddenIn q (loop n v p₁ p₂ p₃) = hidden q ∷ []
+hiddenIn q continue = []
+hiddenIn q stop = []
+hiddenIn q end = []
+hiddenIn q (dimension arrays) = []
+
+abbrev pub brings : ℕ → Form → List Held → List Held
+brings q f held = appear held (formPlain f) ++ (hiddenIn q f ++ map (λ a. array (declare a)) (arraysIn f))
+
+abbrev pub heldFrom : ℕ → List Statement → List Held → List Held
+heldFrom q [] held = held
+heldFrom q (s ∷ deck) held = heldFrom (suc q) deck (brings q (s .form) held)
+
+unfoldable pub heldOf : List Statement → List Held
+heldOf deck = heldFrom 0 deck []
+
+-- ---- code is postfix
+
+module _ (held : List Held) (dims : Name → Dims) where
+  -- a constant has multiplier 0 and cell 0
+  abbrev pub subscriptEntry : Subscript → Rattle.rules_object.specs.Object.Subscript
+  subscriptEntry (constant c) = record { times = 0; cell = 0; plus = pos (valueOf c) }
+  subscriptEntry (linear m v a) = record { times = times m; cell = cellOf held v; plus = addend a }
+
+  -- one dimension has columns 1 and second subscript 0, 0, 1
+  abbrev pub secondEntry : Subscripts → Rattle.rules_object.specs.Object.Subscript
+  secondEntry (one s) = record { times = 0; cell = 0; plus = pos 1 }
+  secondEntry (two s t) = subscriptEntry t
+
+  abbrev pub firstEntry : Subscripts → Rattle.rules_object.specs.Object.Subscript
+  firstEntry (one s) = subscriptEntry s
+  firstEntry (two s t) = subscriptEntry s
+
+  abbrev pub elementEntry : Name → Subscripts → Element
+  elementEntry v s =
+      record { base = baseOf held v; rows = dims v .rows; columns = width (dims v .columns); first = firstEntry s; second = secondEntry s }
+
+  -- the first term, NEG if its sign is minus, then each further term with its operation
+  abbrev pub exprCode : Expr → List Instr
+  exprCode (con c) = CON (valueOf c) ∷ []
+  exprCode (var v) = LOD (cellOf held v) ∷ []
+  exprCode (elm v s) = LDE (elementEntry v s) ∷ []
+  exprCode (neg e) = exprCode e ++ (NEG ∷ [])
+  exprCode (par e) = exprCode e
+  exprCode (bin o a b) = exprCode a ++ (exprCode b ++ (OP o ∷ []))
+
+  abbrev pub storeCode : Target → Instr
+  storeCode (cell v) = STO (cellOf held v)
+  storeCode (element v s) = STE (elementEntry v s)
+
+  -- `address` gives a statement number's address; `entry` the DO's number in body 4 and its entry
+  abbrev pub formCode : (ℕ → ℕ) → Instr → Form → List Instr
+  formCode address entry (assign t e) = exprCode e ++ (storeCode t ∷ [])
+  formCode address entry (goTo n) = JMP (address (valueOf n)) ∷ []
+  formCode address entry (computed ns v) = LOD (cellOf held v) ∷ BRC (map (λ n. address (valueOf n)) ns) ∷ []
+  formCode address entry (ifs e a b c) = exprCode e ++ (BR3 (address (valueOf a)) (address (valueOf b)) (address (valueOf c)) ∷ [])
+  formCode address entry (loop n v p₁ p₂ p₃) = exprCode p₁ ++ (exprCode p₂ ++ (exprCode (third p₃) ++ (entry ∷ [])))
+  formCode address entry continue = []
+  formCode address entry stop = HLT 0 ∷ []
+  formCode address entry end = HLT 1 ∷ []
+  formCode address entry (dimension arrays) = []
+
+-- ---- addresses
+
+-- how many DOs stand before position q: the number of its entry
+abbrev pub doNumber : List Do → ℕ → ℕ
+doNumber [] q = 0
+doNumber (d ∷ ds) q = cond (ltb (d .position) q) (suc (doNumber ds q)) (doNumber ds q)
+
+module _ (deck : List Statement) where
+  -- words of a statement's code, with the ends of the DOs whose last statement it is; no address is needed for that
+  unfoldable pub words : Statement → ℕ
+  words s = length (formCode (heldOf deck) (dimsOf deck) (λ n. 0) NEG (s .form)) + length (endings deck (s .number))
+
+  abbrev pub addressIn : List Statement → ℕ → ℕ
+  addressIn [] j = 0
+  addressIn (s ∷ more) zero = 0
+  addressIn (s ∷ more) (suc j) = words s + addressIn more j
+
+  -- the address of the statement at position j
+  unfoldable pub addressAt : ℕ → ℕ
+  addressAt j = addressIn deck j
+
+  abbrev pub addressOf : ℕ → ℕ
+  addressOf n = addressAt (positionOf deck n)
+
+  -- a DO's entry; its body is the statement after it
+  abbrev pub loopEntry : Do → Loop
+  loopEntry d =
+      record {
+        variable = cellOf (heldOf deck) (d .variable);
+        limit = limitOf (heldOf deck) (d .position);
+        step = suc (limitOf (heldOf deck) (d .position));
+        body = addressAt (suc (d .position));
+      }
+
+  abbrev pub doInstr : (ℕ → Loop → Instr) → Do → Instr
+  doInstr f d = f (doNumber (dosOf deck) (d .position)) (loopEntry d)
+
+  -- the DOI of a DO at position q
+  abbrev pub enterCode : ℕ → Form → Instr
+  enterCode q (assign t e) = NEG
+  enterCode q (goTo n) = NEG
+  enterCode q (computed ns v) = NEG
+  enterCode q (ifs e a b c) = NEG
+  enterCode q (loop n v p₁ p₂ p₃) = doInstr DOI (record { position = q; last = valueOf n; variable = v })
+  enterCode q continue = NEG
+  enterCode q stop = NEG
+  enterCode q end = NEG
+  enterCode q (dimension arrays) = NEG
+
+  -- a statement's code; after a last statement, its DOEs, innermost first
+  abbrev pub statementCode : ℕ → Statement → List Instr
+  statementCode q s =
+      formCode (heldOf deck) (dimsOf deck) addressOf (enterCode q (s .form)) (s .form) ++ map (doInstr DOE) (endings deck (s .number))
+
+  abbrev pub codeFrom : ℕ → List Statement → List Instr
+  codeFrom q [] = []
+  codeFrom q (s ∷ more) = statementCode q s ++ codeFrom (suc q) more
+
+  unfoldable pub codeOf : List Instr
+  codeOf = codeFrom 0 deck
+
+-- ---- instructions to words and tables, in order of emission
+
+pub record Tables : Type 0 where
+  pub constants : List ℕ
+  pub elements : List Element
+  pub exits : List ℕ
+
+abbrev pub noTables : Tables
+noTables = record { constants = []; elements = []; exits = [] }
+
+-- constants are pooled by value
+abbrev pub pool : List ℕ → ℕ → List ℕ
+pool [] c = c ∷ []
+pool (b ∷ bs) c = cond (eqb b c) (b ∷ bs) (b ∷ pool bs c)
+
+abbrev pub poolAt : List ℕ → ℕ → ℕ
+poolAt [] c = 0
+poolAt (b ∷ bs) c = cond (eqb b c) 0 (suc (poolAt bs c))
+
+-- each element reference has its own entry, and each IF or computed GO TO its own exits
+abbrev pub addElement : Tables → Element → Tables
+addElement T e = record { constants = T .constants; elements = T .elements ++ (e ∷ []); exits = T .exits }
+
+abbrev pub addExits : Tables → List ℕ → Tables
+addExits T ts = record { constants = T .constants; elements = T .elements; exits = T .exits ++ ts }
+
+abbrev pub tablesAfter : Tables → Instr → Tables
+tablesAfter T (HLT x) = T
+tablesAfter T (CON c) = record { constants = pool (T .constants) c; elements = T .elements; exits = T .exits }
+tablesAfter T (LOD a) = T
+tablesAfter T (STO a) = T
+tablesAfter T (LDE e) = addElement T e
+tablesAfter T (STE e) = addElement T e
+tablesAfter T (OP o) = T
+tablesAfter T NEG = T
+tablesAfter T (JMP a) = T
+tablesAfter T (BR3 a b c) = addExits T (a ∷ b ∷ c ∷ [])
+tablesAfter T (BRC ts) = addExits T (length ts ∷ ts)
+tablesAfter T (DOI n d) = T
+tablesAfter T (DOE n d) = T
+
+abbrev pub operand : Tables → Instr → ℕ
+operand T (HLT x) = x
+operand T (CON c) = poolAt (T .constants) c
+operand T (LOD a) = a
+operand T (STO a) = a
+operand T (LDE e) = length (T .elements)
+operand T (STE e) = length (T .elements)
+operand T (OP o) = 0
+operand T NEG = 0
+operand T (JMP a) = a
+operand T (BR3 a b c) = length (T .exits)
+operand T (BRC ts) = length (T .exits)
+operand T (DOI n d) = n
+operand T (DOE n d) = n
+
+-- the top eight bits name the operation, the low twenty-four the operand
+unfoldable pub wordOf : Tables → Instr → ℕ
+wordOf T i = operationNumber i * 2 ^ 24 + operand T i
+
+abbrev pub emit : Tables → List Instr → List ℕ
+emit T [] = []
+emit T (i ∷ is) = wordOf T i ∷ emit (tablesAfter T i) is
+
+abbrev pub tablesOf : Tables → List Instr → Tables
+tablesOf T [] = T
+tablesOf T (i ∷ is) = tablesOf (tablesAfter T i) is
+
+-- ---- body 6: executable statements and END; body 7: names in cell order
+
+abbrev pub executable : Form → Bool
+executable (assign t e) = true
+executable (goTo n) = true
+executable (computed ns v) = true
+executable (ifs e a b c) = true
+executable (loop n v p₁ p₂ p₃) = true
+executable continue = true
+executable stop = true
+executable end = true
+executable (dimension arrays) = false
+
+abbrev pub linesFrom : List Statement → ℕ → List Statement → List Line
+linesFrom deck q [] = []
+linesFrom deck q (s ∷ more) =
+    cond (executable (s .form)) (record { sequence = suc q; number = s .number; address = addressAt deck q } ∷ linesFrom deck (suc q) more)
+    (linesFrom deck (suc q) more)
+
+-- eight bytes blank-filled
+abbrev pub filled : Name → List ℕ
+filled v = take 8 (v ++ replicate 8 32)
+
+abbrev pub namesFrom : ℕ → List Held → List Named
+namesFrom at [] = []
+namesFrom at (name v ∷ held) = record { name = filled v; first = at; rows = 0; columns = 0 } ∷ namesFrom (suc at) held
+namesFrom at (array a ∷ held) =
+    record { name = filled (a .name); first = at; rows = a .dims .rows; columns = a .dims .columns } ∷ namesFrom (at + arraySize (a .dims)) held
+namesFrom at (hidden q ∷ held) = namesFrom (at + 2) held
+
+-- ---- the object
+
+unfoldable pub translate : ℕ → List Statement → Object
+translate k deck =
+    record {
+      digits = k;
+      cells = cellCount (heldOf deck);
+      constants = tablesOf noTables (codeOf deck) .constants;
+      elements = tablesOf noTables (codeOf deck) .elements;
+      exits = tablesOf noTables (codeOf deck) .exits;
+      dos = map (loopEntry deck) (dosOf deck);
+      code = emit noTables (codeOf deck);
+      lines = linesFrom deck 0 deck;
+      names = namesFrom 0 (heldOf deck);
+    }

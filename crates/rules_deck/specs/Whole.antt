@@ -1,0 +1,148 @@
+-- Refusals of a deck as a whole, 20 to 25, each with its place: a sequence number, the lowest first. 01 "Refusal numbers".
+-- Assumes nothing.
+use Prim.Native.Nat.{ℕ, zero, suc, _+_}
+use mathlib.Core.Bool.{Bool, true, false, _&&_, _||_, not, cond}
+use mathlib.Core.List.{List, [], _∷_, _++_, map}
+use mathlib.Core.Option.{Option, none, some}
+use lib.Dec.{leb, ltb, eqb}
+use lib.ListN.{length, getElem?}
+use Rattle.rules_object.specs.Limits.{limits}
+use Rattle.rules_object.specs.Calls.{Refusal, refusal, all, orElse}
+use Rattle.rules_deck.specs.Trees.{Name, Digits, valueOf, Target, cell, element, Form, assign, goTo, computed, ifs, loop, continue, stop, end, dimension, Statement, formExits, formLast}
+use Rattle.rules_deck.specs.Deck.{sameName, positionOf, Do, dosOf}
+
+-- the first position, counted from q, whose statement fails the test; its sequence number
+abbrev pub firstWrong : (ℕ → Statement → Bool) → ℕ → List Statement → Option ℕ
+firstWrong right q [] = none
+firstWrong right q (s ∷ deck) = cond (right q s) (firstWrong right (suc q) deck) (some (suc q))
+
+-- ---- 20: END missing or not last; no statement at all
+
+abbrev pub isEnd : Form → Bool
+isEnd (assign t e) = false
+isEnd (goTo n) = false
+isEnd (computed ns v) = false
+isEnd (ifs e a b c) = false
+isEnd (loop n v p₁ p₂ p₃) = false
+isEnd continue = false
+isEnd stop = false
+isEnd end = true
+isEnd (dimension arrays) = false
+
+abbrev pub endsWell : List Statement → Bool
+endsWell [] = false
+endsWell (s ∷ []) = isEnd (s .form)
+endsWell (s ∷ t ∷ deck) = endsWell (t ∷ deck)
+
+-- the first early END, else the last statement, or 0
+unfoldable pub refused20 : List Statement → Option ℕ
+refused20 deck =
+    orElse (firstWrong (λ q s. not (isEnd (s .form)) || eqb (suc q) (length deck)) 0 deck) (cond (endsWell deck) none (some (length deck)))
+
+-- ---- 21: number defined twice, or on DIMENSION or END
+
+abbrev pub isDimension : Form → Bool
+isDimension (assign t e) = false
+isDimension (goTo n) = false
+isDimension (computed ns v) = false
+isDimension (ifs e a b c) = false
+isDimension (loop n v p₁ p₂ p₃) = false
+isDimension continue = false
+isDimension stop = false
+isDimension end = false
+isDimension (dimension arrays) = true
+
+-- the place is the second
+unfoldable pub right21 : List Statement → ℕ → Statement → Bool
+right21 deck q s = eqb (s .number) 0 || (eqb (positionOf deck (s .number)) q && (not (isDimension (s .form)) && not (isEnd (s .form))))
+
+-- ---- 22: number used, never defined
+
+abbrev pub defined : List Statement → Digits → Bool
+defined deck n = ltb (positionOf deck (valueOf n)) (length deck)
+
+unfoldable pub right22 : List Statement → ℕ → Statement → Bool
+right22 deck q s = all (defined deck) (formExits (s .form) ++ formLast (s .form))
+
+-- ---- ranges: after the DO through its last statement
+
+abbrev pub lastOf : List Statement → Do → ℕ
+lastOf deck d = positionOf deck (d .last)
+
+abbrev pub inRange : List Statement → Do → ℕ → Bool
+inRange deck d j = ltb (d .position) j && leb j (lastOf deck d)
+
+-- ---- 23: DO's last statement not after it, or a GO TO, IF, DO or STOP; ranges cross; over 8 deep
+
+abbrev pub mayEnd : Form → Bool
+mayEnd (assign t e) = true
+mayEnd (goTo n) = false
+mayEnd (computed ns v) = false
+mayEnd (ifs e a b c) = false
+mayEnd (loop n v p₁ p₂ p₃) = false
+mayEnd continue = true
+mayEnd stop = false
+mayEnd end = true
+mayEnd (dimension arrays) = true
+
+abbrev pub mayEndAt : Option Statement → Bool
+mayEndAt none = false
+mayEndAt (some s) = mayEnd (s .form)
+
+-- an earlier DO around this one does not end before it
+abbrev pub crosses : List Statement → Do → Do → Bool
+crosses deck d outer = inRange deck outer (d .position) && ltb (lastOf deck outer) (lastOf deck d)
+
+-- in how many DOs' ranges a statement stands
+abbrev pub depth : List Statement → List Do → ℕ → ℕ
+depth deck [] j = 0
+depth deck (d ∷ ds) j = cond (inRange deck d j) (suc (depth deck ds j)) (depth deck ds j)
+
+abbrev pub rightDo : List Statement → Do → Bool
+rightDo deck d =
+    ltb (d .position) (lastOf deck d) && (mayEndAt (getElem? deck (lastOf deck d)) &&
+    (all (λ outer. not (crosses deck d outer)) (dosOf deck) && ltb (depth deck (dosOf deck) (d .position)) (limits .nesting)))
+
+-- the place is the DO, the later of two
+abbrev pub firstWrongDo : List Statement → List Do → Option ℕ
+firstWrongDo deck [] = none
+firstWrongDo deck (d ∷ ds) = cond (rightDo deck d) (firstWrongDo deck ds) (some (suc (d .position)))
+
+-- ---- 24: a jump into a DO's range from outside
+
+abbrev pub staysOut : List Statement → ℕ → Digits → Do → Bool
+staysOut deck j n d = not (inRange deck d (positionOf deck (valueOf n))) || inRange deck d j
+
+unfoldable pub right24 : List Statement → ℕ → Statement → Bool
+right24 deck j s = all (λ n. all (staysOut deck j n) (dosOf deck)) (formExits (s .form))
+
+-- ---- 25: DO's variable set, or taken by another DO, in its range
+
+abbrev pub targetSets : Target → List Name
+targetSets (cell v) = v ∷ []
+targetSets (element v s) = []
+
+unfoldable pub formSets : Form → List Name
+formSets (assign t e) = targetSets t
+formSets (goTo n) = []
+formSets (computed ns v) = []
+formSets (ifs e a b c) = []
+formSets (loop n v p₁ p₂ p₃) = v ∷ []
+formSets continue = []
+formSets stop = []
+formSets end = []
+formSets (dimension arrays) = []
+
+unfoldable pub right25 : List Statement → ℕ → Statement → Bool
+right25 deck j s = all (λ v. all (λ d. not (inRange deck d j && sameName (d .variable) v)) (dosOf deck)) (formSets (s .form))
+
+-- ---- in order of number
+
+abbrev pub refusedAt : ℕ → Option ℕ → Option Refusal
+refusedAt number none = none
+refusedAt number (some place) = some (refusal number place 0)
+
+unfoldable pub judgeDeck : List Statement → Option Refusal
+judgeDeck deck =
+    orElse (refusedAt 20 (refused20 deck)) (orElse (refusedAt 21 (firstWrong (right21 deck) 0 deck)) (orElse (refusedAt 22 (firstWrong (right22 deck) 0 deck))
+    (orElse (refusedAt 23 (firstWrongDo deck (dosOf deck))) (orElse (refusedAt 24 (firstWrong (right24 deck) 0 deck)) (refusedAt 25 (firstWrong (right25 deck) 0 deck))))))
