@@ -1,0 +1,219 @@
+-- The promises about decks: a run halts as the deck means, and everything compiled passes.
+-- Assumes nothing.
+use mathlib.Core.Path.{_≡_, refl, sym, ap, _∙_, subst}
+use mathlib.Core.Logic.{_⊎_, inl, inr}
+use Prim.Native.Nat.{ℕ, zero, suc, _+_, _*_, _≤_, _<_}
+use native.Mathlib.Decide.{ℕ-discrete}
+use native.Mathlib.Omega.{arith}
+use mathlib.Core.Bool.{Bool, true, false, _&&_, _||_, cond}
+use mathlib.Core.List.{List, [], _∷_, _++_}
+use mathlib.Core.Option.{Option, none, some}
+use lib.ListN.{length, getElem?}
+use lib.IntN.{ℤ}
+use Rattle.rules_object.specs.Limits.{limits}
+use Rattle.rules_object.specs.Runs.{Halt, haltNumber, Out, go, halt, run, steps}
+use Rattle.rules_object.specs.Choose.{positive}
+use Rattle.rules_object.specs.Object.{Named, Object}
+use Rattle.rules_object.specs.Bytes.{objectBytes, readObject}
+use Rattle.rules_object.specs.Writable.{Each, IsWord, Writable}
+use Rattle.rules_object.specs.Machine.{State, fresh, cell, step}
+use Rattle.rules_object.specs.Calls.{Refusal, accepted, Checked, passed, checked, verdict, checking, given, right50, right51, sequenceOf, Ran, ran, runFrom, running, Lent, taken}
+use Rattle.rules_object.proofs.Passed.{Passed, check-passed, both}
+use Rattle.rules_object.proofs.Lents.{long-enough, fresh-stands, stands-52}
+use Rattle.rules_object.proofs.Accepts.{Accepts, accepts-run}
+use Rattle.rules_object.proofs.Refusals.{from-accepts}
+use Rattle.rules_object.proofs.GoesOn.{not-two}
+use Rattle.rules_object.specs.Safe.{freshLent}
+use Rattle.rules_deck.specs.Trees.{Name, Statement, formNames}
+use Rattle.rules_deck.specs.Deck.{Do, sameName, Dims, dimsIn, dimsOf, endings}
+use Rattle.rules_deck.specs.Meaning.{Key, plain, Values, bounds, Standing, meaning}
+use Rattle.rules_deck.specs.Translation.{Held, name, array, hidden, isArray, holds, cellOf, baseOf, heldOf, namesFrom, translate}
+use Rattle.rules_deck.specs.Compile.{read, deckOf}
+use Rattle.rules_deck.specs.Accepted.{Among}
+use Rattle.rules_deck.specs.Cells.{key, Has, Holds, SameMark}
+use Rattle.rules_deck.specs.Seen.{statementsOf, meaningOf, namesIn, deckNames, deckDims, deckLevels, namedCell, namedValues, rightStoreOf, rightStore, series, sum}
+use Rattle.rules_deck.proofs.TestLaws.{among-append}
+use Rattle.rules_deck.proofs.MapNames.{entryOf, noDims}
+use Rattle.rules_deck.proofs.ArrayLaws.{arraysHeld, arrays-held}
+use Rattle.rules_deck.proofs.MapOnce.{never-both}
+use Rattle.rules_deck.proofs.BodySeven.{InDeck, name-entry}
+use Rattle.rules_deck.proofs.CompiledWritable.{compiled-passes}
+use Rattle.rules_deck.proofs.NeverAbove.{never-above}
+use Rattle.rules_deck.proofs.SoundDeck.{sound}
+use Rattle.rules_deck.proofs.Sequence.{same-sequence, dimension-empty}
+use Rattle.rules_deck.proofs.Simulation.{halts-alike, halts-meant, ends-entered}
+use Rattle.promises.specs.Promises.{Compiled, Alike, HaltsAlike, Meant, MeansAlike, NeverHalts, EndsAfterDo, EntryOf, OneEntry, NamesOnce, CompiledPasses, NeverAbove}
+use Rattle.promises.proofs.Runs.{Same, series-run}
+use Rattle.promises.proofs.Made.{Made, made, right, reads-back, checks, named-has, holds-named}
+
+-- ---- a run of a compiled deck's object is the machine's
+
+module _ {k : ℕ} {deck object : List ℕ} (m : Made k deck object) (store : List ℤ) (stored : rightStore object store ≡ true) where
+  abbrev o : Object
+  o = translate k (m .statements)
+
+  passes : Passed object o (checks m .0)
+  passes = check-passed object o (checks m .0) (checks m .1)
+
+  rights : (right50 o store ≡ true) × (right51 o store ≡ true)
+  unfolding rightStore
+  rights = both (right50 o store) (right51 o store) (sym (ap (λ x. rightStoreOf x store) (reads-back m)) ∙ stored)
+
+  pub accepts : Accepts object store freshLent
+  unfolding given
+  accepts =
+      record {
+        object = o;
+        table = checks m .0;
+        is = checks m .1;
+        passes = passes;
+        right50 = rights .0;
+        right51 = rights .1;
+        right52 = stands-52 (fresh store) (fresh-stands passes store (rights .0) (rights .1));
+      }
+
+  pub runs : (a : ℕ) → running object store freshLent a ≡ runFrom o (step o) a (fresh store)
+  unfolding taken accepts
+  runs a = accepts-run accepts a
+
+  pub starts : running object store freshLent 0 .refusal ≡ accepted
+  starts = ap (λ r. r .refusal) (runs 0) ∙ from-accepts o (step o) 0 (fresh store)
+
+  starting : Holds (heldOf (m .statements)) (namedValues object store) store
+  unfolding translate
+  starting = holds-named m store (long-enough o store (rights .0))
+
+  means : (n : ℕ) → meaningOf k deck (namedValues object store) n ≡ meaning (record { digits = k }) (m .statements) (namedValues object store) n
+  unfolding meaningOf
+  means n = ap (λ r. meaning (record { digits = k }) (statementsOf r) (namedValues object store) n) (m .reads)
+
+  -- a halted machine's answer is as the standing says
+  alike : (a : ℕ) (h : Halt) (t : State) (s : Standing) → run (step o) a (fresh store) ≡ halt h t → Holds (heldOf (m .statements)) (s .values) (t .store) → SameMark (m .statements) (s .lost) (t .mark)
+      → (r : Ran) → Same r (running object store freshLent a) → Alike object h s r
+  unfolding translate
+  alike a h t s e v w r same =
+      let q : running object store freshLent a ≡ ran o (steps (step o) a (fresh store)) (halt h t) = runs a ∙ ap (ran o (steps (step o) a (fresh store))) e in
+      record {
+        accepts = same .refusal ∙ ap (λ x. x .refusal) q;
+        halts = same .halt ∙ ap (λ x. x .halt) q;
+        values = λ x c f. let h = named-has m x c f in ap (λ z. cell z c) (same .store ∙ ap (λ x. x .store) q) ∙ ap (cell (t .store)) (sym (h .1)) ∙ v .same x (h .0);
+        lost = same .sequence ∙ ap (λ x. x .sequence) q ∙ same-sequence (m .statements) (dimension-empty k (m .statements) (right m)) (s .lost) (t .mark) w;
+      }
+
+pub halts-kept : HaltsAlike
+halts-kept k deck object store c stored n h s e =
+    let m = made c in
+    let x = halts-alike k (m .statements) (sound (right m)) (namedValues object store) store (starting m store stored) n h s (sym (means m store stored n) ∙ e) in (
+      _,
+      λ allowances words enough. alike m store stored (sum allowances) h (x .at) s (x .halted (sum allowances) enough) (x .values) (x .mark) (series object store freshLent allowances)
+          (series-run object store freshLent refl (starts m store stored) allowances),
+    )
+
+-- a run that halts other than by 2 is the machine's, halted
+module _ {k : ℕ} {deck object : List ℕ} (m : Made k deck object) (store : List ℤ) (stored : rightStore object store ≡ true) (r : Ran) (a : ℕ) (same : Same r (running object store freshLent a)) where
+  meant : (r .halt ≡ 2 → ⊥) → Meant k deck object store r
+  meant other = by (run (step o) a (fresh store)) refl
+    where
+      o : Object
+      o = translate k (m .statements)
+
+      by : (x : Out State) → run (step (translate k (m .statements))) a (fresh store) ≡ x → Meant k deck object store r
+      by (go t) e = absurd (other (same .halt ∙ ap (λ x. x .halt) (runs m store stored a ∙ ap (ran (translate k (m .statements)) (steps (step (translate k (m .statements))) a (fresh store))) e)))
+      by (halt h t) e =
+          let x = halts-meant k (m .statements) (sound (right m)) (namedValues object store) store (starting m store stored) a h t e in
+          record { count = x .count; how = h; end = x .at; halts = means m store stored (x .count) ∙ x .halted; alike = alike m store stored a h t (x .at) e (x .values) (x .mark) r same }
+
+pub means-kept : MeansAlike
+means-kept k deck object store c stored allowances words other =
+    let m = made c in
+    meant m store stored (series object store freshLent allowances) (sum allowances) (series-run object store freshLent refl (starts m store stored) allowances) other
+
+pub never-kept : NeverHalts
+never-kept k deck object store c stored never allowances words = by (ℕ-discrete (series object store freshLent allowances .halt) 2)
+  where
+    by : Dec (series object store freshLent allowances .halt ≡ 2) → series object store freshLent allowances .halt ≡ 2
+    by (yes e) = e
+    by (no e) = let x = means-kept k deck object store c stored allowances words e in absurd (never (x .count) (x .how) (x .end) (x .halts))
+
+pub ends-kept : EndsAfterDo
+ends-kept k deck object store c stored n s e =
+    let m = made c in
+    subst (λ r. (x : Statement) → getElem? (statementsOf r) (s .at) ≡ some x → (d : Do) → Among d (endings (statementsOf r) (x .number))
+    → (limit : ℤ) × ((step : ℤ) × ((s .entered (d .position) ≡ bounds limit step) × (positive step ≡ true)))) (sym (m .reads))
+    (ends-entered k (m .statements) (sound (right m)) (namedValues object store) store (starting m store stored) n s (sym (means m store stored n) ∙ e))
+
+-- ---- body 7
+
+true-not-false : true ≡ false → ⊥
+true-not-false e = let z : _≡_ {A = ℕ} 0 1 = cc in omega arith
+
+not-true : (b : Bool) → (b ≡ true → ⊥) → b ≡ false
+not-true true f = absurd (f refl)
+not-true false f = refl
+
+some-same : {A : Type 0} {x y : A} → some x ≡ some y → x ≡ y
+some-same e = cc
+
+among-in : (deck : List Statement) (v : Name) → Among v (namesIn deck) → InDeck deck v
+among-in (s ∷ deck) v a = by (among-append (formNames (s .form)) (namesIn deck) a) (among-in deck v)
+  where
+    by : Among v (formNames (s .form)) ⊎ Among v (namesIn deck) → (Among v (namesIn deck) → InDeck deck v) → InDeck (s ∷ deck) v
+    by (inl b) f = record { position = 0; statement = s; at = refl; among = b }
+    by (inr b) f = let i = f b in record { position = suc (i .position); statement = i .statement; at = i .at; among = i .among }
+
+-- a name that is no array has no dimensions
+no-dims : (held : List Held) (v : Name) → holds (isArray v) held ≡ false → dimsIn (arraysHeld held) v ≡ noDims
+no-dims [] v e = refl
+no-dims (name w ∷ held) v e = no-dims held v e
+no-dims (array a ∷ held) v e = by (sameName (a .name) v) e (no-dims held v)
+  where
+    by : (b : Bool) → (b || holds (isArray v) held) ≡ false → (holds (isArray v) held ≡ false → dimsIn (arraysHeld held) v ≡ noDims) → cond b (a .dims) (dimsIn (arraysHeld held) v) ≡ noDims
+    by false e f = f e
+    by true e f = absurd (true-not-false e)
+no-dims (hidden q ∷ held) v e = no-dims held v e
+
+module _ {k : ℕ} {deck object : List ℕ} (m : Made k deck object) (o : Object) (r : readObject object ≡ some o) (v : Name) where
+  is : o ≡ translate k (m .statements)
+  is = some-same (sym r ∙ reads-back m)
+
+  names : o .names ≡ namesFrom 0 (heldOf (m .statements))
+  unfolding translate
+  names = ap (λ x. x .names) is
+
+  dims : deckDims k deck v ≡ dimsOf (m .statements) v
+  unfolding deckDims
+  dims = ap (λ x. dimsOf (statementsOf x) v) (m .reads)
+
+  plain-dims : Has (heldOf (m .statements)) (key (plain v)) → dimsOf (m .statements) v ≡ noDims
+  unfolding dimsOf
+  plain-dims h =
+      ap (λ l. dimsIn l v) (sym (arrays-held (m .statements)))
+      ∙ no-dims (heldOf (m .statements)) v (not-true (holds (isArray v) (heldOf (m .statements))) (never-both k (m .statements) (right m) v h))
+
+  once : (first : ℕ) (d : Dims) → deckDims k deck v ≡ d → Rattle.rules_deck.proofs.BodySeven.OneEntry (m .statements) v (entryOf v first d) → OneEntry k deck v (o .names)
+  once first d e x =
+      subst (λ l. OneEntry k deck v l) (sym names)
+      (record { at = x .index; entry = entryOf v first d; there = x .is; is = record { named = refl; rows = ap (λ z. z .rows) (sym e); columns = ap (λ z. z .columns) (sym e) }; only = x .only })
+
+  one : InDeck (m .statements) v → OneEntry k deck v (o .names)
+  one i = by (name-entry k (m .statements) (right m) v i)
+    where
+      by : (Has (heldOf (m .statements)) (key (plain v)) × Rattle.rules_deck.proofs.BodySeven.OneEntry (m .statements) v (entryOf v (cellOf (heldOf (m .statements)) v) noDims))
+          ⊎ ((holds (isArray v) (heldOf (m .statements)) ≡ true) × Rattle.rules_deck.proofs.BodySeven.OneEntry (m .statements) v (entryOf v (baseOf (heldOf (m .statements)) v) (dimsOf (m .statements) v)))
+          → OneEntry k deck v (o .names)
+      by (inl x) = once _ noDims (dims ∙ plain-dims (x .0)) (x .1)
+      by (inr x) = once _ _ dims (x .1)
+
+pub names-kept : NamesOnce
+unfolding deckNames
+names-kept k deck object c o r v a = let m = made c in one m o r v (among-in (m .statements) v (subst (λ x. Among v (namesIn (statementsOf x))) (m .reads) a))
+
+-- ---- everything compiled passes
+
+pub passes-kept : CompiledPasses
+passes-kept k deck object c = let m = made c in ap checking (m .bytes) ∙ compiled-passes k deck (m .statements) (m .reads)
+
+pub above-kept : NeverAbove
+above-kept k deck object store l c forty a accepts =
+    let m = made c in
+    subst (λ x. running x store l a .refusal ≡ accepted → running x store l a .lent .height ≤ 2 * deckLevels k deck + 3) (sym (m .bytes)) (never-above k deck (m .statements) (m .reads) store l forty a) accepts

@@ -1,0 +1,64 @@
+-- Every promise of the page, with its proof.
+-- Assumes nothing.
+use mathlib.Core.Path.{_≡_, refl, sym, ap, _∙_, subst}
+use Prim.Native.Nat.{ℕ}
+use mathlib.Core.Bool.{Bool, true, false}
+use mathlib.Core.List.{List}
+use lib.Dec.{leb}
+use lib.ListN.{length}
+use Rattle.rules_object.specs.Bytes.{objectBytes}
+use Rattle.rules_object.specs.Calls.{accepted, notWritten, writtenIf, write}
+use Rattle.rules_object.proofs.ObjectExamples.{p9, p10, p11, p12}
+use Rattle.rules_object.proofs.Refusals.{run-keeps, bench-keeps, map-keeps}
+use Rattle.rules_object.proofs.RoundTrip.{reads-back, writes-back}
+use Rattle.rules_deck.specs.Translation.{translate}
+use Rattle.rules_deck.specs.Compile.{Read, notRead, read, deckOf, writeRead, compiling}
+use Rattle.rules_deck.proofs.OneForm.{no-two-forms}
+use Rattle.rules_deck.proofs.CompiledWritable.{compiled-writable}
+use Rattle.rules_deck.proofs.Proved.{decks-right}
+use Rattle.promises.specs.Promises.{Kept, RefusalKeeps, RoundTrip}
+use Rattle.promises.proofs.Made.{made, right}
+use Rattle.promises.proofs.Machine.{goes-on-kept, never-refused-kept, steps-kept, heights-kept, no-fault-kept, tests-nothing-kept, cells-past-kept, bench-is-run-kept}
+use Rattle.promises.proofs.Decks.{halts-kept, means-kept, never-kept, ends-kept, names-kept, passes-kept, above-kept}
+
+compile-keeps : (k : ℕ) (deck output : List ℕ) → (compiling k deck output .refusal ≡ accepted → ⊥) → compiling k deck output ≡ notWritten (compiling k deck output .refusal) output
+unfolding compiling write
+compile-keeps k deck output = by (deckOf k deck)
+  where
+    wrote : (b : Bool) (bytes : List ℕ) → (writtenIf b bytes output .refusal ≡ accepted → ⊥) → writtenIf b bytes output ≡ notWritten (writtenIf b bytes output .refusal) output
+    wrote true bytes f = absurd (f refl)
+    wrote false bytes f = refl
+
+    by : (r : Read) → (writeRead k output r .refusal ≡ accepted → ⊥) → writeRead k output r ≡ notWritten (writeRead k output r .refusal) output
+    by (notRead r) f = refl
+    by (read statements) f = wrote (leb (length (objectBytes (translate k statements))) (length output)) (objectBytes (translate k statements)) f
+
+keeps : RefusalKeeps
+keeps = (compile-keeps, run-keeps, bench-keeps, map-keeps)
+
+round : RoundTrip
+round = (reads-back, writes-back, λ k deck object c. let m = made c in (translate k (m .statements), (compiled-writable (right m), sym (m .bytes))))
+
+pub kept : Kept
+kept =
+    record {
+      haltsAlike = halts-kept;
+      meansAlike = means-kept;
+      neverHalts = never-kept;
+      endsAfterDo = ends-kept;
+      namesOnce = names-kept;
+      goesOn = goes-on-kept;
+      neverRefused = never-refused-kept;
+      stepsTrue = steps-kept;
+      heightsExactly = heights-kept;
+      noFault = no-fault-kept;
+      testsNothing = tests-nothing-kept;
+      cellsPast = cells-past-kept;
+      benchIsRun = bench-is-run-kept;
+      compiledPasses = passes-kept;
+      neverAbove = above-kept;
+      refusalKeeps = keeps;
+      roundTrip = round;
+      noTwoForms = no-two-forms;
+      table = record { decks = decks-right; p9 = p9; p10 = p10; p11 = p11; p12 = p12 };
+    }

@@ -1,0 +1,5 @@
+pub mod Runs
+pub mod Made
+pub mod Machine
+pub mod Decks
+pub mod Kept

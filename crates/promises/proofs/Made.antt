@@ -1,0 +1,78 @@
+-- What compiling gives, by the deck's statements: the translation's bytes, which pass the check and whose body 7 tells the named values' cells.
+-- Assumes nothing.
+use mathlib.Core.Path.{_≡_, refl, sym, ap, _∙_, subst}
+use Prim.Native.Nat.{ℕ, zero, suc, _+_, _≤_, _<_}
+use native.Mathlib.Omega.{arith}
+use mathlib.Core.Bool.{Bool, true, false, cond}
+use mathlib.Core.List.{List, [], _∷_, _++_}
+use mathlib.Core.Option.{Option, none, some}
+use lib.Dec.{leb}
+use lib.ListN.{length, take, drop}
+use lib.Seq.{take-append-seam}
+use lib.IntN.{ℤ}
+use Rattle.rules_object.specs.Object.{Object}
+use Rattle.rules_object.specs.Bytes.{objectBytes, readObject}
+use Rattle.rules_object.specs.Machine.{cell}
+use Rattle.rules_object.specs.Calls.{Refusal, refusal, accepted, Checked, passed, checked, Written, notWritten, writtenIf, write}
+use Rattle.rules_deck.specs.Trees.{Statement}
+use Rattle.rules_deck.specs.Meaning.{Key}
+use Rattle.rules_deck.specs.Translation.{heldOf, cellCount, namesFrom, translate}
+use Rattle.rules_deck.specs.Compile.{Read, notRead, read, deckOf, writeRead, compiling}
+use Rattle.rules_deck.specs.Accepted.{Accepted}
+use Rattle.rules_deck.specs.Cells.{key, slotCell, Has, Holds}
+use Rattle.rules_deck.specs.Seen.{objectIn, cellIn, cellInObject, namedCell, cellValue, namedValues}
+use Rattle.rules_deck.proofs.AcceptedDeck.{accepted as accepted-deck}
+use Rattle.rules_deck.proofs.CompiledWritable.{compiled-reads, compiled-checked}
+use Rattle.rules_deck.proofs.RefusedDeck.{ReadSome, refused-some}
+use Rattle.rules_deck.proofs.SeenCells.{told, has-cell, cell-has}
+use Rattle.promises.specs.Promises.{Compiled}
+
+pub record Made (k : ℕ) (deck object : List ℕ) : Type 0 where
+  pub statements : List Statement
+  pub reads : deckOf k deck ≡ read statements
+  pub bytes : object ≡ objectBytes (translate k statements)
+
+not-accepted : (r : Refusal) → 0 < r .number → r ≡ accepted → ⊥
+not-accepted r h e = let z : r .number ≡ 0 = ap (λ x. x .number) e in omega arith
+
+wrote : (b : Bool) (bytes output : List ℕ) → writtenIf b bytes output .refusal ≡ accepted → objectIn (writtenIf b bytes output) ≡ bytes
+unfolding objectIn
+wrote true bytes output e = take-append-seam bytes (drop (length bytes) output)
+wrote false bytes output e = absurd (not-accepted (refusal 30 0 0) (omega arith) e)
+
+pub made : {k : ℕ} {deck object : List ℕ} → Compiled k deck object → Made k deck object
+unfolding compiling write
+made {k} {deck} {object} c = go (deckOf k deck) refl (c .accepts) (c .writes)
+  where
+    go : (r : Read) → deckOf k deck ≡ r → writeRead k (c .output) r .refusal ≡ accepted → objectIn (writeRead k (c .output) r) ≡ object → Made k deck object
+    go (notRead r) e a w = absurd (not-accepted r (subst ReadSome e (refused-some k deck)) a)
+    go (read statements) e a w =
+        record { statements = statements; reads = e; bytes = sym w ∙ wrote (leb (length (objectBytes (translate k statements))) (length (c .output))) (objectBytes (translate k statements)) (c .output) a }
+
+module _ {k : ℕ} {deck object : List ℕ} (m : Made k deck object) where
+  pub right : Accepted k (m .statements)
+  right = accepted-deck k deck (m .statements) (m .reads)
+
+  pub reads-back : readObject object ≡ some (translate k (m .statements))
+  reads-back = ap readObject (m .bytes) ∙ compiled-reads right
+
+  pub checks : (table : List ℕ) × (checked object ≡ passed (translate k (m .statements)) table)
+  checks = let c = compiled-checked k deck (m .statements) (m .reads) in (c .0, ap checked (m .bytes) ∙ c .1)
+
+  -- ---- named values
+
+  cells : (x : Key) → namedCell object x ≡ cellIn (namesFrom 0 (heldOf (m .statements))) x
+  unfolding namedCell translate
+  cells x = ap (λ o. cellInObject o x) reads-back
+
+  pub named-has : (x : Key) (c : ℕ) → namedCell object x ≡ some c → Has (heldOf (m .statements)) (key x) × (slotCell (heldOf (m .statements)) (key x) ≡ c)
+  named-has x c e = cell-has (heldOf (m .statements)) (told k (m .statements) right) x c (sym (cells x) ∙ e)
+
+  -- a store with room holds its own named values
+  pub holds-named : (store : List ℤ) → cellCount (heldOf (m .statements)) ≤ length store → Holds (heldOf (m .statements)) (namedValues object store) store
+  unfolding namedValues
+  holds-named store room =
+      record {
+        room = room;
+        same = λ x h. sym (ap (cellValue store) (cells x ∙ has-cell (heldOf (m .statements)) (told k (m .statements) right) x h));
+      }

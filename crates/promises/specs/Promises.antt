@@ -1,0 +1,240 @@
+-- Every promise, each under a sentence in plain words. Decks and objects are bytes here; `compiling`, `checking`, `running`, `benching` and `mapping` are the calls,
+-- `meaningOf` is what a deck means. `proofs/Kept.antt` has the proof of each.
+-- Assumes nothing.
+use mathlib.Core.Path.{_≡_}
+use mathlib.Core.Logic.{_↔_}
+use Prim.Native.Nat.{ℕ, zero, suc, _+_, _*_, _-_, _≤_, _<_}
+use mathlib.Core.Bool.{Bool, true, false}
+use mathlib.Core.List.{List, [], _∷_, _++_}
+use mathlib.Core.Option.{Option, none, some}
+use lib.ListN.{length, getElem?}
+use lib.IntN.{ℤ, pos}
+use Rattle.rules_object.specs.Limits.{limits}
+use Rattle.rules_object.specs.Runs.{Halt, haltNumber, Out, go, halt, run}
+use Rattle.rules_object.specs.Choose.{positive}
+use Rattle.rules_object.specs.Object.{Named, Object}
+use Rattle.rules_object.specs.Bytes.{objectBytes, readObject}
+use Rattle.rules_object.specs.Writable.{Each, IsByte, IsWord, Writable}
+use Rattle.rules_object.specs.Machine.{State, cell, step}
+use Rattle.rules_object.specs.Check.{right41, flowOf, benchStep}
+use Rattle.rules_object.specs.Flow.{Valid, NoTable, Reached, PathsAgree}
+use Rattle.rules_object.specs.Heights.{heights, heightAt}
+use Rattle.rules_object.specs.Calls.{Refusal, refusal, accepted, refused42, refused43, checking, Lent, taken, Ran, notRun, running, benching, Written, notWritten, mapping}
+use Rattle.rules_object.specs.Safe.{Right, ranWithCells, afterSteps, freshLent}
+use Rattle.rules_object.specs.Small.{HLT, CON, ADD, JMP, object, plain}
+use Rattle.rules_deck.specs.Trees.{Name, Statement}
+use Rattle.rules_deck.specs.Deck.{Do, endings}
+use Rattle.rules_deck.specs.Grammar.{readings}
+use Rattle.rules_deck.specs.Meaning.{Key, Values, bounds, Standing}
+use Rattle.rules_deck.specs.Translation.{filled}
+use Rattle.rules_deck.specs.Compile.{deckOf, compiling}
+use Rattle.rules_deck.specs.Accepted.{Among}
+use Rattle.rules_deck.specs.Seen.{statementsOf, meaningOf, deckNames, deckDims, deckLevels, objectIn, namedCell, namedValues, rightStore, series, sum}
+use Rattle.rules_deck.specs.Worked.{decks, DecksRight}
+
+-- compiling the deck with k digits gives the object
+pub record Compiled (k : ℕ) (deck object : List ℕ) : Type 0 where
+  pub output : List ℕ
+  pub accepts : compiling k deck output .refusal ≡ accepted
+  pub writes : objectIn (compiling k deck output) ≡ object
+
+-- ---- 1, 2. A run halts as the deck means: same halt, same named values, same first statement that lost digits
+
+pub record Alike (object : List ℕ) (h : Halt) (m : Standing) (r : Ran) : Type 0 where
+  pub accepts : r .refusal ≡ accepted
+  pub halts : r .halt ≡ haltNumber h
+  pub values : (x : Key) (c : ℕ) → namedCell object x ≡ some c → cell (r .store) c ≡ m .values x
+  pub lost : r .sequence ≡ m .lost
+
+-- If the meaning, which starts from the named values alone, halts, then runs one after the other that are long enough together halt alike.
+abbrev pub HaltsAlike : Type 0
+HaltsAlike =
+    (k : ℕ) (deck object : List ℕ) (store : List ℤ) → Compiled k deck object → rightStore object store ≡ true → (n : ℕ) (h : Halt) (m : Standing) →
+    meaningOf k deck (namedValues object store) n ≡ halt h m →
+    (enough : ℕ) × ((allowances : List ℕ) → Each IsWord allowances → enough ≤ sum allowances → Alike object h m (series object store freshLent allowances))
+
+-- the meaning halts, and the run with it
+pub record Meant (k : ℕ) (deck object : List ℕ) (store : List ℤ) (r : Ran) : Type 0 where
+  pub count : ℕ
+  pub how : Halt
+  pub end : Standing
+  pub halts : meaningOf k deck (namedValues object store) count ≡ halt how end
+  pub alike : Alike object how end r
+
+-- If runs one after the other halt other than by 2, the meaning halts alike.
+abbrev pub MeansAlike : Type 0
+MeansAlike =
+    (k : ℕ) (deck object : List ℕ) (store : List ℤ) → Compiled k deck object → rightStore object store ≡ true → (allowances : List ℕ) → Each IsWord allowances →
+    (series object store freshLent allowances .halt ≡ 2 → ⊥) → Meant k deck object store (series object store freshLent allowances)
+
+-- A deck that never halts is never made to halt.
+abbrev pub NeverHalts : Type 0
+NeverHalts =
+    (k : ℕ) (deck object : List ℕ) (store : List ℤ) → Compiled k deck object → rightStore object store ≡ true →
+    ((n : ℕ) (h : Halt) (m : Standing) → meaningOf k deck (namedValues object store) n ≡ halt h m → ⊥) →
+    (allowances : List ℕ) → Each IsWord allowances → series object store freshLent allowances .halt ≡ 2
+
+-- A DO's end is reached only after its DO, with a step above 0: so nothing depends on what hidden cells held at the start.
+abbrev pub EndsAfterDo : Type 0
+EndsAfterDo =
+    (k : ℕ) (deck object : List ℕ) (store : List ℤ) → Compiled k deck object → rightStore object store ≡ true → (n : ℕ) (m : Standing) →
+    meaningOf k deck (namedValues object store) n ≡ go m → (s : Statement) → getElem? (statementsOf (deckOf k deck)) (m .at) ≡ some s →
+    (d : Do) → Among d (endings (statementsOf (deckOf k deck)) (s .number)) → (limit : ℤ) × ((step : ℤ) × ((m .entered (d .position) ≡ bounds limit step) × (positive step ≡ true)))
+
+-- an entry of body 7 that is a name's, with what the deck says of the name
+pub record EntryOf (k : ℕ) (deck : List ℕ) (v : Name) (e : Named) : Type 0 where
+  pub named : e .name ≡ filled v
+  pub rows : e .rows ≡ deckDims k deck v .rows
+  pub columns : e .columns ≡ deckDims k deck v .columns
+
+-- the names of body 7 of an object's bytes
+pub record OneEntry (k : ℕ) (deck : List ℕ) (v : Name) (names : List Named) : Type 0 where
+  pub at : ℕ
+  pub entry : Named
+  pub there : getElem? names at ≡ some entry
+  pub is : EntryOf k deck v entry
+  pub only : (i : ℕ) (other : Named) → getElem? names i ≡ some other → other .name ≡ filled v → i ≡ at
+
+-- Each name of the deck has exactly one entry of body 7, with its dimensions: 0 and 0 for a plain one, columns 0 for one dimension.
+abbrev pub NamesOnce : Type 0
+NamesOnce =
+    (k : ℕ) (deck object : List ℕ) → Compiled k deck object → (o : Object) → readObject object ≡ some o → (v : Name) → Among v (deckNames k deck) →
+    OneEntry k deck v (o .names)
+
+-- ---- 3. A run can be split
+
+-- A run of a steps stopped by halt 2, then one of b, equals one of a + b, steps added.
+abbrev pub GoesOn : Type 0
+GoesOn =
+    (object : List ℕ) (store : List ℤ) (l : Lent) → length (l .places) ≡ limits .stack → (a b : ℕ) →
+    running object store l a .refusal ≡ accepted → running object store l a .halt ≡ 2 →
+    running object store l (a + b) ≡ afterSteps (running object store l a .steps) (running object (running object store l a .store) (running object store l a .lent) b)
+
+-- What a run leaves is never refused.
+abbrev pub NeverRefused : Type 0
+NeverRefused =
+    (object : List ℕ) (store : List ℤ) (l : Lent) → length (l .places) ≡ limits .stack → (a b : ℕ) → running object store l a .refusal ≡ accepted →
+    running object (running object store l a .store) (running object store l a .lent) b .refusal ≡ accepted
+
+-- ---- 4. The steps reported are the machine's
+
+pub record StepsOf (object : List ℕ) (store : List ℤ) (l : Lent) (a : ℕ) : Type 0 where
+  -- by definition the steps of the machine; halt 2 reports the whole allowance
+  pub whole : running object store l a .halt ≡ 2 → running object store l a .steps ≡ a
+  -- any other halt takes a step at least, is given at the steps reported too, and one step less gives halt 2
+  pub some : (running object store l a .halt ≡ 2 → ⊥) → 1 ≤ running object store l a .steps
+  pub exact : (running object store l a .halt ≡ 2 → ⊥) → running object store l (running object store l a .steps) ≡ running object store l a
+  pub less : (running object store l a .halt ≡ 2 → ⊥) → running object store l (running object store l a .steps - 1) .halt ≡ 2
+
+abbrev pub StepsTrue : Type 0
+StepsTrue = (object : List ℕ) (store : List ℤ) (l : Lent) (a : ℕ) → running object store l a .refusal ≡ accepted → StepsOf object store l a
+
+-- ---- 5. The stack test passes exactly when a table of heights exists, and that is exactly when all paths agree
+
+-- the object passes 40 to 43
+pub record Judged (object : List ℕ) (o : Object) : Type 0 where
+  pub reads : readObject object ≡ some o
+  pub passes41 : right41 o ≡ true
+  pub passes42 : refused42 o ≡ none
+  pub passes43 : refused43 o ≡ none
+
+pub record Exactly (object : List ℕ) (o : Object) : Type 0 where
+  pub table : (checking object ≡ accepted) ↔ ((H : List ℕ) × Valid (flowOf o) H)
+  pub paths : ((H : List ℕ) × Valid (flowOf o) H) ↔ PathsAgree (flowOf o)
+  pub refused : (checking object ≡ refusal 44 0 0) ↔ NoTable (flowOf o)
+  -- the least table has a height exactly where a path reaches
+  pub heights : (H : List ℕ) → heights (flowOf o) ≡ some H → (a h : ℕ) → ((heightAt H a ≡ h) × (h ≤ limits .stack)) ↔ Reached (flowOf o) a h
+
+abbrev pub HeightsExactly : Type 0
+HeightsExactly = (object : List ℕ) (o : Object) → Judged object o → Exactly object o
+
+-- ---- 6. What passes the check never faults, unguarded, at any allowance
+
+-- at every state of the unguarded run: the index is in the code, what is popped is there, the height after is at most 40, the instruction passes 43 and its entry 42, and
+-- every cell that it reads or writes is below the cell count
+abbrev pub NoFault : Type 0
+NoFault =
+    (object : List ℕ) (store : List ℤ) (l : Lent) → length (l .places) ≡ limits .stack → running object store l 0 .refusal ≡ accepted →
+    (o : Object) → readObject object ≡ some o → (n : ℕ) (t : State) → run (step o) n (taken l store) ≡ go t → Right o t
+
+-- so the run that tests everything is the run that tests nothing, and 7 and 8 never come
+abbrev pub TestsNothing : Type 0
+TestsNothing =
+    (object : List ℕ) (store : List ℤ) (l : Lent) → length (l .places) ≡ limits .stack → running object store l 0 .refusal ≡ accepted →
+    (o : Object) → readObject object ≡ some o → (n : ℕ) → (run (benchStep o) n (taken l store) ≡ run (step o) n (taken l store)) × (running object store l n .halt < 7)
+
+-- cells past the count neither change nor matter
+abbrev pub CellsPast : Type 0
+CellsPast =
+    (object : List ℕ) (store extra : List ℤ) (l : Lent) (a : ℕ) → length (l .places) ≡ limits .stack → running object store l a .refusal ≡ accepted →
+    running object (store ++ extra) l a ≡ ranWithCells extra (running object store l a)
+
+-- the bench run of what passes the check is the run from a fresh state
+abbrev pub BenchIsRun : Type 0
+BenchIsRun = (object : List ℕ) → checking object ≡ accepted → (store : List ℤ) (a : ℕ) → benching object store freshLent a ≡ running object store freshLent a
+
+-- ---- 7. Everything compiled passes
+
+abbrev pub CompiledPasses : Type 0
+CompiledPasses = (k : ℕ) (deck object : List ℕ) → Compiled k deck object → checking object ≡ accepted
+
+-- a compiled deck with p levels of parentheses never stands above 2p+3, from whatever state it is run
+abbrev pub NeverAbove : Type 0
+NeverAbove =
+    (k : ℕ) (deck object : List ℕ) (store : List ℤ) (l : Lent) → Compiled k deck object → length (l .places) ≡ limits .stack → (a : ℕ) →
+    running object store l a .refusal ≡ accepted → running object store l a .lent .height ≤ 2 * deckLevels k deck + 3
+
+-- ---- 8. A refusal changes nothing; each call is a function, so that each input has one outcome
+
+abbrev pub RefusalKeeps : Type 0
+RefusalKeeps =
+    ((k : ℕ) (deck output : List ℕ) → (compiling k deck output .refusal ≡ accepted → ⊥) → compiling k deck output ≡ notWritten (compiling k deck output .refusal) output) ×
+    ((object : List ℕ) (store : List ℤ) (l : Lent) (a : ℕ) → (running object store l a .refusal ≡ accepted → ⊥) → running object store l a ≡ notRun (running object store l a .refusal) l store) ×
+    ((object : List ℕ) (store : List ℤ) (l : Lent) (a : ℕ) → (benching object store l a .refusal ≡ accepted → ⊥) → benching object store l a ≡ notRun (benching object store l a .refusal) l store) ×
+    ((object table : List ℕ) → (mapping object table .refusal ≡ accepted → ⊥) → mapping object table ≡ notWritten (mapping object table .refusal) table)
+
+-- ---- 9. The bytes that are written read back as the same seven lists, and the other way round
+
+abbrev pub RoundTrip : Type 0
+RoundTrip =
+    ((o : Object) → Writable o → readObject (objectBytes o) ≡ some o) ×
+    ((object : List ℕ) (o : Object) → Each IsByte object → readObject object ≡ some o → objectBytes o ≡ object) ×
+    ((k : ℕ) (deck object : List ℕ) → Compiled k deck object → (o : Object) × (Writable o × (objectBytes o ≡ object)))
+
+-- ---- 10. No text is of two statement forms
+
+abbrev pub NoTwoForms : Type 0
+NoTwoForms = (text : List ℕ) → length (readings text) ≤ 1
+
+-- ---- 11. P1 to P12
+
+-- P1 to P8 as decks through the meaning and through compiling and running, P9 to P12 as objects' bytes through the check
+pub record Table : Type 0 where
+  pub decks : DecksRight decks
+  pub p9 : checking (objectBytes (plain (ADD 0 ∷ HLT 0 ∷ []))) ≡ refusal 44 0 0
+  pub p10 : checking (objectBytes (plain (HLT 0 ∷ ADD 0 ∷ []))) ≡ accepted
+  pub p11 : checking (objectBytes (object 0 (1 ∷ []) [] [] [] (CON 0 ∷ JMP 0 ∷ []))) ≡ refusal 44 0 0
+  pub p12 : checking (objectBytes (plain (JMP 0 ∷ []))) ≡ accepted
+
+-- ---- all of them
+
+pub record Kept : Type 0 where
+  pub haltsAlike : HaltsAlike
+  pub meansAlike : MeansAlike
+  pub neverHalts : NeverHalts
+  pub endsAfterDo : EndsAfterDo
+  pub namesOnce : NamesOnce
+  pub goesOn : GoesOn
+  pub neverRefused : NeverRefused
+  pub stepsTrue : StepsTrue
+  pub heightsExactly : HeightsExactly
+  pub noFault : NoFault
+  pub testsNothing : TestsNothing
+  pub cellsPast : CellsPast
+  pub benchIsRun : BenchIsRun
+  pub compiledPasses : CompiledPasses
+  pub neverAbove : NeverAbove
+  pub refusalKeeps : RefusalKeeps
+  pub roundTrip : RoundTrip
+  pub noTwoForms : NoTwoForms
+  pub table : Table
