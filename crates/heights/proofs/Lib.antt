@@ -1,0 +1,4 @@
+pub mod Operations
+pub mod Places
+pub mod Loops
+pub mod Answers

@@ -1,0 +1,92 @@
+-- The flow of an object's code, by the words at their places.
+-- Assumes nothing.
+use mathlib.Core.Path.{_≡_, refl, sym, ap, _∙_, subst}
+use mathlib.Core.Bool.{true}
+use mathlib.Core.List.{List}
+use Prim.Native.Nat.{ℕ, _+_, _*_, _/_, _%_, _^_, _≤_, _<_}
+use native.Mathlib.Omega.{arith}
+use lib.Dec.{leb}
+use lib.ListN.{length, getD}
+use borrow.Author.Tests.{leb-true}
+use Rattle.rules_object.specs.Limits.{limits}
+use Rattle.rules_object.specs.Object.{Loop, Object}
+use Rattle.rules_object.specs.Machine.{Instr, operationOf, operandOf, meant, decode, noLoop}
+use Rattle.rules_object.specs.Check.{right41, right43, popsTable, pushesTable, operationNumber, pops, pushes, successors, instruction, flowOf}
+use Rattle.rules_object.specs.Flow.{at}
+use Rattle.rules_object.proofs.Filling.{Filling}
+use Rattle.rules_object.proofs.Fills.{there}
+use Rattle.rules_object.proofs.Passed.{both}
+use Rattle.word.specs.Word.{wordAt}
+use Rattle.object.specs.Layout.{objectAt, loopAt}
+use Rattle.object.specs.declared.Layout.{Layout}
+use Rattle.object.proofs.Entries.{code-length, do-at, code-at}
+use Rattle.heights.specs.Judged.{operandRight, Judged}
+use Rattle.heights.proofs.Operations.{number-is, known}
+
+module _ (e : Layout) (s : List ℕ) where
+  pub body-is : (i : ℕ) → i < e .«do_count» → wordAt s (e .dos + 16 * i + 12) ≡ getD (objectAt e s .dos) i noLoop .body
+  unfolding loopAt
+  body-is i l = sym (ap (λ (d : Loop). d .body) (do-at e s i noLoop l))
+
+  pub flow-length : flowOf (objectAt e s) .n ≡ e .«code_count»
+  unfolding flowOf
+  flow-length = code-length e s
+
+-- what waits last is inside the code
+pub waits-inside : (e : Layout) (s H W : List ℕ) (b : ℕ) {a : ℕ} → at W b ≡ a → Filling (flowOf (objectAt e s)) H W (b + 1) → a < e .«code_count»
+waits-inside e s H W b {a} is f = omega (arith, there (flowOf (objectAt e s)) H W b a is f .0, flow-length e s)
+
+within : (o : Object) → right41 o ≡ true → length (o .code) ≤ limits .code
+unfolding right41
+within o r =
+    let r₁ = both (leb 1 (o .digits)) _ r .1 in
+    let r₂ = both (leb (o .digits) (limits .digits)) _ r₁ .1 in
+    let r₃ = both (leb (o .cells) (limits .cells)) _ r₂ .1 in
+    let r₄ = both (leb (length (o .constants)) (limits .constants)) _ r₃ .1 in
+    let r₅ = both (leb (length (o .elements)) (limits .elements)) _ r₄ .1 in
+    let r₆ = both (leb (length (o .exits)) (limits .exits)) _ r₅ .1 in
+    let r₇ = both (leb (length (o .dos)) (limits .dos)) _ r₆ .1 in
+    leb-true _ _ (both (leb (length (o .code)) (limits .code)) _ r₇ .0)
+
+pub code-within : {e : Layout} {s : List ℕ} → Judged e s → e .«code_count» ≤ 4096
+code-within {e} {s} j = omega (arith, within (objectAt e s) (j .right), code-length e s)
+
+-- ---- the instruction at a, by its word's operation and operand
+
+pub record Decoded (e : Layout) (s : List ℕ) (a op x : ℕ) : Type 0 where
+  pub right : operandRight (objectAt e s) op x ≡ true
+  pub means : meant (objectAt e s) op x ≡ instruction (objectAt e s) a
+
+pub decoded : (e : Layout) (s : List ℕ) (a w op x : ℕ) → Judged e s → a < e .«code_count» → w ≡ wordAt s (e .code + 4 * a) → op ≡ w / 2 ^ 24 → x ≡ w % 2 ^ 24 → Decoded e s a op x
+unfolding operandRight right43 decode operationOf operandOf
+decoded e s a w op x j i ew eo ex =
+    let o = objectAt e s in
+    let at-a : w ≡ getD (o .code) a 0 = ew ∙ sym (code-at e s a i) in
+    let r : right43 o w ≡ true = subst (λ (y : ℕ). right43 o y ≡ true) (sym at-a) (j .words a i) in
+    record {
+      right = subst (λ (y : ℕ). operandRight o op y ≡ true) (sym ex) (subst (λ (y : ℕ). operandRight o y (w % 2 ^ 24) ≡ true) (sym eo) r);
+      means = ap (λ (y : ℕ). meant o y x) eo ∙ ap (λ (y : ℕ). meant o (w / 2 ^ 24) y) ex ∙ ap (decode o) at-a;
+    }
+
+module _ {e : Layout} {s : List ℕ} {a op x : ℕ} (d : Decoded e s a op x) where
+  pub op-known : op < 16
+  op-known = known (objectAt e s) op x (d .right)
+
+  numbered : op ≡ operationNumber (instruction (objectAt e s) a)
+  numbered = sym (number-is (objectAt e s) op x op-known) ∙ ap operationNumber (d .means)
+
+  pub takes-is : (p : ℕ) → p ≡ getD popsTable op 0 → p ≡ flowOf (objectAt e s) .takes a
+  unfolding flowOf
+  takes-is p q = q ∙ ap (λ (y : ℕ). getD popsTable y 0) numbered
+
+  pub gives-is : (p : ℕ) → p ≡ getD pushesTable op 0 → p ≡ flowOf (objectAt e s) .gives a
+  unfolding flowOf
+  gives-is p q = q ∙ ap (λ (y : ℕ). getD pushesTable y 0) numbered
+
+  pub width-is : (n : ℕ) → n ≡ length (successors a (meant (objectAt e s) op x)) → n ≡ flowOf (objectAt e s) .width a
+  unfolding flowOf
+  width-is n q = q ∙ ap (λ (y : Instr). length (successors a y)) (d .means)
+
+  pub next-is : (k t : ℕ) → t ≡ getD (successors a (meant (objectAt e s) op x)) k 0 → flowOf (objectAt e s) .next a k ≡ t
+  unfolding flowOf
+  next-is k t q = sym (q ∙ ap (λ (y : Instr). getD (successors a y) k 0) (d .means))

@@ -1,0 +1,190 @@
+// 44: a height for each instruction, filled in by a worklist over control flow. The object has passed 40, 41 and 43.
+ghost use mathlib.Core.Path.{_≡_};
+ghost use mathlib.Core.Bool.{true};
+ghost use Prim.Native.Nat.{ℕ, _+_, _≤_, _<_};
+ghost use lib.ListN.{length, getD};
+ghost use Rattle.rules_object.specs.Machine.{meant, noLoop};
+ghost use Rattle.rules_object.specs.Check.{popsTable, pushesTable, successors, flowOf};
+ghost use Rattle.rules_object.specs.Flow.{at};
+ghost use Rattle.rules_object.specs.Heights.{heights};
+ghost use Rattle.rules_object.proofs.Filling.{nevers, Filling};
+ghost use Rattle.object.specs.Layout.{Placed, objectAt};
+ghost use Rattle.heights.specs.Judged.{operandRight, Judged, Fresh, answered};
+ghost use Rattle.heights.specs.Walk.{Meets, Visited};
+use object::Layout;
+
+pub type Table = [u8; 4096];
+
+// Instructions that wait to be visited.
+type Work = [u16; 4096];
+
+// The height of an instruction that control never comes to.
+pub const NEVER: u8 = 255;
+
+const STACK: u8 = 40;
+
+// HLT CON LOD STO LDE STE ADD SUB MUL DIV NEG JMP BR3 BRC DOI DOE
+const POPS: [u8; 16] = [0, 0, 0, 1, 0, 1, 2, 2, 2, 2, 1, 0, 1, 1, 3, 0];
+
+const PUSHES: [u8; 16] = [0, 1, 1, 0, 1, 0, 1, 1, 1, 1, 1, 0, 0, 0, 0, 0];
+
+// How many instructions wait, or that there is no table.
+enum Met {
+    On(usize),
+    No,
+}
+
+fn place(t: u16) -> usize
+    ensures { λ r. ⌜ r ≡ t ⌝ }
+{
+    t as usize
+}
+
+fn pops_of(operation: usize) -> u8
+    requires { ⌜ operation < 16 ⌝ }
+    ensures { λ r. ⌜ r ≡ getD popsTable operation 0 ⌝ }
+{
+    POPS[operation]
+}
+
+fn pushes_of(operation: usize) -> u8
+    requires { ⌜ operation < 16 ⌝ }
+    ensures { λ r. ⌜ (r ≡ getD pushesTable operation 0) × (r ≤ 1) ⌝ }
+{
+    PUSHES[operation]
+}
+
+fn exit_at(o: &[u8], e: Layout, i: usize) -> usize
+    requires { ⌜ Placed e (now o) × (i < e .«exit_count») ⌝ }
+    ensures { λ r. ⌜ r ≡ getD (objectAt e (now (o .entry)) .exits) i 0 ⌝ }
+{
+    word::index(word::load(o, e.exits + 4 * i))
+}
+
+fn body_of(o: &[u8], e: Layout, i: usize) -> usize
+    requires { ⌜ Placed e (now o) × (i < e .«do_count») ⌝ }
+    ensures { λ r. ⌜ r ≡ getD (objectAt e (now (o .entry)) .dos) i noLoop .body ⌝ }
+{
+    word::index(word::load(o, e.dos + 16 * i + 12))
+}
+
+// How many successors.
+fn width_of(o: &[u8], e: Layout, operation: usize, x: usize) -> usize
+    requires { ⌜ Placed e (now o) × (operandRight (objectAt e (now o)) operation x ≡ true) ⌝ }
+    ensures { λ r. ⌜ ((a : ℕ) → r ≡ length (successors a (meant (objectAt e (now (o .entry))) operation x))) ⌝ }
+{
+    match operation {
+        0 => 0,
+        12 => 3,
+        13 => exit_at(o, e, x),
+        15 => 2,
+        _ => 1,
+    }
+}
+
+// One of them. A computed branch's count stands before its targets.
+fn next_of(o: &[u8], e: Layout, operation: usize, x: usize, a: usize, k: usize) -> usize
+    requires { ⌜ Placed e (now o) × (operandRight (objectAt e (now o)) operation x ≡ true) ⌝ }
+    requires { ⌜ (a < 4096) × (k < length (successors a (meant (objectAt e (now o)) operation x))) ⌝ }
+    ensures { λ r. ⌜ r ≡ getD (successors a (meant (objectAt e (now (o .entry))) operation x)) k 0 ⌝ }
+{
+    match operation {
+        11 => x,
+        12 => exit_at(o, e, x + k),
+        13 => exit_at(o, e, x + 1 + k),
+        15 => {
+            if k == 0 {
+                return body_of(o, e, x);
+            }
+            a + 1
+        }
+        _ => a + 1,
+    }
+}
+
+// The height h comes to the instruction t.
+fn meet(t: usize, n: usize, h: u8, table: &mut Table, work: &mut Work, top: usize) -> Met
+    requires { ⌜ (n ≤ 4096) × ((n ≤ length (now table)) × (nevers (now table) + top ≤ 4096)) ⌝ }
+    ensures { λ r. ⌜ Meets n t h (now (table .entry)) (now (work .entry)) top (now (table .exit)) (now (work .exit)) r ⌝ }
+{
+    if n <= t {
+        return Met::No;
+    }
+    let g = table[t];
+    if g == NEVER {
+        if STACK < h {
+            return Met::No;
+        }
+        table[t] = h;
+        work[top] = t as u16;
+        return Met::On(top + 1);
+    }
+    if g == h { Met::On(top) } else { Met::No }
+}
+
+// The last instruction that waits, and has a height: the height after it comes to each of its successors.
+fn visit(o: &[u8], e: Layout, table: &mut Table, work: &mut Work, start: usize) -> Met
+    requires { ⌜ Judged e (now o) × (nevers (now table) + start < 4096) ⌝ }
+    requires { ⌜ Filling (flowOf (objectAt e (now o))) (now table) (now work) (start + 1) ⌝ }
+    ensures { λ r. ⌜ Visited (flowOf (objectAt e (now (o .entry)))) (now (table .exit)) (now (work .exit)) (nevers (now (table .entry)) + start) r ⌝ }
+{
+    let a = place(work[start]);
+    let w = word::load(o, e.code + 4 * a);
+    let operation = word::index(word::operation(w));
+    let x = word::index(word::operand(w));
+    let g = table[a];
+    let p = pops_of(operation);
+    if g < p {
+        return Met::No;
+    }
+    let h = g - p + pushes_of(operation);
+    let n = width_of(o, e, operation, x);
+    let mut top = start;
+    let mut k = 0;
+    while k < n {
+        let t = next_of(o, e, operation, x, a, k);
+        let met = meet(t, e.code_count, h, table, work, top);
+        match met {
+            Met::On(q) => {
+                top = q;
+            }
+            Met::No => {
+                return Met::No;
+            }
+        }
+        k += 1;
+    }
+    Met::On(top)
+}
+
+// From a table that is NEVER throughout, and instruction 0 first in the worklist.
+fn fill(o: &[u8], e: Layout, table: &mut Table, work: &mut Work) -> bool
+    requires { ⌜ Judged e (now o) ⌝ }
+    requires { ⌜ Fresh (now table) × ((at (now work) 0 ≡ 0) × (length (now work) ≡ 4096)) ⌝ }
+    ensures { λ r. ⌜ heights (flowOf (objectAt e (now (o .entry)))) ≡ answered (e .«code_count») (now (table .exit)) r ⌝ }
+{
+    table[0] = 0;
+    let mut top: usize = 1;
+    while 0 < top {
+        let met = visit(o, e, table, work, top - 1);
+        match met {
+            Met::On(q) => {
+                top = q;
+            }
+            Met::No => {
+                return false;
+            }
+        }
+    }
+    true
+}
+
+// Whether there is a table of heights. If so, it is left in `table`, an entry for each instruction; else what is left is of no use.
+pub fn heights_of(o: &[u8], e: Layout, table: &mut Table) -> bool
+    requires { ⌜ Judged e (now o) ⌝ }
+    requires { ⌜ Fresh (now table) ⌝ }
+    ensures { λ r. ⌜ heights (flowOf (objectAt e (now (o .entry)))) ≡ answered (e .«code_count») (now (table .exit)) r ⌝ }
+{
+    let mut work = [0u16; 4096];
+    fill(o, e, table, &mut work)
+}

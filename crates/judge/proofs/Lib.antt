@@ -1,0 +1,3 @@
+pub mod Says
+pub mod Names
+pub mod Firsts

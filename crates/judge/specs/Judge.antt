@@ -1,0 +1,69 @@
+-- What the code's functions answer, in the book's words.
+-- Assumes nothing.
+use mathlib.Core.Path.{_≡_}
+use Prim.Native.Nat.{ℕ, zero, suc, _+_, _≤_}
+use mathlib.Core.Bool.{Bool, true, false, _&&_, cond}
+use mathlib.Core.List.{List, [], _∷_}
+use mathlib.Core.Option.{Option, none, some}
+use lib.Dec.{ltb, leb}
+use lib.ListN.{length, getD, take, drop}
+use lib.IntN.{natAbs}
+use Rattle.rules_object.specs.Object.{Line, Named, Object}
+use Rattle.rules_object.specs.Bytes.{signedOf}
+use Rattle.rules_object.specs.Machine.{noElement, noLoop}
+use Rattle.rules_object.specs.Check.{rightConstant, rightElement, rightLoop, rightLine, rightNamed, nameTail, blanks, noEntry}
+use Rattle.rules_object.specs.Calls.{Refusal, refusal}
+use Rattle.word.specs.Word.{wordAt}
+use Rattle.object.specs.declared.Layout.{Layout}
+use Rattle.judge.specs.declared.Found.{Found}
+use Rattle.judge.specs.declared.Found.the-variants.{Nothing, At}
+
+-- entries that stand in for those outside a body
+abbrev pub noLine : Line
+noLine = record { sequence = 0; number = 0; address = 0 }
+
+abbrev pub noName : Named
+noName = record { name = []; first = 0; rows = 0; columns = 0 }
+
+-- the eight bytes of a name
+abbrev pub nameAt : List ℕ → ℕ → List ℕ
+nameAt s b = take 8 (drop b s)
+
+-- letters and digits of a name end at r: six characters at most
+pub record NameEnd (name : List ℕ) (r : ℕ) : Type 0 where
+  pub some : 1 ≤ r
+  pub most : r ≤ 6
+  pub rest : nameTail 5 (drop 1 name) ≡ blanks (drop r name)
+
+-- the subscript at b: its multiplier and its addend below p, its cell inside
+unfoldable pub subscriptAt : List ℕ → ℕ → ℕ → ℕ → Bool
+subscriptAt s b cells p = ltb (wordAt s b) p && (ltb (natAbs (signedOf (wordAt s (b + 8)))) p && ltb (wordAt s (b + 4)) cells)
+
+-- an answer as the book says it
+unfoldable pub refusalOf : ℕ → Found → Option Refusal
+refusalOf number Nothing = none
+refusalOf number (At kind entry) = some (refusal number entry kind)
+
+-- how many entries of a kind 42 judges
+unfoldable pub countOf : Layout → ℕ → ℕ
+countOf e kind = getD (0 ∷ e .«constant_count» ∷ e .«element_count» ∷ 0 ∷ e .«do_count» ∷ 0 ∷ e .«line_count» ∷ e .«name_count» ∷ []) kind 0
+
+-- 42 by kind
+abbrev pub kindTests : List (Object → ℕ → Bool)
+kindTests =
+    noEntry ∷
+    (λ o i. rightConstant o (getD (o .constants) i 0)) ∷
+    (λ o i. rightElement o (getD (o .elements) i noElement)) ∷
+    noEntry ∷
+    (λ o i. rightLoop o (getD (o .dos) i noLoop)) ∷
+    noEntry ∷
+    (λ o i. rightLine o (getD (o .lines) i noLine)) ∷
+    (λ o i. rightNamed o (getD (o .names) i noName)) ∷ []
+
+unfoldable pub passes : Object → ℕ → ℕ → Bool
+passes o kind i = getD kindTests kind noEntry o i
+
+-- the first of n entries, from i on, that fails
+abbrev pub firstFrom : (ℕ → Bool) → ℕ → ℕ → Option ℕ
+firstFrom test zero i = none
+firstFrom test (suc n) i = cond (test i) (firstFrom test n (suc i)) (some i)

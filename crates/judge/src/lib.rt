@@ -1,0 +1,280 @@
+// Rules 41 and 42 on an object's bytes. Tests are joined by `&`, so each is made whatever the others say; the bytes are there in any case.
+ghost use mathlib.Core.Path.{_≡_};
+ghost use mathlib.Core.Bool.{true, _&&_, _||_};
+ghost use mathlib.Core.List.{List};
+ghost use Prim.Native.Nat.{ℕ, _+_, _*_, _^_, _≤_, _<_};
+ghost use lib.Dec.{ltb, leb};
+ghost use lib.ListN.{length, getD, drop};
+ghost use lib.IntN.{natAbs};
+ghost use Rattle.number.specs.Number.{ceiling};
+ghost use Rattle.rules_object.specs.Bytes.{signedOf};
+ghost use Rattle.rules_object.specs.Object.{Object};
+ghost use Rattle.rules_object.specs.Machine.{noElement, noLoop, ruleOf};
+ghost use Rattle.rules_object.specs.Check.{right41, rightConstant, rightElement, rightLoop, rightLine, rightNamed, rightName, letter, digit, blanks, span};
+ghost use Rattle.rules_object.specs.Calls.{orElse, atEntry, refused42};
+ghost use Rattle.word.specs.Word.{wordAt};
+ghost use Rattle.object.specs.Layout.{Placed, objectAt};
+ghost use Rattle.judge.specs.Judge.{NameEnd, noLine, noName, nameAt, subscriptAt, refusalOf, countOf, passes, firstFrom};
+use object::Layout;
+
+// The kind of the table, and the entry in it.
+pub enum Found {
+    Nothing,
+    At(u32, usize),
+}
+
+const DIGITS: u32 = 9;
+
+const CELLS: u32 = 4096;
+
+const CONSTANTS: usize = 256;
+
+const ELEMENTS: usize = 256;
+
+const EXITS: usize = 1024;
+
+const DOS: usize = 64;
+
+const CODE: usize = 4096;
+
+const STATEMENTS: usize = 400;
+
+const NAMES: usize = 100;
+
+const BLANK: u8 = b' ';
+
+// ---- 41
+
+pub fn limits_right(e: Layout) -> bool
+    ensures { λ r. ⌜ ((s : List ℕ) → r ≡ right41 (objectAt e s)) ⌝ }
+{
+    let statements = (e.line_count <= STATEMENTS) & (e.name_count <= NAMES);
+    let flow = (e.exit_count <= EXITS)
+        & ((e.do_count <= DOS) & ((e.code_count <= CODE) & statements));
+    let tables = (e.constant_count <= CONSTANTS) & ((e.element_count <= ELEMENTS) & flow);
+    (1 <= e.digits) & ((e.digits <= DIGITS) & ((e.cells <= CELLS) & tables))
+}
+
+// ---- 42
+
+fn wide(w: u32) -> u64
+    ensures { λ r. ⌜ (r ≡ w) × (r < 2 ^ 32) ⌝ }
+{
+    w as u64
+}
+
+// Of a word in two's complement.
+fn magnitude(w: u32) -> u64
+    ensures { λ r. ⌜ r ≡ natAbs (signedOf w) ⌝ }
+{
+    if w < 0x8000_0000 {
+        wide(w)
+    } else {
+        0x1_0000_0000 - wide(w)
+    }
+}
+
+fn in_cells(o: &[u8], at: usize, cells: u32) -> bool
+    requires { ⌜ at + 4 ≤ length (now o) ⌝ }
+    ensures { λ r. ⌜ r ≡ ltb (wordAt (now (o .entry)) at) cells ⌝ }
+{
+    word::load(o, at) < cells
+}
+
+pub fn in_code(o: &[u8], at: usize, n: usize) -> bool
+    requires { ⌜ at + 4 ≤ length (now o) ⌝ }
+    ensures { λ r. ⌜ r ≡ ltb (wordAt (now (o .entry)) at) n ⌝ }
+{
+    word::index(word::load(o, at)) < n
+}
+
+fn fits(o: &[u8], at: usize, p: u64) -> bool
+    requires { ⌜ at + 4 ≤ length (now o) ⌝ }
+    ensures { λ r. ⌜ r ≡ ltb (wordAt (now (o .entry)) at) p ⌝ }
+{
+    wide(word::load(o, at)) < p
+}
+
+fn signed_fits(o: &[u8], at: usize, p: u64) -> bool
+    requires { ⌜ at + 4 ≤ length (now o) ⌝ }
+    ensures { λ r. ⌜ r ≡ ltb (natAbs (signedOf (wordAt (now (o .entry)) at))) p ⌝ }
+{
+    magnitude(word::load(o, at)) < p
+}
+
+// Exact: the words are 32 bits wide and the sum is not.
+fn inside(first: u32, rows: u32, columns: u32, cells: u32) -> bool
+    ensures { λ r. ⌜ r ≡ leb (first + rows * columns) cells ⌝ }
+{
+    wide(first) + wide(rows) * wide(columns) <= wide(cells)
+}
+
+pub fn constant_right(o: &[u8], e: Layout, p: u64, i: usize) -> bool
+    requires { ⌜ p ≡ ceiling (ruleOf (objectAt e (now o))) ⌝ }
+    requires { ⌜ Placed e (now o) × (i < e .«constant_count») ⌝ }
+    ensures { λ r. ⌜ r ≡ rightConstant (objectAt e (now (o .entry))) (getD (objectAt e (now (o .entry)) .constants) i 0) ⌝ }
+{
+    fits(o, e.constants + 4 * i, p)
+}
+
+// Multiplier, cell and addend.
+fn subscript_right(o: &[u8], b: usize, cells: u32, p: u64) -> bool
+    requires { ⌜ b + 12 ≤ length (now o) ⌝ }
+    ensures { λ r. ⌜ r ≡ subscriptAt (now (o .entry)) b cells p ⌝ }
+{
+    fits(o, b, p) & (signed_fits(o, b + 8, p) & in_cells(o, b + 4, cells))
+}
+
+pub fn element_right(o: &[u8], e: Layout, p: u64, i: usize) -> bool
+    requires { ⌜ p ≡ ceiling (ruleOf (objectAt e (now o))) ⌝ }
+    requires { ⌜ Placed e (now o) × (i < e .«element_count») ⌝ }
+    ensures { λ r. ⌜ r ≡ rightElement (objectAt e (now (o .entry))) (getD (objectAt e (now (o .entry)) .elements) i noElement) ⌝ }
+{
+    let b = e.elements + 36 * i;
+    let rows = word::load(o, b + 4);
+    let columns = word::load(o, b + 8);
+    let subscripts = subscript_right(o, b + 12, e.cells, p)
+        & subscript_right(o, b + 24, e.cells, p);
+    (1 <= rows) & ((1 <= columns) & (inside(word::load(o, b), rows, columns, e.cells) & subscripts))
+}
+
+pub fn loop_right(o: &[u8], e: Layout, i: usize) -> bool
+    requires { ⌜ Placed e (now o) × (i < e .«do_count») ⌝ }
+    ensures { λ r. ⌜ r ≡ rightLoop (objectAt e (now (o .entry))) (getD (objectAt e (now (o .entry)) .dos) i noLoop) ⌝ }
+{
+    let b = e.dos + 16 * i;
+    let body = in_code(o, b + 12, e.code_count);
+    in_cells(o, b, e.cells) & (in_cells(o, b + 4, e.cells) & (in_cells(o, b + 8, e.cells) & body))
+}
+
+pub fn line_right(o: &[u8], e: Layout, i: usize) -> bool
+    requires { ⌜ Placed e (now o) × (i < e .«line_count») ⌝ }
+    ensures { λ r. ⌜ r ≡ rightLine (objectAt e (now (o .entry))) (getD (objectAt e (now (o .entry)) .lines) i noLine) ⌝ }
+{
+    in_code(o, e.lines + 12 * i + 8, e.code_count)
+}
+
+fn letter_or_digit(c: u8) -> bool
+    ensures { λ r. ⌜ r ≡ (letter c || digit c) ⌝ }
+{
+    ((b'A' <= c) & (c <= b'Z')) | ((b'0' <= c) & (c <= b'9'))
+}
+
+// Where the letters and digits of a name end: after six characters at most.
+fn name_end(o: &[u8], b: usize) -> usize
+    requires { ⌜ b + 8 ≤ length (now o) ⌝ }
+    ensures { λ r. ⌜ NameEnd (nameAt (now (o .entry)) b) r ⌝ }
+{
+    let mut k: usize = 1;
+    while k < 6 {
+        if !letter_or_digit(o[b + k]) {
+            return k;
+        }
+        k += 1;
+    }
+    k
+}
+
+fn blank_from(o: &[u8], b: usize, from: usize) -> bool
+    requires { ⌜ (b + 8 ≤ length (now o)) × (from ≤ 8) ⌝ }
+    ensures { λ r. ⌜ r ≡ blanks (drop from (nameAt (now (o .entry)) b)) ⌝ }
+{
+    let mut k = from;
+    while k < 8 {
+        if o[b + k] != BLANK {
+            return false;
+        }
+        k += 1;
+    }
+    true
+}
+
+fn name_right(o: &[u8], b: usize) -> bool
+    requires { ⌜ b + 8 ≤ length (now o) ⌝ }
+    ensures { λ r. ⌜ r ≡ rightName (nameAt (now (o .entry)) b) ⌝ }
+{
+    let c = o[b];
+    let end = name_end(o, b);
+    (b'I' <= c) & ((c <= b'N') & blank_from(o, b, end))
+}
+
+// How many cells a name has.
+fn span_of(rows: u32, columns: u32) -> u64
+    ensures { λ r. ⌜ (r ≡ span rows columns) × (r ≤ 4294967295 * 4294967295) ⌝ }
+{
+    if rows == 0 {
+        return 1;
+    }
+    if columns == 0 {
+        return wide(rows);
+    }
+    wide(rows) * wide(columns)
+}
+
+pub fn named_right(o: &[u8], e: Layout, i: usize) -> bool
+    requires { ⌜ Placed e (now o) × (i < e .«name_count») ⌝ }
+    ensures { λ r. ⌜ r ≡ rightNamed (objectAt e (now (o .entry))) (getD (objectAt e (now (o .entry)) .names) i noName) ⌝ }
+{
+    let b = e.names + 20 * i;
+    let rows = word::load(o, b + 12);
+    let columns = word::load(o, b + 16);
+    let last = wide(word::load(o, b + 8)) + span_of(rows, columns);
+    name_right(o, b) & (((1 <= rows) | (columns == 0)) & (last <= wide(e.cells)))
+}
+
+fn entry_passes(o: &[u8], e: Layout, p: u64, kind: u32, i: usize) -> bool
+    requires { ⌜ p ≡ ceiling (ruleOf (objectAt e (now o))) ⌝ }
+    requires { ⌜ Placed e (now o) × (i < countOf e kind) ⌝ }
+    ensures { λ r. ⌜ r ≡ passes (objectAt e (now (o .entry))) kind i ⌝ }
+{
+    match kind {
+        1 => constant_right(o, e, p, i),
+        2 => element_right(o, e, p, i),
+        4 => loop_right(o, e, i),
+        6 => line_right(o, e, i),
+        7 => named_right(o, e, i),
+        _ => true,
+    }
+}
+
+// The first of the `n` entries of a kind that fails.
+fn first_bad(o: &[u8], e: Layout, p: u64, kind: u32, n: usize) -> Found
+    requires { ⌜ p ≡ ceiling (ruleOf (objectAt e (now o))) ⌝ }
+    requires { ⌜ Placed e (now o) × (n ≡ countOf e kind) ⌝ }
+    ensures { λ r. ⌜ refusalOf 42 r ≡ atEntry 42 kind (firstFrom (passes (objectAt e (now (o .entry))) kind) n 0) ⌝ }
+{
+    let mut i: usize = 0;
+    while i < n {
+        if !entry_passes(o, e, p, kind, i) {
+            return Found::At(kind, i);
+        }
+        i += 1;
+    }
+    Found::Nothing
+}
+
+fn or_else(a: Found, b: Found) -> Found
+    ensures { λ r. ⌜ ((n : ℕ) → refusalOf n r ≡ orElse (refusalOf n a) (refusalOf n b)) ⌝ }
+{
+    match a {
+        Found::Nothing => b,
+        Found::At(kind, i) => Found::At(kind, i),
+    }
+}
+
+// The lowest kind first. Exits and code are judged by 43.
+pub fn entries(o: &[u8], e: Layout, p: u64) -> Found
+    requires { ⌜ p ≡ ceiling (ruleOf (objectAt e (now o))) ⌝ }
+    requires { ⌜ Placed e (now o) ⌝ }
+    ensures { λ r. ⌜ refusalOf 42 r ≡ refused42 (objectAt e (now (o .entry))) ⌝ }
+{
+    let constants = first_bad(o, e, p, 1, e.constant_count);
+    let elements = first_bad(o, e, p, 2, e.element_count);
+    let dos = first_bad(o, e, p, 4, e.do_count);
+    let lines = first_bad(o, e, p, 6, e.line_count);
+    let names = first_bad(o, e, p, 7, e.name_count);
+    or_else(
+        constants,
+        or_else(elements, or_else(dos, or_else(lines, names))),
+    )
+}

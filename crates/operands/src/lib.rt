@@ -1,0 +1,133 @@
+// Rule 43 on an object's bytes, and rule 42 of the entry that an instruction uses.
+ghost use mathlib.Core.Path.{_≡_};
+ghost use mathlib.Core.Bool.{true};
+ghost use Prim.Native.Nat.{_+_, _^_, _≤_, _<_};
+ghost use lib.ListN.{take, drop};
+ghost use Rattle.number.specs.Number.{ceiling};
+ghost use Rattle.rules_object.specs.Object.{Object};
+ghost use Rattle.rules_object.specs.Machine.{ruleOf};
+ghost use Rattle.rules_object.specs.Check.{targets, right43, entryRight};
+ghost use Rattle.rules_object.specs.Calls.{refused43};
+ghost use Rattle.object.specs.Layout.{Placed, objectAt};
+ghost use Rattle.judge.specs.Judge.{refusalOf};
+ghost use Rattle.operands.specs.Operands.{operandRight, entryRightAt};
+use judge::Found;
+use object::Layout;
+
+// Exits of a BRC.
+const FEWEST: usize = 2;
+
+const MOST: usize = 10;
+
+// The `n` exits from `at` on lead into the code.
+fn targets_right(o: &[u8], e: Layout, at: usize, n: usize) -> bool
+    requires { ⌜ Placed e (now o) × (at + n ≤ e .«exit_count») ⌝ }
+    ensures { λ r. ⌜ r ≡ targets (objectAt e (now (o .entry))) (take n (drop at (objectAt e (now (o .entry)) .exits))) ⌝ }
+{
+    let mut k: usize = 0;
+    while k < n {
+        if !judge::in_code(o, e.exits + 4 * (at + k), e.code_count) {
+            return false;
+        }
+        k += 1;
+    }
+    true
+}
+
+fn br3_right(o: &[u8], e: Layout, x: usize) -> bool
+    requires { ⌜ Placed e (now o) × (x < 2 ^ 24) ⌝ }
+    ensures { λ r. ⌜ r ≡ operandRight (objectAt e (now (o .entry))) 12 x ⌝ }
+{
+    if x + 2 < e.exit_count {
+        return targets_right(o, e, x, 3);
+    }
+    false
+}
+
+// The first exit is the count of those that follow.
+fn brc_right(o: &[u8], e: Layout, x: usize) -> bool
+    requires { ⌜ Placed e (now o) × (x < 2 ^ 24) ⌝ }
+    ensures { λ r. ⌜ r ≡ operandRight (objectAt e (now (o .entry))) 13 x ⌝ }
+{
+    if x < e.exit_count {
+        let n = word::index(word::load(o, e.exits + 4 * x));
+        if (FEWEST <= n) & ((n <= MOST) & (x + n < e.exit_count)) {
+            return targets_right(o, e, x + 1, n);
+        }
+    }
+    false
+}
+
+// By operation: HLT CON LOD STO LDE STE ADD SUB MUL DIV NEG JMP BR3 BRC DOI DOE.
+fn operand_right(o: &[u8], e: Layout, operation: u32, x: usize) -> bool
+    requires { ⌜ Placed e (now o) × (x < 2 ^ 24) ⌝ }
+    ensures { λ r. ⌜ r ≡ operandRight (objectAt e (now (o .entry))) operation x ⌝ }
+{
+    match operation {
+        0 => x <= 1,
+        1 => x < e.constant_count,
+        2 => x < word::index(e.cells),
+        3 => x < word::index(e.cells),
+        4 => x < e.element_count,
+        5 => x < e.element_count,
+        6 => x == 0,
+        7 => x == 0,
+        8 => x == 0,
+        9 => x == 0,
+        10 => x == 0,
+        11 => x < e.code_count,
+        12 => br3_right(o, e, x),
+        13 => brc_right(o, e, x),
+        14 => x < e.do_count,
+        15 => x < e.do_count,
+        _ => false,
+    }
+}
+
+pub fn word_right(o: &[u8], e: Layout, w: u32) -> bool
+    requires { ⌜ Placed e (now o) ⌝ }
+    ensures { λ r. ⌜ r ≡ right43 (objectAt e (now (o .entry))) w ⌝ }
+{
+    operand_right(o, e, word::operation(w), word::index(word::operand(w)))
+}
+
+// The entry that an instruction uses.
+fn used_right(o: &[u8], e: Layout, p: u64, operation: u32, x: usize) -> bool
+    requires { ⌜ p ≡ ceiling (ruleOf (objectAt e (now o))) ⌝ }
+    requires { ⌜ Placed e (now o) × (operandRight (objectAt e (now o)) operation x ≡ true) ⌝ }
+    ensures { λ r. ⌜ r ≡ entryRightAt (objectAt e (now (o .entry))) operation x ⌝ }
+{
+    match operation {
+        1 => judge::constant_right(o, e, p, x),
+        4 => judge::element_right(o, e, p, x),
+        5 => judge::element_right(o, e, p, x),
+        14 => judge::loop_right(o, e, x),
+        15 => judge::loop_right(o, e, x),
+        _ => true,
+    }
+}
+
+// 42 of the entry that the word uses. The word passes 43, so there is one.
+pub fn entry_right(o: &[u8], e: Layout, p: u64, w: u32) -> bool
+    requires { ⌜ p ≡ ceiling (ruleOf (objectAt e (now o))) ⌝ }
+    requires { ⌜ Placed e (now o) × (right43 (objectAt e (now o)) w ≡ true) ⌝ }
+    ensures { λ r. ⌜ r ≡ entryRight (objectAt e (now (o .entry))) w ⌝ }
+{
+    used_right(o, e, p, word::operation(w), word::index(word::operand(w)))
+}
+
+// The first instruction that fails.
+pub fn words(o: &[u8], e: Layout) -> Found
+    requires { ⌜ Placed e (now o) ⌝ }
+    ensures { λ r. ⌜ refusalOf 43 r ≡ refused43 (objectAt e (now (o .entry))) ⌝ }
+{
+    let n = e.code_count;
+    let mut i: usize = 0;
+    while i < n {
+        if !word_right(o, e, word::load(o, e.code + 4 * i)) {
+            return Found::At(5, i);
+        }
+        i += 1;
+    }
+    Found::Nothing
+}
