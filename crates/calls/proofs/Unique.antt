@@ -1,0 +1,29 @@
+-- For each input the contract of a call leaves one outcome: the answer, and all that was lent.
+-- Assumes nothing.
+use mathlib.Core.Path.{_≡_, sym, ap, _∙_}
+use mathlib.Core.List.{List}
+use Prim.Native.Nat.{ℕ}
+use lib.IntN.{ℤ}
+use Rattle.rules_object.specs.Calls as book
+use Rattle.calls.specs.declared.Refusal.{Refusal}
+use Rattle.calls.specs.declared.Written.{Written}
+use Rattle.calls.specs.declared.Ran.{Ran}
+use Rattle.calls.specs.Outcomes.{Checks, Maps, Ends}
+
+pub check-unique : {s : List ℕ} {r q : Refusal} → Checks s r → Checks s q → r ≡ q
+check-unique a b = ap (λ (x : book.Refusal). record { number = x .number; place = x .place; kind = x .kind }) (sym (a .is) ∙ b .is)
+
+pub map-unique : {s o o₁ o₂ : List ℕ} {r q : Written} → Maps s o o₁ r → Maps s o o₂ q → (r ≡ q) × (o₁ ≡ o₂)
+map-unique a b =
+    let e = sym (a .is) ∙ b .is in (
+      ap (λ (x : book.Written). record { number = x .refusal .number; place = x .refusal .place; kind = x .refusal .kind; length = x .length }) e,
+      ap (λ (x : book.Written). x .output) e,
+    )
+
+-- run, with `running` for the outcome that is asked, and bench, with `benching`
+pub run-unique : {all : book.Ran} {r q : Ran} {l m : book.Lent} {c d : List ℤ} → Ends all r l c → Ends all q m d → (r ≡ q) × ((l ≡ m) × (c ≡ d))
+run-unique a b =
+    let e = sym (a .is) ∙ b .is in (
+      ap (λ (x : book.Ran). record { number = x .refusal .number; place = x .refusal .place; kind = x .refusal .kind; halt = x .halt; steps = x .steps; sequence = x .sequence }) e,
+      (ap (λ (x : book.Ran). x .lent) e, ap (λ (x : book.Ran). x .store) e),
+    )

@@ -1,0 +1,4 @@
+pub mod Guards
+pub mod Going
+pub mod Sequences
+pub mod Starts
