@@ -1,0 +1,216 @@
+// The statement forms: assignment, GO TO, IF, and those that are a word. The others are in the crates above.
+ghost use mathlib.Core.Path.{_≡_};
+ghost use Prim.Native.Nat.{_*_, _≤_};
+ghost use lib.ListN.{length, drop};
+ghost use Rattle.rules_deck.specs.Tokens.{comma, after, number};
+ghost use Rattle.rules_deck.specs.Grammar.{readAssignment, readGoTo, readIf};
+ghost use Rattle.tokens.specs.Reading.{ReadsNumber};
+ghost use Rattle.forms.specs.Statements.{answer, Reads, EndsIf, onlyWord, wordForm};
+use elements::GotPlace;
+use elements::Target;
+use items::Got;
+use tokens::Sizes;
+use tokens::Token;
+
+pub struct Assignment {
+    pub target: Target,
+    // words of the expression's items in the table
+    pub count: usize,
+    pub sizes: Sizes,
+}
+
+pub struct Computed {
+    // numbers in the table
+    pub exits: usize,
+    pub name: u64,
+    pub sizes: Sizes,
+}
+
+pub struct If {
+    pub count: usize,
+    pub below: u64,
+    pub at: u64,
+    pub above: u64,
+    pub sizes: Sizes,
+}
+
+// A constant's value, kind 1, or a name, kind 2.
+pub struct Parameter {
+    pub kind: u64,
+    pub word: u64,
+}
+
+pub struct Do {
+    pub last: u64,
+    pub name: u64,
+    pub first: Parameter,
+    pub limit: Parameter,
+    // the constant 1 where it is not written
+    pub by: Parameter,
+    pub sizes: Sizes,
+}
+
+pub struct Dimension {
+    // arrays in the table, four words each
+    pub arrays: usize,
+    pub sizes: Sizes,
+}
+
+// Bad is refused 10.
+pub enum Statement {
+    Assign(Assignment),
+    GoTo(u64),
+    Computed(Computed),
+    If(If),
+    Do(Do),
+    Continue,
+    Stop,
+    End,
+    Dimension(Dimension),
+    Bad,
+}
+
+// v=e, v(s)=e or v(s,s)=e: the expression reader is handed the text from where the expression begins.
+pub fn read_assignment(text: &[u8], items: &mut [u64]) -> Statement
+    requires { ⌜ 4 * length (now text) ≤ length (now items) ⌝ }
+    ensures { λ r. ⌜ Reads (now (items .exit)) (readAssignment (now (text .entry))) r ⌝ }
+{
+    let GotPlace::Read {
+        at: a,
+        target,
+        sizes: z,
+    } = elements::read_place(text, 0)
+    else {
+        return Statement::Bad;
+    };
+    if tokens::byte(text, a) != 61 {
+        return Statement::Bad;
+    }
+    let b = a + 1;
+    let Got::Read { at: k, n, sizes: y } = expressions::expression(&text[b..], items, 0) else {
+        return Statement::Bad;
+    };
+    if b + k != text.len() {
+        return Statement::Bad;
+    }
+    Statement::Assign(Assignment {
+        target,
+        count: n,
+        sizes: tokens::of_both(z, y),
+    })
+}
+
+// GOTOn
+pub fn read_go_to(text: &[u8]) -> Statement
+    ensures { λ r. ⌜ r ≡ answer (readGoTo (now (text .entry))) ⌝ }
+{
+    if !tokens::starts_word(text, b"GOTO") {
+        return Statement::Bad;
+    }
+    let Token::Read { at, word, sizes: _ } = tokens::read_number(text, 4) else {
+        return Statement::Bad;
+    };
+    if at != text.len() {
+        return Statement::Bad;
+    }
+    Statement::GoTo(word)
+}
+
+// A comma and a number.
+pub fn read_next(text: &[u8], from: usize) -> Token
+    requires { ⌜ from ≤ length (now text) ⌝ }
+    ensures { λ r. ⌜ ReadsNumber (now (text .entry)) from (after comma number (drop from (now (text .entry)))) r ⌝ }
+{
+    if tokens::byte(text, from) != 44 {
+        return Token::Bad;
+    }
+    tokens::read_number(text, from + 1)
+}
+
+// n,n,n to the end of the text.
+fn read_exits(text: &[u8], from: usize, count: usize, sizes: Sizes) -> Statement
+    requires { ⌜ from ≤ length (now text) ⌝ }
+    ensures { λ r. ⌜ EndsIf (now (text .entry)) from count sizes r ⌝ }
+{
+    let Token::Read {
+        at: a,
+        word: below,
+        sizes: _,
+    } = tokens::read_number(text, from)
+    else {
+        return Statement::Bad;
+    };
+    let Token::Read {
+        at: b,
+        word: at,
+        sizes: _,
+    } = read_next(text, a)
+    else {
+        return Statement::Bad;
+    };
+    let Token::Read {
+        at: c,
+        word: above,
+        sizes: _,
+    } = read_next(text, b)
+    else {
+        return Statement::Bad;
+    };
+    if c != text.len() {
+        return Statement::Bad;
+    }
+    Statement::If(If {
+        count,
+        below,
+        at,
+        above,
+        sizes,
+    })
+}
+
+// IF(e)n,n,n
+pub fn read_if(text: &[u8], items: &mut [u64]) -> Statement
+    requires { ⌜ 4 * length (now text) ≤ length (now items) ⌝ }
+    ensures { λ r. ⌜ Reads (now (items .exit)) (readIf (now (text .entry))) r ⌝ }
+{
+    if !tokens::starts_word(text, b"IF") {
+        return Statement::Bad;
+    }
+    if tokens::byte(text, 2) != 40 {
+        return Statement::Bad;
+    }
+    let Got::Read { at: k, n, sizes } = expressions::expression(&text[3..], items, 0) else {
+        return Statement::Bad;
+    };
+    let a = k + 3;
+    if tokens::byte(text, a) != 41 {
+        return Statement::Bad;
+    }
+    read_exits(text, a + 1, n, sizes)
+}
+
+// Whether the text is this word and nothing more.
+pub fn is_word(text: &[u8], word: &[u8]) -> bool
+    ensures { λ r. ⌜ r ≡ onlyWord (now (word .entry)) (now (text .entry)) ⌝ }
+{
+    if text.len() != word.len() {
+        return false;
+    }
+    tokens::starts_word(text, word)
+}
+
+// CONTINUE, STOP or END
+pub fn read_word(text: &[u8]) -> Statement
+    ensures { λ r. ⌜ r ≡ answer (wordForm (now (text .entry))) ⌝ }
+{
+    if is_word(text, b"CONTINUE") {
+        return Statement::Continue;
+    }
+    if is_word(text, b"STOP") {
+        return Statement::Stop;
+    }
+    if is_word(text, b"END") {
+        return Statement::End;
+    }
+    Statement::Bad
+}

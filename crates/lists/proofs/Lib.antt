@@ -1,0 +1,3 @@
+pub mod Arrays
+pub mod Listing
+pub mod Lists

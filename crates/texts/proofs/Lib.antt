@@ -1,0 +1,4 @@
+pub mod TextLaws
+pub mod TakeLaws
+pub mod StatementLaws
+pub mod Onward

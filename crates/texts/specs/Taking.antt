@@ -1,0 +1,58 @@
+-- What taking a deck's next statement gives: the first of the statements that the cards still to come hold, and where the next one starts.
+-- Assumes nothing.
+use Prim.Native.Nat.{ℕ, suc, _+_}
+use mathlib.Core.Path.{_≡_}
+use mathlib.Core.Bool.{Bool, false, cond}
+use mathlib.Core.List.{List, [], _∷_}
+use lib.ListN.{length, drop}
+use lib.Seq.{sets}
+use Rattle.rules_deck.specs.Cards.{cardsOf, textColumns, comment, firstCard, textOf, Punched, statements, carded}
+use Rattle.rules_deck.proofs.CardsGroups.{following, grouped}
+use Rattle.texts.specs.declared.Reached.{Reached}
+use Rattle.texts.specs.declared.Taken.{Taken}
+use Rattle.texts.specs.declared.Taken.the-variants.{Statement, End}
+
+-- a deck that is not refused
+pub record Accepted (deck : List ℕ) : Type 0 where
+  pub digits : ℕ
+  pub all : List Punched
+  pub is : carded digits deck ≡ statements all
+
+-- o with xs stored from a on, one byte after the other; what stands before and after stays
+unfoldable pub over : ℕ → List ℕ → List ℕ → List ℕ
+over a xs o = sets o a xs
+
+-- a card that starts a statement
+unfoldable pub begins : List ℕ → Bool
+begins card = cond (comment card) false (firstCard card)
+
+-- how many cards stand before the next that starts a statement
+abbrev pub skipped : List (List ℕ) → ℕ
+skipped [] = 0
+skipped (card ∷ cards) = cond (begins card) 0 (suc (skipped cards))
+
+-- what a card that starts no statement adds to the text
+unfoldable pub added : List ℕ → List ℕ
+added card = cond (comment card) [] (textColumns card)
+
+-- how many cards stand before the second that starts a statement
+unfoldable pub passed : List (List ℕ) → ℕ
+passed cards = suc (skipped cards) + skipped (drop (suc (skipped cards)) cards)
+
+abbrev pub firstOf : List Punched → ℕ → Taken
+firstOf [] next = End
+firstOf (p ∷ ps) next = Statement (record { 0 = p .number }) (length (textOf (p .raw))) next
+
+abbrev pub firstText : List Punched → List ℕ
+firstText [] = []
+firstText (p ∷ ps) = textOf (p .raw)
+
+-- the statement taken at a card, and the text before and after; bytes past the statement's stay
+pub record Takes (deck : List ℕ) (card : ℕ) (text text′ : List ℕ) (r : Taken) : Type 0 where
+  pub says : r ≡ firstOf (grouped (drop card (cardsOf deck))) (card + passed (drop card (cardsOf deck)))
+  pub put : text′ ≡ over 0 (firstText (grouped (drop card (cardsOf deck)))) text
+
+-- what the continuations of a statement give: its length and the next card that starts one
+pub record Follows (cards : List (List ℕ)) (card : ℕ) (text text′ : List ℕ) (at : ℕ) (r : Reached) : Type 0 where
+  pub says : r ≡ record { length = at + length (textOf (following cards)); next = card + skipped cards }
+  pub put : text′ ≡ over at (textOf (following cards)) text

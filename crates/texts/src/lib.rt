@@ -1,0 +1,126 @@
+// A deck's statements, taken one after the other: number, text, and where the next one starts.
+// A text has at most 660 bytes: columns 7-72 of a first card and nine continuations.
+ghost use mathlib.Core.Path.{_≡_};
+ghost use Prim.Native.Nat.{_+_, _≤_};
+ghost use lib.ListN.{length, drop};
+ghost use Rattle.rules_deck.specs.Cards.{cardsOf, textColumns, readAs, textOf};
+ghost use Rattle.rules_deck.proofs.CardsGroups.{following};
+ghost use Rattle.texts.specs.Taking.{Accepted, over, begins, skipped, added, Follows, Takes};
+use cards::Number;
+
+pub enum Taken {
+    // `length` bytes of text, and the card at which the next statement starts.
+    Statement {
+        number: Number,
+        length: usize,
+        next: usize,
+    },
+    End,
+}
+
+fn starts_statement(card: &[u8]) -> bool
+    requires { ⌜ length (now card) ≡ 80 ⌝ }
+    ensures { λ r. ⌜ r ≡ begins (now (card .entry)) ⌝ }
+{
+    if cards::is_comment(card) {
+        return false;
+    }
+    cards::starts(card)
+}
+
+// The next card from `card` on that starts a statement, or how many cards there are.
+fn first_from(deck: &[u8], card: usize) -> usize
+    ensures { λ r. ⌜ r ≡ card + skipped (drop card (cardsOf (now (deck .entry)))) ⌝ }
+{
+    let cards = deck.len() / 80;
+    let mut i = card;
+    while i < cards {
+        let here = cards::card_at(deck, i);
+        if starts_statement(here) {
+            return i;
+        }
+        i += 1;
+    }
+    i
+}
+
+fn read_as(c: u8) -> u8
+    ensures { λ r. ⌜ r ≡ readAs c ⌝ }
+{
+    if c == b'$' { b'*' } else { c }
+}
+
+// Columns 7-72 from `at` on, blanks gone.
+fn put(card: &[u8], text: &mut [u8; 660], at: usize) -> usize
+    requires { ⌜ (length (now card) ≡ 80) × (at + length (textOf (textColumns (now card))) ≤ 660) ⌝ }
+    ensures { λ r. ⌜ (r ≡ at + length (textOf (textColumns (now (card .entry))))) × (now (text .exit) ≡ over at (textOf (textColumns (now (card .entry)))) (now (text .entry))) ⌝ }
+{
+    let mut n = at;
+    let mut i = 6;
+    while i < 72 {
+        let c = card[i];
+        if c != b' ' {
+            text[n] = read_as(c);
+            n += 1;
+        }
+        i += 1;
+    }
+    n
+}
+
+fn put_added(card: &[u8], text: &mut [u8; 660], at: usize) -> usize
+    requires { ⌜ (length (now card) ≡ 80) × (at + length (textOf (added (now card))) ≤ 660) ⌝ }
+    ensures { λ r. ⌜ (r ≡ at + length (textOf (added (now (card .entry))))) × (now (text .exit) ≡ over at (textOf (added (now (card .entry)))) (now (text .entry))) ⌝ }
+{
+    if cards::is_comment(card) {
+        return at;
+    }
+    put(card, text, at)
+}
+
+struct Reached {
+    length: usize,
+    next: usize,
+}
+
+// The texts of the continuations from `card` on, put from `at` on.
+fn put_following(deck: &[u8], card: usize, text: &mut [u8; 660], at: usize) -> Reached
+    requires { ⌜ at + length (textOf (following (drop card (cardsOf (now deck))))) ≤ 660 ⌝ }
+    ensures { λ r. ⌜ Follows (drop card (cardsOf (now (deck .entry)))) card (now (text .entry)) (now (text .exit)) at r ⌝ }
+{
+    let cards = deck.len() / 80;
+    let mut n = at;
+    let mut i = card;
+    while i < cards {
+        let here = cards::card_at(deck, i);
+        if starts_statement(here) {
+            return Reached { length: n, next: i };
+        }
+        n = put_added(here, text, n);
+        i += 1;
+    }
+    Reached { length: n, next: i }
+}
+
+// Of a deck that `judge` does not refuse: the first statement from `card` on, its text put at the start.
+pub fn statement(deck: &[u8], card: usize, text: &mut [u8; 660]) -> Taken
+    requires { ⌜ Accepted (now deck) ⌝ }
+    ensures { λ r. ⌜ Takes (now (deck .entry)) card (now (text .entry)) (now (text .exit)) r ⌝ }
+{
+    let first = first_from(deck, card);
+    if deck.len() / 80 <= first {
+        return Taken::End;
+    }
+    let here = cards::card_at(deck, first);
+    // No card of such a deck is wrong.
+    let cards::Columns::Punched(number) = cards::punched(here) else {
+        return Taken::End;
+    };
+    let n = put(here, text, 0);
+    let reached = put_following(deck, first + 1, text, n);
+    Taken::Statement {
+        number,
+        length: reached.length,
+        next: reached.next,
+    }
+}

@@ -1,0 +1,5 @@
+pub mod Runs
+pub mod Values
+pub mod Measured
+pub mod Tokens
+pub mod Chains

@@ -1,0 +1,12 @@
+use mathlib.Core.Path.{refl}
+use Rattle.tokens.specs.Sizes.{sizesOf, largest}
+use Rattle.tokens.proofs.none.Statement.{statement}
+use Rattle.tokens.proofs.none.Tie as tie
+
+returns : tie.Need-returns
+unfolding sizesOf largest
+returns c =
+    refl
+
+pub none-spec : {M : Type 1} → statement M
+none-spec = tie.close (tie.spec returns)
