@@ -1,0 +1,3 @@
+pub mod Over
+pub mod Words
+pub mod Whole

@@ -1,0 +1,11 @@
+-- The writer's answer, with the output at its end, as the book's.
+-- Assumes nothing.
+use Prim.Native.Nat.{ℕ}
+use mathlib.Core.List.{List}
+use Rattle.rules_object.specs.Calls.{Written, refusal, accepted, notWritten}
+use Rattle.writer.specs.declared.Wrote.{Wrote}
+use Rattle.writer.specs.declared.Wrote.the-variants.{Bytes, Short}
+
+abbrev pub answer : Wrote → List ℕ → Written
+answer (Bytes n) o = record { refusal = accepted; length = n; output = o }
+answer Short o = notWritten (refusal 30 0 0) o

@@ -1,0 +1,3 @@
+pub mod Bodies
+pub mod Counts
+pub mod Answer
