@@ -1,0 +1,152 @@
+//! Checks and runs the objects that decks of IBM 1401 Fortran are compiled to. The work is done by proved code, linked
+//! from an archive; this crate only makes its calls safe. Every function takes any bytes, any numbers and any state, and
+//! a refusal changes nothing that was lent.
+//!
+//! ```
+//! // Edition 1, k = 5, no cell, seven bodies, all empty but the code, which is one word: HLT 1.
+//! let words = [
+//!     1, 5, 0, 7, 1, 100, 0, 2, 100, 0, 3, 100, 0, 4, 100, 0, 5, 100, 4, 6, 104, 0, 7, 104, 0, 1u32,
+//! ];
+//! let object: Vec<u8> = words.into_iter().flat_map(u32::to_le_bytes).collect();
+//! let mut state = luvinqata::State::fresh();
+//! let ran = luvinqata::run(&object, &mut [], &mut state, 1_000_000).unwrap();
+//! assert_eq!((ran.halt, ran.steps, ran.sequence), (1, 1, 0));
+//! ```
+
+#![deny(missing_docs, unsafe_code)]
+
+#[allow(unsafe_code)]
+mod raw;
+mod refusal;
+
+pub use refusal::Refusal;
+
+/// The most numbers on a stack.
+pub const STACK: usize = 40;
+
+/// Where a run stands: what one run leaves, the next one goes on from.
+#[derive(Clone, Copy, Debug, PartialEq, Eq)]
+pub struct State {
+    /// The instruction to be done next, counted from 0.
+    pub index: u32,
+    /// How many numbers are on the stack.
+    pub height: u32,
+    /// 1 plus the first instruction that dropped digits, or 0.
+    pub mark: u32,
+    /// The stack, its bottom first. A run leaves 0 in the places above the height.
+    pub places: [i64; STACK],
+}
+
+impl State {
+    /// The beginning of a run.
+    ///
+    /// ```
+    /// let state = luvinqata::State::fresh();
+    /// assert_eq!((state.index, state.height, state.mark), (0, 0, 0));
+    /// ```
+    pub fn fresh() -> State {
+        State {
+            index: 0,
+            height: 0,
+            mark: 0,
+            places: [0; STACK],
+        }
+    }
+}
+
+impl Default for State {
+    fn default() -> State {
+        State::fresh()
+    }
+}
+
+/// How a run came to its end.
+#[derive(Clone, Copy, Debug, PartialEq, Eq)]
+pub struct Ran {
+    /// 0 STOP, 1 END, 2 allowance used, 3 division by zero, 4 subscript, 5 computed exit, 6 DO parameter; of a bench
+    /// run also 7, the stack, and 8, a wrong instruction.
+    pub halt: u32,
+    /// The instructions done, the one that halted among them.
+    pub steps: u32,
+    /// The sequence number of the first statement that lost digits, or 0.
+    pub sequence: u32,
+}
+
+/// Checks an object: refuses by 40 to 44.
+///
+/// ```
+/// let refusal = luvinqata::check(b"no object").unwrap_err();
+/// assert_eq!((refusal.number, refusal.place, refusal.kind), (40, 0, 0));
+/// ```
+pub fn check(object: &[u8]) -> Result<(), Refusal> {
+    let answer = raw::check(object);
+    refusal::pass(answer.number, answer.place, answer.kind)
+}
+
+/// Checks an object and runs it from a state for at most `allowance` steps: refuses by 40 to 44 and 50 to 52. Cells of
+/// the store past the object's own are neither judged nor changed.
+///
+/// A run that stopped by halt 2 can be gone on with: the two together are one run of both allowances.
+///
+/// ```
+/// // One constant, 7; one cell; CON 0, STO 0, HLT 0.
+/// let words = [
+///     1, 5, 1, 7, 1, 100, 4, 2, 104, 0, 3, 104, 0, 4, 104, 0, 5, 104, 12, 6, 116, 0, 7, 116, 0, 7, 1 << 24, 3 << 24, 0u32,
+/// ];
+/// let object: Vec<u8> = words.into_iter().flat_map(u32::to_le_bytes).collect();
+/// let (mut store, mut state) = ([0], luvinqata::State::fresh());
+/// let ran = luvinqata::run(&object, &mut store, &mut state, 1).unwrap();
+/// assert_eq!((ran.halt, state.height, state.places[0], store), (2, 1, 7, [0]));
+/// let ran = luvinqata::run(&object, &mut store, &mut state, 9).unwrap();
+/// assert_eq!((ran.halt, ran.steps, store), (0, 2, [7]));
+/// ```
+pub fn run(object: &[u8], store: &mut [i64], state: &mut State, allowance: u32) -> Result<Ran, Refusal> {
+    ran(raw::run(object, store, state, allowance))
+}
+
+/// Runs an object that need not pass the check, from a fresh state: refuses only by 40, 41, 50 and 51, and tests each
+/// instruction when it comes to it (halts 7 and 8). `state` is not read; it takes the state after the run.
+///
+/// ```
+/// // No cell, no constant; the code is ADD, with nothing on the stack.
+/// let words = [
+///     1, 5, 0, 7, 1, 100, 0, 2, 100, 0, 3, 100, 0, 4, 100, 0, 5, 100, 4, 6, 104, 0, 7, 104, 0, 6u32 << 24,
+/// ];
+/// let object: Vec<u8> = words.into_iter().flat_map(u32::to_le_bytes).collect();
+/// let mut state = luvinqata::State::fresh();
+/// assert_eq!(luvinqata::check(&object).unwrap_err().number, 44);
+/// assert_eq!(luvinqata::bench(&object, &mut [], &mut state, 100).unwrap().halt, 7);
+/// ```
+pub fn bench(object: &[u8], store: &mut [i64], state: &mut State, allowance: u32) -> Result<Ran, Refusal> {
+    ran(raw::bench(object, store, state, allowance))
+}
+
+/// Checks an object and writes its names to the front of `table`, twenty bytes each: eight bytes of name, then first
+/// cell, rows and columns as words. Returns the bytes written; refuses by 40 to 44, and by 30 a table that is too short.
+///
+/// ```
+/// // One cell, named I; the code is HLT 1.
+/// let words = [
+///     1, 5, 1, 7, 1, 100, 0, 2, 100, 0, 3, 100, 0, 4, 100, 0, 5, 100, 4, 6, 104, 0, 7, 104, 20, 1,
+///     u32::from_le_bytes(*b"I   "), u32::from_le_bytes(*b"    "), 0, 0, 0,
+/// ];
+/// let object: Vec<u8> = words.into_iter().flat_map(u32::to_le_bytes).collect();
+/// let mut table = [0; 2_000];
+/// let length = luvinqata::map(&object, &mut table).unwrap();
+/// assert_eq!(&table[..length], b"I       \0\0\0\0\0\0\0\0\0\0\0\0");
+/// assert_eq!(luvinqata::map(&object, &mut table[..19]).unwrap_err().number, 30);
+/// ```
+pub fn map(object: &[u8], table: &mut [u8]) -> Result<usize, Refusal> {
+    let answer = raw::map(object, table);
+    refusal::pass(answer.number, answer.place, answer.kind)?;
+    Ok(answer.length as usize)
+}
+
+fn ran(answer: raw::Ran) -> Result<Ran, Refusal> {
+    refusal::pass(answer.number, answer.place, answer.kind)?;
+    Ok(Ran {
+        halt: answer.halt,
+        steps: answer.steps,
+        sequence: answer.sequence,
+    })
+}

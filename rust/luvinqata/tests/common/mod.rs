@@ -1,0 +1,75 @@
+//! The archive's answers in the independent implementation's words, and generated objects.
+#![allow(dead_code)]
+
+use independent::generate::{self, Rng};
+use independent::{Ran, Refusal, State};
+
+pub fn check(object: &[u8]) -> Result<(), Refusal> {
+    luvinqata::check(object).map_err(refusal)
+}
+
+pub fn run(object: &[u8], store: &mut [i64], state: &mut State, allowance: u32) -> Result<Ran, Refusal> {
+    lend(state, |lent| luvinqata::run(object, store, lent, allowance))
+}
+
+pub fn bench(object: &[u8], store: &mut [i64], state: &mut State, allowance: u32) -> Result<Ran, Refusal> {
+    lend(state, |lent| luvinqata::bench(object, store, lent, allowance))
+}
+
+pub fn map(object: &[u8], table: &mut [u8]) -> Result<usize, Refusal> {
+    luvinqata::map(object, table).map_err(refusal)
+}
+
+fn lend(
+    state: &mut State,
+    call: impl FnOnce(&mut luvinqata::State) -> Result<luvinqata::Ran, luvinqata::Refusal>,
+) -> Result<Ran, Refusal> {
+    let mut lent = luvinqata::State {
+        index: state.index,
+        height: state.height,
+        mark: state.mark,
+        places: state.places,
+    };
+    let answer = call(&mut lent);
+    *state = State {
+        index: lent.index,
+        height: lent.height,
+        mark: lent.mark,
+        places: lent.places,
+    };
+    let ran = |ran: luvinqata::Ran| Ran {
+        halt: ran.halt,
+        steps: ran.steps,
+        sequence: ran.sequence,
+    };
+    answer.map(ran).map_err(refusal)
+}
+
+fn refusal(refusal: luvinqata::Refusal) -> Refusal {
+    Refusal {
+        number: refusal.number,
+        place: refusal.place,
+        kind: refusal.kind,
+    }
+}
+
+/// An object with no damage: sound, made of random tables (which may pass or not), or compiled.
+pub fn object(rng: &mut Rng) -> Vec<u8> {
+    match rng.below(10) {
+        0..=2 => generate::sound_object(rng),
+        3..=5 => generate::made_object(rng),
+        _ => compiled(rng),
+    }
+}
+
+fn compiled(rng: &mut Rng) -> Vec<u8> {
+    let made = match rng.below(20) {
+        0 => generate::limit_deck(rng),
+        _ => generate::ordinary_deck(rng),
+    };
+    let mut out = vec![0; 60_000];
+    match independent::compile(made.k, &made.deck, &mut out) {
+        Ok(length) => out[..length].to_vec(),
+        Err(_) => generate::sound_object(rng),
+    }
+}
