@@ -3,7 +3,7 @@
 use mathlib.Core.Path.{_≡_, refl, sym, ap, _∙_, subst}
 use mathlib.Core.Bool.{Bool, true, false}
 use mathlib.Core.List.{List, [], _∷_}
-use Prim.Native.Nat.{ℕ, zero, suc, _+_, _≤_, _<_}
+use Prim.Native.Nat.{ℕ, zero, suc, _+_, _<_}
 use native.Mathlib.Decide.{decLt, ℕ-discrete}
 use native.Mathlib.Numerals.{add-one}
 use native.Mathlib.Omega.{arith}
@@ -14,9 +14,9 @@ use borrow.Author.Tests.{ltb-true}
 use Rattle.rules_object.specs.Limits.{limits}
 use Rattle.rules_object.specs.Object.{Object}
 use Rattle.rules_object.specs.Machine.{meant, noLoop}
-use Rattle.rules_object.specs.Check.{operandTests, unknownOperation, exitAt, popsTable, pushesTable, operationNumber, successors}
+use Rattle.rules_object.specs.Check.{operandTests, unknownOperation, exitAt, operationNumber, successors}
 use Rattle.rules_object.proofs.Passed.{both}
-use Rattle.heights.specs.Judged.{operandRight}
+use Rattle.operands.specs.Operands.{operandRight}
 
 -- ---- the tables of sixteen
 
@@ -38,18 +38,6 @@ number-is o (suc (suc (suc (suc (suc (suc (suc (suc (suc (suc (suc (suc (suc zer
 number-is o (suc (suc (suc (suc (suc (suc (suc (suc (suc (suc (suc (suc (suc (suc zero)))))))))))))) x l = refl
 number-is o (suc (suc (suc (suc (suc (suc (suc (suc (suc (suc (suc (suc (suc (suc (suc zero))))))))))))))) x l = refl
 number-is o (suc (suc (suc (suc (suc (suc (suc (suc (suc (suc (suc (suc (suc (suc (suc (suc k)))))))))))))))) x l = absurd (omega arith)
-
-data Low : List ℕ → Type 0 where
-  none : Low []
-  more : {x : ℕ} {l : List ℕ} → x ≤ 1 → Low l → Low (x ∷ l)
-
-low-at : {l : List ℕ} → Low l → (k : ℕ) → getD l k 0 ≤ 1
-low-at none k = omega arith
-low-at (more h r) zero = h
-low-at (more h r) (suc k) = low-at r k
-
-pub pushes-low : (op : ℕ) → getD pushesTable op 0 ≤ 1
-pushes-low op = low-at (more (omega arith) (more (omega arith) (more (omega arith) (more (omega arith) (more (omega arith) (more (omega arith) (more (omega arith) (more (omega arith) (more (omega arith) (more (omega arith) (more (omega arith) (more (omega arith) (more (omega arith) (more (omega arith) (more (omega arith) (more (omega arith) none)))))))))))))))) op
 
 -- every operation but HLT, JMP, BR3, BRC and DOE
 plain : (o : Object) (a op x : ℕ) → op < 16 → (op ≡ 0 → ⊥) → (op ≡ 11 → ⊥) → (op ≡ 12 → ⊥) → (op ≡ 13 → ⊥) → (op ≡ 15 → ⊥) → successors a (meant o op x) ≡ suc a ∷ []

@@ -1,6 +1,6 @@
 -- The flow of an object's code, by the words at their places.
 -- Assumes nothing.
-use mathlib.Core.Path.{_≡_, refl, sym, ap, _∙_, subst}
+use mathlib.Core.Path.{_≡_, sym, ap, _∙_, subst}
 use mathlib.Core.Bool.{true}
 use mathlib.Core.List.{List}
 use Prim.Native.Nat.{ℕ, _+_, _*_, _/_, _%_, _^_, _≤_, _<_}
@@ -11,7 +11,7 @@ use borrow.Author.Tests.{leb-true}
 use Rattle.rules_object.specs.Limits.{limits}
 use Rattle.rules_object.specs.Object.{Loop, Object}
 use Rattle.rules_object.specs.Machine.{Instr, operationOf, operandOf, meant, decode, noLoop}
-use Rattle.rules_object.specs.Check.{right41, right43, popsTable, pushesTable, operationNumber, pops, pushes, successors, instruction, flowOf}
+use Rattle.rules_object.specs.Check.{right41, right43, popsTable, pushesTable, operationNumber, successors, instruction, flowOf}
 use Rattle.rules_object.specs.Flow.{at}
 use Rattle.rules_object.proofs.Filling.{Filling}
 use Rattle.rules_object.proofs.Fills.{there}
@@ -20,7 +20,8 @@ use Rattle.word.specs.Word.{wordAt}
 use Rattle.object.specs.Layout.{objectAt, loopAt}
 use Rattle.object.specs.declared.Layout.{Layout}
 use Rattle.object.proofs.Entries.{code-length, do-at, code-at}
-use Rattle.heights.specs.Judged.{operandRight, Judged}
+use Rattle.operands.specs.Operands.{operandRight}
+use Rattle.heights.specs.Judged.{Judged}
 use Rattle.heights.proofs.Operations.{number-is, known}
 
 module _ (e : Layout) (s : List ℕ) where

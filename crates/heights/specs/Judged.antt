@@ -6,15 +6,10 @@ use mathlib.Core.List.{List}
 use mathlib.Core.Option.{Option, none, some}
 use Prim.Native.Nat.{ℕ, _<_}
 use lib.ListN.{length, getD, take}
-use Rattle.rules_object.specs.Object.{Object}
-use Rattle.rules_object.specs.Check.{operandTests, unknownOperation, right41, right43}
+use Rattle.rules_object.specs.Check.{right41, right43}
 use Rattle.rules_object.proofs.Filling.{Blank}
 use Rattle.object.specs.Layout.{Placed, objectAt}
 use Rattle.object.specs.declared.Layout.{Layout}
-
--- 43, by operation and operand
-unfoldable pub operandRight : Object → ℕ → ℕ → Bool
-operandRight o operation x = getD operandTests operation unknownOperation o x
 
 -- an object that passed 40, 41 and 43
 pub record Judged (e : Layout) (s : List ℕ) : Type 0 where

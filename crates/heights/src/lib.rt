@@ -4,12 +4,13 @@ ghost use mathlib.Core.Bool.{true};
 ghost use Prim.Native.Nat.{ℕ, _+_, _≤_, _<_};
 ghost use lib.ListN.{length, getD};
 ghost use Rattle.rules_object.specs.Machine.{meant, noLoop};
-ghost use Rattle.rules_object.specs.Check.{popsTable, pushesTable, successors, flowOf};
+ghost use Rattle.rules_object.specs.Check.{successors, flowOf};
 ghost use Rattle.rules_object.specs.Flow.{at};
 ghost use Rattle.rules_object.specs.Heights.{heights};
 ghost use Rattle.rules_object.proofs.Filling.{nevers, Filling};
 ghost use Rattle.object.specs.Layout.{Placed, objectAt};
-ghost use Rattle.heights.specs.Judged.{operandRight, Judged, Fresh, answered};
+ghost use Rattle.operands.specs.Operands.{operandRight};
+ghost use Rattle.heights.specs.Judged.{Judged, Fresh, answered};
 ghost use Rattle.heights.specs.Walk.{Meets, Visited};
 use object::Layout;
 
@@ -23,11 +24,6 @@ pub const NEVER: u8 = 255;
 
 const STACK: u8 = 40;
 
-// HLT CON LOD STO LDE STE ADD SUB MUL DIV NEG JMP BR3 BRC DOI DOE
-const POPS: [u8; 16] = [0, 0, 0, 1, 0, 1, 2, 2, 2, 2, 1, 0, 1, 1, 3, 0];
-
-const PUSHES: [u8; 16] = [0, 1, 1, 0, 1, 0, 1, 1, 1, 1, 1, 0, 0, 0, 0, 0];
-
 // How many instructions wait, or that there is no table.
 enum Met {
     On(usize),
@@ -38,20 +34,6 @@ fn place(t: u16) -> usize
     ensures { λ r. ⌜ r ≡ t ⌝ }
 {
     t as usize
-}
-
-fn pops_of(operation: usize) -> u8
-    requires { ⌜ operation < 16 ⌝ }
-    ensures { λ r. ⌜ r ≡ getD popsTable operation 0 ⌝ }
-{
-    POPS[operation]
-}
-
-fn pushes_of(operation: usize) -> u8
-    requires { ⌜ operation < 16 ⌝ }
-    ensures { λ r. ⌜ (r ≡ getD pushesTable operation 0) × (r ≤ 1) ⌝ }
-{
-    PUSHES[operation]
 }
 
 fn exit_at(o: &[u8], e: Layout, i: usize) -> usize
@@ -133,11 +115,11 @@ fn visit(o: &[u8], e: Layout, table: &mut Table, work: &mut Work, start: usize) 
     let operation = word::index(word::operation(w));
     let x = word::index(word::operand(w));
     let g = table[a];
-    let p = pops_of(operation);
+    let p = operands::pops_of(operation);
     if g < p {
         return Met::No;
     }
-    let h = g - p + pushes_of(operation);
+    let h = g - p + operands::pushes_of(operation);
     let n = width_of(o, e, operation, x);
     let mut top = start;
     let mut k = 0;

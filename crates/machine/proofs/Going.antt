@@ -16,13 +16,15 @@ use Rattle.rules_object.specs.Calls as book
 use Rattle.rules_object.specs.Safe.{Right, NoFault}
 use Rattle.object.specs.declared.Layout.{Layout}
 use Rattle.object.specs.Layout.{objectAt}
-use Rattle.operations.specs.declared.Regs.{Regs}
-use Rattle.operations.specs.declared.Turn.the-variants.{Next, Halt}
-use Rattle.operations.specs.Performed.{After, performed, stateOf, Held}
-use Rattle.operations.proofs.Places.{tops-is, length-tops, given-back}
-use Rattle.operations.proofs.Does.{Did, DidAll, performs, sound-held}
+use Rattle.arithmetic.specs.declared.Regs.{Regs}
+use Rattle.arithmetic.specs.declared.Turn.the-variants.{Next, Halt}
+use Rattle.arithmetic.specs.Performed.{After, performed, stateOf}
+use Rattle.operations.specs.Ready.{Held}
+use Rattle.machine.proofs.Places.{tops-is, length-tops, given-back}
 use Rattle.machine.specs.declared.Ran.{Ran}
 use Rattle.machine.specs.Running.{answer, wordOf, guardOf}
+use Rattle.machine.proofs.Does.{Did, DidAll}
+use Rattle.machine.proofs.Performs.{performs, sound-held}
 use Rattle.machine.proofs.Guards.{guard-passes, passes-ready, instruction-is, guard-none, guard-stops, right-guard}
 
 -- at every state of the unguarded run from t the instruction can be done

@@ -16,34 +16,12 @@ use Rattle.word.specs.Word.{wordAt}
 use Rattle.object.specs.declared.Layout.{Layout}
 use Rattle.object.specs.Layout.{objectAt}
 use Rattle.object.proofs.Entries.{code-length, code-at}
-use Rattle.operations.specs.Performed.{Ready}
-use Rattle.operations.proofs.Laws.{apart}
+use Rattle.operations.specs.Ready.{Ready}
+use Rattle.subscripts.proofs.Laws.{apart}
 use Rattle.operations.proofs.Known.{both}
 use Rattle.machine.specs.Running.{roomFor, wordOf, guardOf}
 
 -- ---- the tables, by operation
-
-pub pushes-few : (op : ℕ) → op < 16 → getD pushesTable op 0 ≤ 1
-pushes-few zero l = omega arith
-pushes-few (suc zero) l = omega arith
-pushes-few (suc (suc zero)) l = omega arith
-pushes-few (suc (suc (suc zero))) l = omega arith
-pushes-few (suc (suc (suc (suc zero)))) l = omega arith
-pushes-few (suc (suc (suc (suc (suc zero))))) l = omega arith
-pushes-few (suc (suc (suc (suc (suc (suc zero)))))) l = omega arith
-pushes-few (suc (suc (suc (suc (suc (suc (suc zero))))))) l = omega arith
-pushes-few (suc (suc (suc (suc (suc (suc (suc (suc zero)))))))) l = omega arith
-pushes-few (suc (suc (suc (suc (suc (suc (suc (suc (suc zero))))))))) l = omega arith
-pushes-few (suc (suc (suc (suc (suc (suc (suc (suc (suc (suc zero)))))))))) l = omega arith
-pushes-few (suc (suc (suc (suc (suc (suc (suc (suc (suc (suc (suc zero))))))))))) l = omega arith
-pushes-few (suc (suc (suc (suc (suc (suc (suc (suc (suc (suc (suc (suc op)))))))))))) l = last op
-  where
-    last : (op : ℕ) → getD pushesTable (suc (suc (suc (suc (suc (suc (suc (suc (suc (suc (suc (suc op)))))))))))) 0 ≤ 1
-    last zero = omega arith
-    last (suc zero) = omega arith
-    last (suc (suc zero)) = omega arith
-    last (suc (suc (suc zero))) = omega arith
-    last (suc (suc (suc (suc op)))) = omega arith
 
 -- an operation whose operand is right is one of the sixteen, and its number is its own
 module _ (o : Object) where

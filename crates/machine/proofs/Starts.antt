@@ -16,9 +16,10 @@ use Rattle.rules_object.specs.Writable.{Each}
 use Rattle.rules_object.proofs.Lents.{long-enough, cells-within}
 use Rattle.object.specs.declared.Layout.{Layout}
 use Rattle.object.specs.Layout.{objectAt, Placed}
-use Rattle.operations.specs.declared.Regs.{Regs}
-use Rattle.operations.specs.Performed.{regs, stateOf, Held}
-use Rattle.operations.proofs.Places.{tops, tops-is}
+use Rattle.arithmetic.specs.declared.Regs.{Regs}
+use Rattle.arithmetic.specs.Performed.{regs, stateOf}
+use Rattle.operations.specs.Ready.{Held}
+use Rattle.machine.proofs.Places.{tops, tops-is}
 
 -- the object: its bodies stand in its bytes, it keeps the limits, and p is 10 ^ k
 module _ (e : Layout) (s : List ℕ) (p : ℕ) (placed : Placed e s) (limits : right41 (objectAt e s) ≡ true) (power : p ≡ 10 ^ e .digits) where

@@ -1,6 +1,7 @@
 -- A run's answer in the book's words, and the number that the tests of a bench run give.
 -- Assumes nothing.
-use Prim.Native.Nat.{ℕ, _+_, _-_}
+use mathlib.Core.Path.{_≡_}
+use Prim.Native.Nat.{ℕ, suc, _+_, _-_}
 use mathlib.Core.Bool.{_&&_, cond}
 use mathlib.Core.List.{List}
 use lib.Dec.{leb}
@@ -10,7 +11,7 @@ use Rattle.rules_object.specs.Object.{Object}
 use Rattle.rules_object.specs.Check.{inCode, right43, entryRight, pops, pushes, instruction}
 use Rattle.rules_object.specs.Calls.{accepted, sequenceOf}
 use Rattle.rules_object.specs.Calls as book
-use Rattle.operations.specs.Performed.{lentOf}
+use Rattle.arithmetic.specs.Performed.{lentOf}
 use Rattle.machine.specs.declared.Ran.{Ran}
 
 -- what the code answers, with the places and the store that it leaves
@@ -28,3 +29,7 @@ wordOf o i = getD (o .code) i 0
 -- 8, then 7, else 0
 unfoldable pub guardOf : Object → ℕ → ℕ → ℕ
 guardOf o i h = cond (inCode o i && (right43 o (wordOf o i) && entryRight o (wordOf o i))) (roomFor (pops (instruction o i)) (pushes (instruction o i)) h) 8
+
+-- Where all was right: 1 more than such a height for an instruction, or 0.
+pub record Sees (o : Object) (seen : List ℕ) : Type 0 where
+  pub right : (i h : ℕ) → getD seen i 0 ≡ suc h → guardOf o i h ≡ 0

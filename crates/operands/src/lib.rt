@@ -1,12 +1,11 @@
-// Rule 43 on an object's bytes, and rule 42 of the entry that an instruction uses.
+// Rule 43 on an object's bytes, rule 42 of the entry that an instruction uses, and what an operation pops and pushes.
 ghost use mathlib.Core.Path.{_≡_};
 ghost use mathlib.Core.Bool.{true};
 ghost use Prim.Native.Nat.{_+_, _^_, _≤_, _<_};
-ghost use lib.ListN.{take, drop};
+ghost use lib.ListN.{take, drop, getD};
 ghost use Rattle.number.specs.Number.{ceiling};
-ghost use Rattle.rules_object.specs.Object.{Object};
 ghost use Rattle.rules_object.specs.Machine.{ruleOf};
-ghost use Rattle.rules_object.specs.Check.{targets, right43, entryRight};
+ghost use Rattle.rules_object.specs.Check.{targets, right43, entryRight, popsTable, pushesTable};
 ghost use Rattle.rules_object.specs.Calls.{refused43};
 ghost use Rattle.object.specs.Layout.{Placed, objectAt};
 ghost use Rattle.judge.specs.Judge.{refusalOf};
@@ -18,6 +17,25 @@ use object::Layout;
 const FEWEST: usize = 2;
 
 const MOST: usize = 10;
+
+// HLT CON LOD STO LDE STE ADD SUB MUL DIV NEG JMP BR3 BRC DOI DOE
+const POPS: [u8; 16] = [0, 0, 0, 1, 0, 1, 2, 2, 2, 2, 1, 0, 1, 1, 3, 0];
+
+const PUSHES: [u8; 16] = [0, 1, 1, 0, 1, 0, 1, 1, 1, 1, 1, 0, 0, 0, 0, 0];
+
+pub fn pops_of(operation: usize) -> u8
+    requires { ⌜ operation < 16 ⌝ }
+    ensures { λ r. ⌜ r ≡ getD popsTable operation 0 ⌝ }
+{
+    POPS[operation]
+}
+
+pub fn pushes_of(operation: usize) -> u8
+    requires { ⌜ operation < 16 ⌝ }
+    ensures { λ r. ⌜ (r ≡ getD pushesTable operation 0) × (r ≤ 1) ⌝ }
+{
+    PUSHES[operation]
+}
 
 // The `n` exits from `at` on lead into the code.
 fn targets_right(o: &[u8], e: Layout, at: usize, n: usize) -> bool

@@ -20,9 +20,10 @@ use Rattle.rules_object.specs.Check.{right41, rightConstant, rightSubscript, ri
 use Rattle.word.specs.Word.{wordAt}
 use Rattle.object.specs.declared.Layout.{Layout}
 use Rattle.object.specs.Layout.{listFrom, elementAt, loopAt, objectAt}
-use Rattle.operations.specs.declared.Regs.{Regs}
-use Rattle.operations.specs.Performed.{Cell, LoopIn, SubscriptIn, ElementIn, exitIf, chosen, signOf, Held, Ready}
-use Rattle.operations.proofs.Laws.{apart}
+use Rattle.arithmetic.specs.declared.Regs.{Regs}
+use Rattle.subscripts.specs.Elements.{Cell, SubscriptIn, ElementIn}
+use Rattle.operations.specs.Ready.{LoopIn, exitIf, chosen, signOf, Held, Ready}
+use Rattle.subscripts.proofs.Laws.{apart}
 
 pub both : (a b : Bool) → (a && b) ≡ true → (a ≡ true) × (b ≡ true)
 both true true e = (refl, refl)

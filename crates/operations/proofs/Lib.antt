@@ -1,4 +1,2 @@
 pub mod Laws
 pub mod Known
-pub mod Places
-pub mod Does

@@ -1,179 +1,19 @@
 // The machine's operations, each with what its operand stands for. Nothing is tested here that the check of an object has settled.
 ghost use mathlib.Core.Path.{_≡_};
 ghost use mathlib.Core.List.{List};
-ghost use Prim.Native.Nat.{ℕ, _+_, _-_, _*_, _^_, _≤_, _<_};
+ghost use Prim.Native.Nat.{_+_, _-_, _*_, _^_, _≤_, _<_};
 ghost use lib.ListN.{length, set};
-ghost use lib.IntN.{ℤ, pos, natAbs, _+ℤ_, _-ℤ_, _*ℤ_};
-ghost use Rattle.number.specs.Number.{value, keep, drops, divided};
-ghost use Rattle.number.specs.Code.{Both};
-ghost use Rattle.rules_object.specs.Bytes.{signedOf};
-ghost use Rattle.rules_object.specs.Choose.{right, place, marked, allPositive, positive};
-ghost use Rattle.rules_object.specs.Machine.{NEG, cell, meant, ruleOf, subscriptValue, placeOf};
+ghost use lib.IntN.{ℤ};
+ghost use Rattle.rules_object.specs.Choose.{allPositive, positive};
+ghost use Rattle.rules_object.specs.Machine.{cell, meant, ruleOf, placeOf};
 ghost use Rattle.word.specs.Word.{wordAt};
 ghost use Rattle.object.specs.Layout.{objectAt, elementAt, loopAt};
-ghost use Rattle.operations.specs.Performed.{after, next, pushed, popped, joined, loaded, put, branched, begun, ended, performed, Cell, LoopIn, subscriptAt, SubscriptIn, ElementIn, placeFound, chosen, signOf, Held, Ready};
-
-// The instruction to be done, how many places of the stack are used, and the drop mark.
-pub struct Regs {
-    pub index: usize,
-    pub height: usize,
-    pub mark: u32,
-}
-
-pub enum Turn {
-    Next(Regs),
-    Halt(u32),
-}
-
-pub enum Place {
-    At(usize),
-    Nowhere,
-}
-
-fn mark_after(mark: u32, dropped: bool, index: usize) -> u32
-    requires { ⌜ index < 4096 ⌝ }
-    ensures { λ r. ⌜ r ≡ marked mark dropped index ⌝ }
-{
-    if dropped {
-        if mark == 0 {
-            return index as u32 + 1;
-        }
-    }
-    mark
-}
-
-fn push(r: Regs, stack: &mut [i64; 40], v: i64) -> Regs
-    requires { ⌜ (r .height < 40) × (r .index < 4096) ⌝ }
-    ensures { λ q. ⌜ ((so : List ℤ) → next q (now (stack .exit)) so ≡ pushed r (now (stack .entry)) so v) ⌝ }
-{
-    let h = r.height;
-    stack[h] = v;
-    Regs {
-        index: r.index + 1,
-        height: h + 1,
-        mark: r.mark,
-    }
-}
-
-// The upper number goes into cell `a`.
-fn store_top(r: Regs, stack: &mut [i64; 40], store: &mut [i64], a: usize) -> Regs
-    requires { ⌜ (0 < r .height) × ((r .height ≤ 40) × ((r .index < 4096) × (a < length (now store)))) ⌝ }
-    ensures { λ q. ⌜ next q (now (stack .exit)) (now (store .exit)) ≡ popped r (now (stack .entry)) (set (now (store .entry)) a (cell (now (stack .entry)) (r .height - 1))) (r .index + 1) ⌝ }
-{
-    let top = r.height - 1;
-    let v = stack[top];
-    store[a] = v;
-    stack[top] = 0;
-    Regs {
-        index: r.index + 1,
-        height: top,
-        mark: r.mark,
-    }
-}
-
-// The two upper numbers become `v`.
-fn join(r: Regs, stack: &mut [i64; 40], v: i64, dropped: bool) -> Regs
-    requires { ⌜ (1 < r .height) × ((r .height ≤ 40) × (r .index < 4096)) ⌝ }
-    ensures { λ q. ⌜ ((so : List ℤ) → next q (now (stack .exit)) so ≡ joined (value v dropped) r (now (stack .entry)) so) ⌝ }
-{
-    let h = r.height - 1;
-    let g = r.height - 2;
-    stack[g] = v;
-    stack[h] = 0;
-    Regs {
-        index: r.index + 1,
-        height: h,
-        mark: mark_after(r.mark, dropped, r.index),
-    }
-}
-
-fn do_add(r: Regs, stack: &mut [i64; 40], p: u64) -> Regs
-    requires { ⌜ (1 < r .height) × ((r .height ≤ 40) × (r .index < 4096)) ⌝ }
-    requires { ⌜ Both p (cell (now stack) (r .height - 2)) (cell (now stack) (r .height - 1)) ⌝ }
-    ensures { λ q. ⌜ ((so : List ℤ) → next q (now (stack .exit)) so ≡ joined (value (keep p (cell (now (stack .entry)) (r .height - 2) +ℤ cell (now (stack .entry)) (r .height - 1))) (drops p (cell (now (stack .entry)) (r .height - 2) +ℤ cell (now (stack .entry)) (r .height - 1)))) r (now (stack .entry)) so) ⌝ }
-{
-    let h = r.height - 1;
-    let g = r.height - 2;
-    let x = stack[g];
-    let y = stack[h];
-    let n = number::add(x, y, p);
-    join(r, stack, n.value, n.dropped)
-}
-
-fn do_sub(r: Regs, stack: &mut [i64; 40], p: u64) -> Regs
-    requires { ⌜ (1 < r .height) × ((r .height ≤ 40) × (r .index < 4096)) ⌝ }
-    requires { ⌜ Both p (cell (now stack) (r .height - 2)) (cell (now stack) (r .height - 1)) ⌝ }
-    ensures { λ q. ⌜ ((so : List ℤ) → next q (now (stack .exit)) so ≡ joined (value (keep p (cell (now (stack .entry)) (r .height - 2) -ℤ cell (now (stack .entry)) (r .height - 1))) (drops p (cell (now (stack .entry)) (r .height - 2) -ℤ cell (now (stack .entry)) (r .height - 1)))) r (now (stack .entry)) so) ⌝ }
-{
-    let h = r.height - 1;
-    let g = r.height - 2;
-    let x = stack[g];
-    let y = stack[h];
-    let n = number::sub(x, y, p);
-    join(r, stack, n.value, n.dropped)
-}
-
-fn do_mul(r: Regs, stack: &mut [i64; 40], p: u64) -> Regs
-    requires { ⌜ (1 < r .height) × ((r .height ≤ 40) × (r .index < 4096)) ⌝ }
-    requires { ⌜ Both p (cell (now stack) (r .height - 2)) (cell (now stack) (r .height - 1)) ⌝ }
-    ensures { λ q. ⌜ ((so : List ℤ) → next q (now (stack .exit)) so ≡ joined (value (keep p (cell (now (stack .entry)) (r .height - 2) *ℤ cell (now (stack .entry)) (r .height - 1))) (drops p (cell (now (stack .entry)) (r .height - 2) *ℤ cell (now (stack .entry)) (r .height - 1)))) r (now (stack .entry)) so) ⌝ }
-{
-    let h = r.height - 1;
-    let g = r.height - 2;
-    let x = stack[g];
-    let y = stack[h];
-    let n = number::mul(x, y, p);
-    join(r, stack, n.value, n.dropped)
-}
-
-fn do_div(r: Regs, stack: &mut [i64; 40]) -> Turn
-    requires { ⌜ (1 < r .height) × ((r .height ≤ 40) × (r .index < 4096)) ⌝ }
-    requires { ⌜ (natAbs (cell (now stack) (r .height - 2)) < 1000000000) × (natAbs (cell (now stack) (r .height - 1)) < 1000000000) ⌝ }
-    ensures { λ t. ⌜ ((so : List ℤ) → after t (now (stack .exit)) so ≡ joined (divided (cell (now (stack .entry)) (r .height - 2)) (cell (now (stack .entry)) (r .height - 1))) r (now (stack .entry)) so) ⌝ }
-{
-    let h = r.height - 1;
-    let g = r.height - 2;
-    let x = stack[g];
-    let y = stack[h];
-    if y == 0 {
-        return Turn::Halt(3);
-    }
-    let v = number::div(x, y);
-    Turn::Next(join(r, stack, v, false))
-}
-
-fn do_neg(r: Regs, stack: &mut [i64; 40]) -> Regs
-    requires { ⌜ (0 < r .height) × ((r .height ≤ 40) × (r .index < 4096)) ⌝ }
-    requires { ⌜ natAbs (cell (now stack) (r .height - 1)) < 1000000000 ⌝ }
-    ensures { λ q. ⌜ ((so : List ℤ) → next q (now (stack .exit)) so ≡ performed (record { digits = 0 }) NEG r (now (stack .entry)) so) ⌝ }
-{
-    let h = r.height - 1;
-    let v = stack[h];
-    stack[h] = number::neg(v);
-    Regs {
-        index: r.index + 1,
-        height: r.height,
-        mark: r.mark,
-    }
-}
-
-fn above_zero(z: i64) -> bool
-    ensures { λ r. ⌜ r ≡ positive z ⌝ }
-{
-    0 < z
-}
-
-fn all_above_zero(a: i64, b: i64, c: i64) -> bool
-    ensures { λ r. ⌜ r ≡ allPositive a b c ⌝ }
-{
-    if !above_zero(a) {
-        return false;
-    }
-    if !above_zero(b) {
-        return false;
-    }
-    above_zero(c)
-}
+ghost use Rattle.subscripts.specs.Elements.{ElementIn};
+ghost use Rattle.arithmetic.specs.Performed.{after, next, popped, loaded, put, branched, begun, ended, performed};
+ghost use Rattle.operations.specs.Ready.{LoopIn, chosen, signOf, Held, Ready};
+use arithmetic::Regs;
+use arithmetic::Turn;
+use subscripts::Place;
 
 fn sign(z: i64) -> usize
     ensures { λ r. ⌜ (r ≡ signOf z) × (r ≤ 2) ⌝ }
@@ -210,7 +50,7 @@ fn do_brc(o: &[u8], b: usize, r: Regs, stack: &mut [i64; 40]) -> Turn
 {
     let h = r.height - 1;
     let v = stack[h];
-    if !above_zero(v) {
+    if !subscripts::above_zero(v) {
         return Turn::Halt(5);
     }
     let k = number::size(v) as usize;
@@ -238,7 +78,7 @@ fn do_doi(o: &[u8], b: usize, r: Regs, stack: &mut [i64; 40], store: &mut [i64])
     let m1 = stack[f];
     let m2 = stack[g];
     let m3 = stack[h];
-    if !all_above_zero(m1, m2, m3) {
+    if !subscripts::all_above_zero(m1, m2, m3) {
         return Turn::Halt(6);
     }
     set_loop(o, b, store, m1, m2, m3);
@@ -273,7 +113,7 @@ fn do_doe(o: &[u8], b: usize, r: Regs, store: &mut [i64]) -> Turn
     let l = word::index(word::load(o, b + 4));
     let s = word::index(word::load(o, b + 8));
     let step = store[s];
-    if !above_zero(step) {
+    if !subscripts::above_zero(step) {
         return Turn::Halt(6);
     }
     let variable = store[i];
@@ -295,78 +135,17 @@ fn do_doe(o: &[u8], b: usize, r: Regs, store: &mut [i64]) -> Turn
     })
 }
 
-// Two's complement.
-fn signed(w: u32) -> i64
-    ensures { λ r. ⌜ r ≡ signedOf w ⌝ }
-{
-    if w < 2147483648 {
-        w as i64
-    } else {
-        w as i64 - 4294967296
-    }
-}
-
-fn subscript(o: &[u8], b: usize, store: &[i64]) -> i64
-    requires { ⌜ SubscriptIn (now o) b (now store) ⌝ }
-    ensures { λ r. ⌜ r ≡ subscriptValue (now (store .entry)) (subscriptAt (now (o .entry)) b) ⌝ }
-{
-    let times = word::load(o, b);
-    let c = word::index(word::load(o, b + 4));
-    let plus = signed(word::load(o, b + 8));
-    let v = store[c];
-    times as i64 * v + plus
-}
-
-fn within(dimension: usize, z: i64) -> Place
-    ensures { λ r. ⌜ placeFound r ≡ right dimension z ⌝ }
-{
-    if !above_zero(z) {
-        return Place::Nowhere;
-    }
-    let n = number::size(z) as usize - 1;
-    if n < dimension {
-        Place::At(n)
-    } else {
-        Place::Nowhere
-    }
-}
-
-// Elements lie by columns.
-fn place_in(rows: usize, columns: usize, v: i64, w: i64) -> Place
-    requires { ⌜ rows * columns ≤ 4096 ⌝ }
-    ensures { λ r. ⌜ placeFound r ≡ place rows columns v w ⌝ }
-{
-    let Place::At(i) = within(rows, v) else {
-        return Place::Nowhere;
-    };
-    let Place::At(j) = within(columns, w) else {
-        return Place::Nowhere;
-    };
-    Place::At(j * rows + i)
-}
-
-fn element_place(o: &[u8], b: usize, store: &[i64]) -> Place
-    requires { ⌜ ElementIn (now o) b (now store) ⌝ }
-    ensures { λ r. ⌜ placeFound r ≡ placeOf (now (store .entry)) (elementAt (now (o .entry)) b) ⌝ }
-{
-    let rows = word::index(word::load(o, b + 4));
-    let columns = word::index(word::load(o, b + 8));
-    let v = subscript(o, b + 12, store);
-    let w = subscript(o, b + 24, store);
-    place_in(rows, columns, v, w)
-}
-
 fn do_lde(o: &[u8], b: usize, r: Regs, stack: &mut [i64; 40], store: &[i64]) -> Turn
     requires { ⌜ ElementIn (now o) b (now store) ⌝ }
     requires { ⌜ (r .height < 40) × (r .index < 4096) ⌝ }
     ensures { λ t. ⌜ after t (now (stack .exit)) (now (store .entry)) ≡ loaded (placeOf (now (store .entry)) (elementAt (now (o .entry)) b)) (wordAt (now (o .entry)) b) r (now (stack .entry)) (now (store .entry)) ⌝ }
 {
-    let Place::At(n) = element_place(o, b, store) else {
+    let Place::At(n) = subscripts::element_place(o, b, store) else {
         return Turn::Halt(4);
     };
     let a = word::index(word::load(o, b)) + n;
     let v = store[a];
-    Turn::Next(push(r, stack, v))
+    Turn::Next(arithmetic::push(r, stack, v))
 }
 
 fn do_ste(o: &[u8], b: usize, r: Regs, stack: &mut [i64; 40], store: &mut [i64]) -> Turn
@@ -374,11 +153,11 @@ fn do_ste(o: &[u8], b: usize, r: Regs, stack: &mut [i64; 40], store: &mut [i64])
     requires { ⌜ (0 < r .height) × ((r .height ≤ 40) × (r .index < 4096)) ⌝ }
     ensures { λ t. ⌜ after t (now (stack .exit)) (now (store .exit)) ≡ put (placeOf (now (store .entry)) (elementAt (now (o .entry)) b)) (wordAt (now (o .entry)) b) r (now (stack .entry)) (now (store .entry)) ⌝ }
 {
-    let Place::At(n) = element_place(o, b, store) else {
+    let Place::At(n) = subscripts::element_place(o, b, store) else {
         return Turn::Halt(4);
     };
     let a = word::index(word::load(o, b)) + n;
-    Turn::Next(store_top(r, stack, store, a))
+    Turn::Next(arithmetic::store_top(r, stack, store, a))
 }
 
 // The operation `op` with operand `x`.
@@ -400,20 +179,20 @@ pub fn perform(
     match op {
         1 => {
             let v = word::load(o, e.constants + 4 * x);
-            Turn::Next(push(r, stack, v as i64))
+            Turn::Next(arithmetic::push(r, stack, v as i64))
         }
         2 => {
             let v = store[x];
-            Turn::Next(push(r, stack, v))
+            Turn::Next(arithmetic::push(r, stack, v))
         }
-        3 => Turn::Next(store_top(r, stack, store, x)),
+        3 => Turn::Next(arithmetic::store_top(r, stack, store, x)),
         4 => do_lde(o, e.elements + 36 * x, r, stack, store),
         5 => do_ste(o, e.elements + 36 * x, r, stack, store),
-        6 => Turn::Next(do_add(r, stack, p)),
-        7 => Turn::Next(do_sub(r, stack, p)),
-        8 => Turn::Next(do_mul(r, stack, p)),
-        9 => do_div(r, stack),
-        10 => Turn::Next(do_neg(r, stack)),
+        6 => Turn::Next(arithmetic::do_add(r, stack, p)),
+        7 => Turn::Next(arithmetic::do_sub(r, stack, p)),
+        8 => Turn::Next(arithmetic::do_mul(r, stack, p)),
+        9 => arithmetic::do_div(r, stack),
+        10 => Turn::Next(arithmetic::do_neg(r, stack)),
         11 => Turn::Next(Regs {
             index: x,
             height: r.height,

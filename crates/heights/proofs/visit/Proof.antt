@@ -17,8 +17,6 @@ use Rattle.heights.proofs.visit.Lts as lts
 use Rattle.heights.proofs.meet.Reads as meet-reads
 use Rattle.heights.proofs.next_of.Reads as next-of-reads
 use Rattle.heights.proofs.place.Reads as place-reads
-use Rattle.heights.proofs.pops_of.Reads as pops-of-reads
-use Rattle.heights.proofs.pushes_of.Reads as pushes-of-reads
 use Rattle.heights.proofs.width_of.Reads as width-of-reads
 use Rattle.word.proofs.index.Reads as index-reads
 use Rattle.word.proofs.load.Reads as load-reads

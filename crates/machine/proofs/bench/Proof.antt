@@ -1,12 +1,16 @@
 -- `machine::bench` meets its contract. Assumes nothing.
-use Rattle.operations.proofs.Laws.{apart}
+use Rattle.object.specs.Layout.{objectAt}
+use Rattle.subscripts.proofs.Laws.{apart}
+use Rattle.machine.proofs.Seen.{sees-none}
 use borrow.Author.Needs.{needs}
 use Rattle.machine.proofs.bench.Statement.{statement}
 use Rattle.machine.proofs.bench.Tie as tie
 
 turns-requires : tie.Need-turns-requires
 turns-requires c κs =
-    (c .before .before .before .pre, λ q. absurd (apart q))
+    let a = c .before .before .before .before .args in
+    let o = objectAt (a .e) (a .o .now) in
+    (c .before .before .before .before .pre, ((λ q. absurd (apart q)), sees-none o 4096))
 
 same-length : tie.Need-same-length
 same-length c = search needs

@@ -3,7 +3,7 @@ use mathlib.Core.Path.{sym, ap, _∙_}
 use Prim.Native.Nat.{_-_}
 use native.Mathlib.Omega.{arith}
 use Rattle.rules_object.specs.Machine.{ruleOf}
-use Rattle.operations.specs.Performed.{performed}
+use Rattle.arithmetic.specs.Performed.{performed}
 use Rattle.operations.proofs.Known.{held-bounds}
 use Rattle.object.specs.Layout.{objectAt}
 use Rattle.object.proofs.Entries.{code-inside, code-length}

@@ -4,15 +4,15 @@ use borrow.Author.Needs.{needs}
 use Rattle.machine.proofs.test.Statement.{statement}
 use Rattle.machine.proofs.test.Tie as tie
 
-guard-requires : tie.Need-guard-requires
-guard-requires c κs = search needs
+guard-again-requires : tie.Need-guard-again-requires
+guard-again-requires c κs = search needs
 
 returns : tie.Need-returns
 returns c = search needs
 
 returns-2 : tie.Need-returns-2
 returns-2 c =
-    sym (c .before .before .pre .1 .1 (c .if1 .left))
+    (sym (c .before .before .pre .1 .1 .1 (c .if1 .left)), c .before .before .pre .1 .1 .0)
 
 pub test-spec : {M : Type 1} → statement M
-test-spec = tie.close (tie.spec guard-requires returns returns-2)
+test-spec = tie.close (tie.spec guard-again-requires returns returns-2)

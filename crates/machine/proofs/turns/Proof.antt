@@ -1,29 +1,33 @@
 -- `machine::turns` meets its contract. Assumes nothing.
 use mathlib.Core.Path.{sym, _∙_}
 use Prim.Native.Nat.{_-_}
-use Rattle.operations.specs.Performed.{after}
+use Rattle.object.specs.Layout.{objectAt}
+use Rattle.arithmetic.specs.Performed.{after}
+use Rattle.operations.proofs.Known.{held-bounds}
+use Rattle.machine.specs.Running.{Sees}
 use Rattle.machine.proofs.Going.{Going, begins, goes, stops, guard-ends, used, rights-guard}
 use borrow.Author.Needs.{needs}
 use Rattle.machine.proofs.turns.Statement.{statement}
 use Rattle.machine.proofs.turns.Tie as tie
 
 abbrev Inv-loop : tie.InvT-loop
-Inv-loop guarded o e p stack₀ store₀ allowance r₀ steps₀ stack store r steps = Going guarded e o p allowance r₀ stack₀ store₀ r stack store steps
+Inv-loop guarded o e p stack₀ store₀ allowance seen₀ r₀ steps₀ stack store seen r steps = Going guarded e o p allowance r₀ stack₀ store₀ r stack store steps × Sees (objectAt e o) seen
 
 abbrev μ-loop : tie.MeasureT-loop
-μ-loop guarded o e p stack₀ store₀ allowance r₀ steps₀ stack store r steps = allowance - steps
+μ-loop guarded o e p stack₀ store₀ allowance seen₀ r₀ steps₀ stack store seen r steps = allowance - steps
 
 loop-holds : tie.Need-loop-holds Inv-loop μ-loop
 loop-holds c =
     let a = c .before .args in
-    begins (a .guarded) (a .e) (a .o .now) (a .p) (a .allowance) (a .start) (a .stack .now) (a .store .now) (c .before .pre .0) (c .before .pre .1)
+    (begins (a .guarded) (a .e) (a .o .now) (a .p) (a .allowance) (a .start) (a .stack .now) (a .store .now) (c .before .pre .0) (c .before .pre .1 .0), c .before .pre .1 .1)
 
 test-requires : tie.Need-test-requires Inv-loop μ-loop
 test-requires c κs =
-    let a = c .before .before .before .args in
-    let l = c .before .loop in
-    let h = l .inv .held in
-    ((h .placed, h .power), (h .low, λ q. rights-guard (a .e) (a .o .now) (a .p) (l .r) (l .stack) (l .store) h (l .inv .rights q)))
+    let a = c .before .before .before .before .args in
+    let l = c .before .before .loop in
+    let g = l .inv .0 in
+    let h = g .held in
+    ((h .placed, (h .power, held-bounds (a .e) (a .o .now) (a .p) (l .r) (l .stack) (l .store) h .code)), (h .low, (l .inv .1, λ q. rights-guard (a .e) (a .o .now) (a .p) (l .r) (l .stack) (l .store) h (g .rights q))))
 
 add-steps : tie.Need-add-steps Inv-loop μ-loop
 add-steps c = search needs
@@ -33,14 +37,16 @@ same-length c = search needs
 
 returns : tie.Need-returns Inv-loop μ-loop
 returns c =
-    let a = c .before .before .before .before .before .args in
-    let l = c .before .before .before .loop in
-    guard-ends (a .guarded) (a .e) (a .o .now) (a .p) (a .allowance) (a .start) (a .stack .now) (a .store .now) (l .r) (l .stack) (l .store) (l .steps) (l .inv) (c .before .before .loop-test .taken) (c .before .test .result) (c .before .test .ensures) (c .if1 .taken)
+    let a = c .before .before .before .before .before .before .args in
+    let l = c .before .before .before .before .loop in
+    let g = l .inv .0 in
+    guard-ends (a .guarded) (a .e) (a .o .now) (a .p) (a .allowance) (a .start) (a .stack .now) (a .store .now) (l .r) (l .stack) (l .store) (l .steps) g (c .before .before .before .loop-test .taken) (c .before .test .result) (c .before .test .ensures .0) (c .if1 .taken)
 
 step-requires : tie.Need-step-requires Inv-loop μ-loop
 step-requires c κs =
-    let l = c .before .before .before .before .before .loop in
-    (l .inv .held, (sym (c .before .before .before .test .ensures) ∙ c .before .before .if1 .left))
+    let l = c .before .before .before .before .before .before .loop in
+    let g = l .inv .0 in
+    (g .held, (sym (c .before .before .before .test .ensures .0) ∙ c .before .before .if1 .left))
 
 enum-known-t : tie.Need-enum-known-t Inv-loop μ-loop
 enum-known-t c = search needs
@@ -50,10 +56,11 @@ loop-less c = search needs
 
 loop-again : tie.Need-loop-again Inv-loop μ-loop
 loop-again c =
-    let a = c .before .before .before .before .before .before .before .before .before .before .before .before .args in
-    let l = c .before .before .before .before .before .before .before .before .before .before .loop in
+    let a = c .before .before .before .before .before .before .before .before .before .before .before .before .before .args in
+    let l = c .before .before .before .before .before .before .before .before .before .before .before .loop in
+    let g = l .inv .0 in
     let d = c .before .before .before .before .step in
-    goes (a .guarded) (a .e) (a .o .now) (a .p) (a .allowance) (a .start) (a .stack .now) (a .store .now) (l .r) (l .stack) (l .store) (l .steps) (l .inv) (c .before .before .before .before .before .before .before .before .before .loop-test .taken) (sym (c .before .before .before .before .before .before .before .before .test .ensures) ∙ c .before .before .before .before .before .before .before .if1 .left) (after (d .result) (d .last .1 .1 .1 .1 .0) (d .last .1 .1 .1 .1 .1 .0)) (d .ensures) (c .before .t .given .0 .0) (c .before .t .given .1)
+    (goes (a .guarded) (a .e) (a .o .now) (a .p) (a .allowance) (a .start) (a .stack .now) (a .store .now) (l .r) (l .stack) (l .store) (l .steps) g (c .before .before .before .before .before .before .before .before .before .before .loop-test .taken) (sym (c .before .before .before .before .before .before .before .before .test .ensures .0) ∙ c .before .before .before .before .before .before .before .if1 .left) (after (d .result) (d .last .1 .1 .1 .1 .0) (d .last .1 .1 .1 .1 .1 .0)) (d .ensures) (c .before .t .given .0 .0) (c .before .t .given .1), c .before .before .before .before .before .before .before .before .test .ensures .1)
 
 enum-known-t-2 : tie.Need-enum-known-t-2 Inv-loop μ-loop
 enum-known-t-2 c = search needs
@@ -63,10 +70,11 @@ same-length-2 c = search needs
 
 returns-2 : tie.Need-returns-2 Inv-loop μ-loop
 returns-2 c =
-    let a = c .before .before .before .before .before .before .before .before .before .before .before .before .args in
-    let l = c .before .before .before .before .before .before .before .before .before .before .loop in
+    let a = c .before .before .before .before .before .before .before .before .before .before .before .before .before .args in
+    let l = c .before .before .before .before .before .before .before .before .before .before .before .loop in
+    let g = l .inv .0 in
     let d = c .before .before .before .before .step in
-    stops (a .guarded) (a .e) (a .o .now) (a .p) (a .allowance) (a .start) (a .stack .now) (a .store .now) (l .r) (l .stack) (l .store) (l .steps) (l .inv) (c .before .before .before .before .before .before .before .before .before .loop-test .taken) (sym (c .before .before .before .before .before .before .before .before .test .ensures) ∙ c .before .before .before .before .before .before .before .if1 .left) (after (d .result) (d .last .1 .1 .1 .1 .0) (d .last .1 .1 .1 .1 .1 .0)) (d .ensures) (c .before .t2 .given .0 .0) (c .before .t2 .given .1)
+    stops (a .guarded) (a .e) (a .o .now) (a .p) (a .allowance) (a .start) (a .stack .now) (a .store .now) (l .r) (l .stack) (l .store) (l .steps) g (c .before .before .before .before .before .before .before .before .before .before .loop-test .taken) (sym (c .before .before .before .before .before .before .before .before .test .ensures .0) ∙ c .before .before .before .before .before .before .before .if1 .left) (after (d .result) (d .last .1 .1 .1 .1 .0) (d .last .1 .1 .1 .1 .1 .0)) (d .ensures) (c .before .t2 .given .0 .0) (c .before .t2 .given .1)
 
 same-length-3 : tie.Need-same-length-3 Inv-loop μ-loop
 same-length-3 c = search needs
@@ -75,7 +83,8 @@ returns-3 : tie.Need-returns-3 Inv-loop μ-loop
 returns-3 c =
     let a = c .before .before .before .args in
     let l = c .before .loop in
-    used (a .guarded) (a .e) (a .o .now) (a .p) (a .allowance) (a .start) (a .stack .now) (a .store .now) (l .r) (l .stack) (l .store) (l .steps) (l .inv) (c .loop-test .left)
+    let g = l .inv .0 in
+    used (a .guarded) (a .e) (a .o .now) (a .p) (a .allowance) (a .start) (a .stack .now) (a .store .now) (l .r) (l .stack) (l .store) (l .steps) g (c .loop-test .left)
 
 pub turns-spec : {M : Type 1} → statement M
 turns-spec =

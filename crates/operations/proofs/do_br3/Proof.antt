@@ -7,7 +7,8 @@ use mir.Syntax.{w64}
 use mir.Facts.{toZ-ofZ}
 use Rattle.rules_object.specs.Machine.{cell}
 use Rattle.word.specs.Word.{wordAt}
-use Rattle.operations.specs.Performed.{next, regs, signOf}
+use Rattle.arithmetic.specs.Performed.{next, regs}
+use Rattle.operations.specs.Ready.{signOf}
 use borrow.Author.Needs.{needs}
 use Rattle.operations.proofs.do_br3.Statement.{statement}
 use Rattle.operations.proofs.do_br3.Tie as tie

@@ -11,7 +11,7 @@ use Rattle.word.specs.Word.{wordAt}
 use borrow.Author.Tests.{not-true, not-false}
 use Rattle.rules_object.specs.Choose.{positive}
 use Rattle.operations.proofs.Laws.{chosen-low, chosen-far, chosen-some}
-use Rattle.operations.specs.Performed.{next, regs, branched}
+use Rattle.arithmetic.specs.Performed.{next, regs, branched}
 use borrow.Author.Needs.{needs}
 use Rattle.operations.proofs.do_brc.Statement.{statement}
 use Rattle.operations.proofs.do_brc.Tie as tie

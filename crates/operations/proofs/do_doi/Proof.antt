@@ -11,7 +11,7 @@ use borrow.Author.Tests.{not-true, not-false}
 use Rattle.rules_object.specs.Choose.{allPositive}
 use Rattle.object.specs.Layout.{loopAt}
 use Rattle.operations.proofs.Laws.{sets-alike}
-use Rattle.operations.specs.Performed.{next, regs, begun}
+use Rattle.arithmetic.specs.Performed.{next, regs, begun}
 use borrow.Author.Needs.{needs}
 use Rattle.operations.proofs.do_doi.Statement.{statement}
 use Rattle.operations.proofs.do_doi.Tie as tie

@@ -6,8 +6,9 @@ use mir.Syntax.{w64}
 use mir.Facts.{toZ-ofZ}
 use Rattle.rules_object.specs.Machine.{cell}
 use Rattle.word.specs.Word.{wordAt}
-use Rattle.operations.proofs.Laws.{element-below}
-use Rattle.operations.specs.Performed.{pushed, loaded, placeFound}
+use Rattle.subscripts.proofs.Laws.{element-below}
+use Rattle.subscripts.specs.Elements.{placeFound}
+use Rattle.arithmetic.specs.Performed.{pushed, loaded}
 use borrow.Author.Needs.{needs}
 use Rattle.operations.proofs.do_lde.Statement.{statement}
 use Rattle.operations.proofs.do_lde.Tie as tie

@@ -5,8 +5,9 @@ use native.Mathlib.Omega.{arith}
 use lib.ListN.{set}
 use Rattle.rules_object.specs.Machine.{cell}
 use Rattle.word.specs.Word.{wordAt}
-use Rattle.operations.proofs.Laws.{element-below}
-use Rattle.operations.specs.Performed.{popped, put, placeFound}
+use Rattle.subscripts.proofs.Laws.{element-below}
+use Rattle.subscripts.specs.Elements.{placeFound}
+use Rattle.arithmetic.specs.Performed.{popped, put}
 use borrow.Author.Needs.{needs}
 use Rattle.operations.proofs.do_ste.Statement.{statement}
 use Rattle.operations.proofs.do_ste.Tie as tie

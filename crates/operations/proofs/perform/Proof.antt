@@ -14,7 +14,8 @@ use Rattle.rules_object.specs.Choose.{positive, allPositive}
 use Rattle.rules_object.specs.Machine.{meant, ruleOf, placeOf}
 use Rattle.object.specs.Layout.{elementAt, loopAt, objectAt}
 use Rattle.operations.proofs.Known.{is-ceiling, two, small, con-in, con-is, con-whole, con-small, lod-in, sto-in, element-is, lde-in, ste-in, loop-is, doi-in, doe-in, br3-in, br3-whole, br3-is, brc-in, brc-whole, brc-is, rest-halts}
-use Rattle.operations.specs.Performed.{performed, pushed, popped, joined, loaded, put, branched, begun, ended, Ready}
+use Rattle.arithmetic.specs.Performed.{performed, pushed, popped, joined, loaded, put, branched, begun, ended}
+use Rattle.operations.specs.Ready.{Ready}
 use borrow.Author.Needs.{needs}
 use Rattle.operations.proofs.perform.Statement.{statement}
 use Rattle.operations.proofs.perform.Tie as tie

@@ -1,0 +1,60 @@
+-- What the code of an instruction asks of the entries, the places and the store.
+-- Assumes nothing.
+use mathlib.Core.Path.{_≡_}
+use mathlib.Core.Bool.{Bool, true, false}
+use mathlib.Core.List.{List}
+use mathlib.Core.Option.{Option, none, some}
+use Prim.Native.Nat.{ℕ, zero, suc, _+_, _-_, _*_, _^_, _≤_, _<_}
+use lib.Dec.{ltb}
+use lib.ListN.{length, getD}
+use lib.IntN.{ℤ, pos, negsuc, natAbs}
+use Rattle.rules_object.specs.Choose.{sign3}
+use Rattle.rules_object.specs.Choose as choose
+use Rattle.rules_object.specs.Object.{Object}
+use Rattle.word.specs.Word.{wordAt}
+use Rattle.rules_object.specs.Machine.{cell, meant}
+use Rattle.rules_object.specs.Check.{right41, operandTests, unknownOperation, entryTests, noEntry, pops, pushes}
+use Rattle.object.specs.declared.Layout.{Layout}
+use Rattle.object.specs.Layout.{objectAt, Placed}
+use Rattle.subscripts.specs.Elements.{Cell}
+use Rattle.arithmetic.specs.declared.Regs.{Regs}
+
+-- the entry of a DO at byte b
+pub record LoopIn (s : List ℕ) (b : ℕ) (so : List ℤ) : Type 0 where
+  pub whole : b + 16 ≤ length s
+  pub variable : Cell so (wordAt s b)
+  pub limit : Cell so (wordAt s (b + 4))
+  pub step : Cell so (wordAt s (b + 8))
+
+-- the exit that z names, of the n that stand after byte b
+abbrev pub exitIf : Bool → ℕ → Option ℕ
+exitIf true a = some a
+exitIf false a = none
+
+abbrev pub chosen : List ℕ → ℕ → ℕ → ℤ → Option ℕ
+chosen s b n (pos zero) = none
+chosen s b n (pos (suc k)) = exitIf (ltb k n) (wordAt s (b + 4 * suc k))
+chosen s b n (negsuc k) = none
+
+-- 0 below zero, 1 at zero, 2 above
+abbrev pub signOf : ℤ → ℕ
+signOf z = sign3 z 0 1 2
+
+-- The bodies stand in the bytes, p is the ceiling, and every number that an instruction can read is below it. Places above the height are 0.
+pub record Held (e : Layout) (s : List ℕ) (p : ℕ) (r : Regs) (st so : List ℤ) : Type 0 where
+  pub placed : Placed e s
+  pub right : right41 (objectAt e s) ≡ true
+  pub power : p ≡ 10 ^ e .digits
+  pub low : r .height ≤ 40
+  pub forty : length st ≡ 40
+  pub clean : (i : ℕ) → r .height ≤ i → cell st i ≡ pos 0
+  pub stack : (i : ℕ) → natAbs (cell st i) < p
+  pub long : e .cells ≤ length so
+  pub store : (a : ℕ) → a < e .cells → natAbs (cell so a) < p
+
+-- the operation op with operand x can be done on a stack of height h
+pub record Ready (o : Object) (op x h : ℕ) : Type 0 where
+  pub operand : getD operandTests op unknownOperation o x ≡ true
+  pub entry : getD entryTests op noEntry o x ≡ true
+  pub popped : pops (meant o op x) ≤ h
+  pub pushed : h - pops (meant o op x) + pushes (meant o op x) ≤ 40
