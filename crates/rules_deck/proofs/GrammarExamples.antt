@@ -80,6 +80,8 @@ table =
     ∷ record { text = "I=-J*2-3"; form = some (assign (cell (ascii "I")) (bin sub (neg (bin mul (var (ascii "J")) (con (ascii "2")))) (con (ascii "3")))) }
     ∷ record { text = "I=1-J/K/2"; form = some (assign (cell (ascii "I")) (bin sub (con (ascii "1")) (bin div (bin div (var (ascii "J")) (var (ascii "K"))) (con (ascii "2"))))) }
     ∷ record { text = "I=--1"; form = none }
+    ∷ record { text = "I=-7/2"; form = some (assign (cell (ascii "I")) (neg (bin div (con (ascii "7")) (con (ascii "2"))))) }
+    ∷ record { text = "I=1+-2"; form = none }
     -- seventeen parentheses, never closed, and closed
     ∷ record { text = "I=(((((((((((((((((1"; form = none }
     ∷ record { text = "I=(((((((((((((((((1)))))))))))))))))"; form = some (assign (cell (ascii "I")) (par (par (par (par (par (par (par (par (par (par (par (par (par (par (par (par (par (con (ascii "1")))))))))))))))))))) }
@@ -100,4 +102,4 @@ Holds (x ∷ xs) = (formOf (ascii (x .text)) ≡ x .form) × Holds xs
 
 pub examples : Holds table
 unfolding isDigit isLetter isLetterOrDigit give giveIf ahead follow andThen after afterWord choose starts startsDigit allOf whole run digitRun nameRun taken number name listedUpTo listed addend linearOf subscript subscripts place operandOf operand sign signed sumOp productOp joined more step parseIn enough parse expression assignment plainGoTo rightExits computedGoTo arithmeticIf parameter doLoop arrayShape dimensions readAssignment readGoTo readComputed readIf readDo readContinue readStop readEnd readDimension present readings firstOf formOf
-examples = (refl, (refl, (refl, (refl, (refl, (refl, (refl, (refl, (refl, (refl, (refl, (refl, (refl, (refl, (refl, (refl, (refl, (refl, (refl, (refl, (refl, (refl, (refl, (refl, (refl, (refl, (refl, (refl, (refl, (refl, (refl, (refl, (refl, (refl, (refl, (refl, (refl, (refl, (refl, (refl, (refl, (refl, (refl, (refl, (refl, (refl, (refl, (refl, (refl, (refl, (refl, (refl, (refl, (refl, (refl, tt)))))))))))))))))))))))))))))))))))))))))))))))))))))))
+examples = (refl, (refl, (refl, (refl, (refl, (refl, (refl, (refl, (refl, (refl, (refl, (refl, (refl, (refl, (refl, (refl, (refl, (refl, (refl, (refl, (refl, (refl, (refl, (refl, (refl, (refl, (refl, (refl, (refl, (refl, (refl, (refl, (refl, (refl, (refl, (refl, (refl, (refl, (refl, (refl, (refl, (refl, (refl, (refl, (refl, (refl, (refl, (refl, (refl, (refl, (refl, (refl, (refl, (refl, (refl, (refl, (refl, tt)))))))))))))))))))))))))))))))))))))))))))))))))))))))))
