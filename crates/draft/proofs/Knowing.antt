@@ -1,0 +1,107 @@
+-- The operands of a form that passed 11, 12 and 16 have their cells in the table, once its plain names are taken.
+-- Assumes nothing.
+use mathlib.Core.Path.{_≡_, sym, _∙_, subst}
+use Prim.Native.Nat.{ℕ}
+use native.Mathlib.Omega.{arith}
+use mathlib.Core.Logic.{_⊎_, inl, inr}
+use mathlib.Core.Bool.{Bool, true, false, cond, false≢true}
+use mathlib.Core.List.{List, [], _∷_, _++_, map}
+use mathlib.Core.Option.{some}
+use Rattle.rules_object.specs.Calls.{all}
+use Rattle.rules_deck.specs.Trees.{Name, Digits, valueOf, Form, formNames, formConstants}
+use Rattle.rules_deck.specs.Cards.{rightDigits}
+use Rattle.rules_deck.specs.Grammar.{formOf}
+use Rattle.rules_deck.specs.Deck.{sameName, declare, arraysIn}
+use Rattle.rules_deck.specs.Translation.{Held, name, array, hidden, isName, holds, appear, formPlain, hiddenIn, brings}
+use Rattle.rules_deck.specs.Judge.{right11, right12, Reference, rightCount, rightReference, right16}
+use Rattle.rules_deck.specs.Accepted.{Among, here, there}
+use Rattle.rules_deck.proofs.Readers.{All, all-none, all-more, all-map, both-true}
+use Rattle.rules_deck.proofs.TestLaws.{all-among, among-left, among-right}
+use Rattle.rules_deck.proofs.ArrayLaws.{holds-left}
+use Rattle.rules_deck.proofs.DeckCells.{grown-appear, appear-has}
+use Rattle.rules_deck.proofs.BodySeven.{all-here}
+use Rattle.draft.specs.Parts.{Item, itemsPlain, itemsReferences, rightItems, formFirst, formItems}
+use Rattle.draft.specs.Names.{Told, Exact, Known}
+use Rattle.draft.proofs.FormLaws.{form-plain-both, form-right16, first-names, items-names, first-constants, items-constants}
+use Rattle.draft.proofs.ReadForm.{read-told, read-exact}
+
+pub all-of : {A : Type 0} {P : A → Type 0} (l : List A) → ((a : A) → Among a l → P a) → All P l
+all-of [] f = all-none
+all-of (a ∷ l) f = all-more (f a here) (all-of l (λ b x. f b (there x)))
+
+-- ---- a table that grows at its end
+
+pub reference-grows : (held more : List Held) (r : Reference) → rightReference held r ≡ true → rightReference (held ++ more) r ≡ true
+reference-grows [] more r e = absurd (false≢true e)
+reference-grows (name v ∷ held) more r e = reference-grows held more r e
+reference-grows (array a ∷ held) more r e = go (sameName (a .name) (r .name)) e (reference-grows held more r)
+  where
+    go : (b : Bool) → cond b (rightCount (a .dims) (r .subscripts)) (rightReference held r) ≡ true → (rightReference held r ≡ true → rightReference (held ++ more) r ≡ true)
+        → cond b (rightCount (a .dims) (r .subscripts)) (rightReference (held ++ more) r) ≡ true
+    go true i f = i
+    go false i f = f i
+reference-grows (hidden q ∷ held) more r e = reference-grows held more r e
+
+pub known-grows : {held : List Held} {is : List Item} (more : List Held) → Known held is → Known (held ++ more) is
+known-grows {held} {is} more w =
+    record {
+      told = w .told;
+      exact = w .exact;
+      plains = all-map (λ v e. holds-left (isName v) held more e) (w .plains);
+      arrays = all-map (λ r e. reference-grows held more r e) (w .arrays);
+    }
+
+-- ---- what passed
+
+exact-one : Exact (49 ∷ [])
+unfolding valueOf
+exact-one = omega arith
+
+module _ (k : ℕ) (text : List ℕ) (f : Form) (held : List Held) (r : formOf text ≡ some f) (d : rightDigits k ≡ true) (right : right11 f ≡ true) (right′ : right12 k f ≡ true)
+    (right″ : right16 held f ≡ true) where
+  told : All Told (formNames f)
+  told = read-told text f r right
+
+  exact : All Exact (formConstants f)
+  exact = read-exact k text f r d right′
+
+  both16 : (rightItems held (formFirst f) ≡ true) × (rightItems held (formItems f) ≡ true)
+  both16 = both-true (rightItems held (formFirst f)) (rightItems held (formItems f)) (sym (form-right16 held f) ∙ right″)
+
+  taken : (v : Name) → Among v (itemsPlain (formFirst f) ++ itemsPlain (formItems f)) → holds (isName v) (appear held (formPlain f)) ≡ true
+  taken v a = appear-has (formPlain f) held (subst (Among v) (sym (form-plain-both f)) a)
+
+  refers : (is : List Item) → rightItems held is ≡ true → (e : Reference) → Among e (itemsReferences is) → rightReference (appear held (formPlain f)) e ≡ true
+  refers is t e a =
+      let g = grown-appear (formPlain f) held in
+      let p = all-among (rightReference held) (both-true (all (rightReference held) (itemsReferences is)) _ t .0) a in
+      subst (λ (l : List Held). rightReference l e ≡ true) (sym (g .is)) (reference-grows held (g .more) e p)
+
+  pub known-first : Known (appear held (formPlain f)) (formFirst f)
+  known-first =
+      record {
+        told = all-of _ (λ v a. all-here told (first-names f a));
+        exact = all-of _ (λ c a. all-here exact (first-constants f a));
+        plains = all-of _ (λ v a. taken v (among-left (itemsPlain (formItems f)) a));
+        arrays = all-of _ (refers (formFirst f) (both16 .0));
+      }
+
+  exact-item : (c : Digits) → Among c (formConstants f) ⊎ (c ≡ 49 ∷ []) → Exact c
+  exact-item c (inl a) = all-here exact a
+  exact-item c (inr e) = subst Exact (sym e) exact-one
+
+  pub known-items : Known (appear held (formPlain f)) (formItems f)
+  known-items =
+      record {
+        told = all-of _ (λ v a. all-here told (items-names f a));
+        exact = all-of _ (λ c a. exact-item c (items-constants f a));
+        plains = all-of _ (λ v a. taken v (among-right (itemsPlain (formFirst f)) a));
+        arrays = all-of _ (refers (formItems f) (both16 .1));
+      }
+
+  -- with what else the statement at position q brings
+  pub brings-first : (q : ℕ) → Known (brings q f held) (formFirst f)
+  brings-first q = known-grows (hiddenIn q f ++ map (λ a. array (declare a)) (arraysIn f)) known-first
+
+  pub brings-items : (q : ℕ) → Known (brings q f held) (formItems f)
+  brings-items q = known-grows (hiddenIn q f ++ map (λ a. array (declare a)) (arraysIn f)) known-items

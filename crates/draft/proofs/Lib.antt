@@ -1,0 +1,10 @@
+pub mod FormParts
+pub mod FormLaws
+pub mod ReadForm
+pub mod Knowing
+pub mod Matching
+pub mod DraftDeck
+pub mod Steady
+pub mod FinalDraft
+pub mod FinalTables
+pub mod DeckKept

@@ -1,0 +1,6 @@
+pub mod Parts
+pub mod Names
+pub mod Draft
+pub mod Kept
+pub mod Sketch
+pub mod KeptDeck
