@@ -19,7 +19,7 @@ pub enum Got {
     Bad,
 }
 
-fn put_two(items: &mut [u64], n: usize, kind: u64, word: u64) -> usize
+pub fn put_two(items: &mut [u64], n: usize, kind: u64, word: u64) -> usize
     requires { ⌜ n + 2 ≤ length (now items) ⌝ }
     ensures { λ r. ⌜ Put (now (items .entry)) (now (items .exit)) n (kind ∷ word ∷ []) r ⌝ }
 {
@@ -57,7 +57,7 @@ fn put_element(items: &mut [u64], n: usize, element: Element) -> usize
     put_subscript(items, c, second)
 }
 
-fn put_target(items: &mut [u64], n: usize, target: Target) -> usize
+pub fn put_target(items: &mut [u64], n: usize, target: Target) -> usize
     requires { ⌜ n + length (targetWords target) ≤ length (now items) ⌝ }
     ensures { λ r. ⌜ Put (now (items .entry)) (now (items .exit)) n (targetWords target) r ⌝ }
 {

@@ -1,0 +1,10 @@
+pub mod Tests
+pub mod Words
+pub mod Spots
+pub mod Leaves
+pub mod Looks
+pub mod Fronts
+pub mod Rights
+pub mod Growth
+pub mod Takes
+pub mod Growing

@@ -1,0 +1,12 @@
+use Rattle.names.proofs.Leaves.{kind-array, kind-plain}
+use Rattle.names.proofs.of_kind.Statement.{statement}
+use Rattle.names.proofs.of_kind.Tie as tie
+
+returns : tie.Need-returns
+returns c = kind-array _ _ (c .if1 .taken)
+
+returns-2 : tie.Need-returns-2
+returns-2 c = kind-plain _ _ (c .if1 .left)
+
+pub of-kind-spec : {M : Type 1} → statement M
+of-kind-spec = tie.close (tie.spec returns returns-2)
