@@ -1,0 +1,44 @@
+-- A form's plan as code: its items, and what ends it.
+-- Assumes nothing.
+use mathlib.Core.Path.{_≡_}
+use Prim.Native.Nat.{ℕ, _≤_}
+use mathlib.Core.Bool.{true, cond}
+use mathlib.Core.List.{List, [], _∷_}
+use lib.Dec.{eqb}
+use lib.ListN.{length, take}
+use Rattle.rules_object.specs.Machine.{DOI}
+use Rattle.rules_deck.specs.Trees.{Form, formLast}
+use Rattle.rules_deck.specs.Translation.{Held, Tables}
+use Rattle.rules_deck.specs.Judge.{right13}
+use Rattle.draft.specs.declared.Counts.{Counts}
+use Rattle.draft.specs.Parts.{Worded, formFirst, formItems, formEnding}
+use Rattle.draft.specs.Names.{Lists, Known, dimsHeld}
+use Rattle.draft.specs.Draft.{noLoop, draftCode}
+use Rattle.draft.specs.Kept.{Tabled, Fit}
+use Rattle.emission.specs.declared.Emitted.{Emitted}
+use Rattle.emission.specs.Emits.{EmitsWith}
+use Rattle.emission.specs.Contracts.{Lent}
+use Rattle.plans.specs.declared.Plan.{Plan}
+use Rattle.plans.specs.Plans.{formPlan, Plans}
+
+-- a DO has a DOE
+unfoldable pub doesOf : Plan → ℕ
+doesOf p = cond (eqb (p .kind) 4) 1 0
+
+pub record Emitting (p : Plan) (items names constants elements code : List ℕ) (n : Counts) : Type 0 where
+  pub worded : Worded (take (p .count) items)
+  pub room : p .count ≤ length items
+  pub lent : Lent names constants elements code
+  pub fit : Fit n
+
+abbrev pub EmitsEnding : Plan → List ℕ → List ℕ → List ℕ → List ℕ → List ℕ → Counts → Emitted → Type 0
+EmitsEnding p names elements words elements′ words′ n r =
+    (f : Form) (held : List Held) (T : Tables) (constants : List ℕ) → p ≡ formPlan f → Lists held names (n .names) (n .cells) → Tabled T constants elements n
+    → right13 f ≡ true → Known held (formFirst f)
+    → EmitsWith (length (formLast f)) T (formEnding held (dimsHeld held) (DOI (n .dos) noLoop) f) words constants elements′ words′ n r
+
+abbrev pub EmitsPlan : Plan → List ℕ → List ℕ → List ℕ → List ℕ → List ℕ → List ℕ → List ℕ → List ℕ → Counts → Emitted → Type 0
+EmitsPlan p items names constants elements words constants′ elements′ words′ n r =
+    (f : Form) (held : List Held) (T : Tables) → Plans f items p → Lists held names (n .names) (n .cells) → Tabled T constants elements n
+    → right13 f ≡ true → Known held (formFirst f) → Known held (formItems f)
+    → EmitsWith (length (formLast f)) T (draftCode (n .dos) held f) words constants′ elements′ words′ n r

@@ -1,0 +1,15 @@
+use Rattle.limits.proofs.Tests.{too-low, from-one}
+use borrow.Author.Needs.{needs}
+use Rattle.limits.proofs.right_number.Statement.{statement}
+use Rattle.limits.proofs.right_number.Tie as tie
+
+returns : tie.Need-returns
+returns c =
+    too-low (c .before .args .n) (c .if1 .taken)
+
+returns-2 : tie.Need-returns-2
+returns-2 c =
+    from-one (c .before .args .n) (c .if1 .left)
+
+pub right-number-spec : {M : Type 1} → statement M
+right-number-spec = tie.close (tie.spec returns returns-2)

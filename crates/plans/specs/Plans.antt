@@ -1,0 +1,105 @@
+-- What a statement asks of the draft, in one shape for all forms: the operand that stands first, the items, and numbers or arrays in the table.
+-- Assumes nothing.
+use mathlib.Core.Path.{_≡_}
+use Prim.Native.Nat.{ℕ, _≤_}
+use mathlib.Core.Bool.{cond}
+use mathlib.Core.List.{List, [], _∷_, map}
+use lib.Dec.{eqb}
+use lib.ListN.{length, take}
+use Rattle.rules_deck.specs.Trees.{Form, assign, goTo, computed, ifs, loop, continue, stop, end, dimension}
+use Rattle.tokens.specs.Words.{capped, nameWord}
+use Rattle.elements.specs.declared.Target.{Target}
+use Rattle.elements.specs.declared.Target.the-variants.{Cell}
+use Rattle.elements.specs.Values.{targetValue}
+use Rattle.items.specs.Items.{flat, targetWords}
+use Rattle.forms.specs.declared.Do.{Do}
+use Rattle.forms.specs.declared.Statement.{Statement}
+use Rattle.forms.specs.declared.Statement.the-variants as statement
+use Rattle.forms.specs.Statements.{allWords}
+use Rattle.draft.specs.Parts.{itemsWords, formFirst, formItems}
+use Rattle.plans.specs.declared.Plan.{Plan}
+
+-- ---- of what the reader gave back
+
+abbrev pub made : ℕ → Target → ℕ → ℕ → ℕ → ℕ → ℕ → Plan
+made kind target count listed below at above =
+    record { kind = kind; target = target; count = count; listed = listed; below = below; at = at; above = above }
+
+abbrev pub bare : ℕ → Plan
+bare kind = made kind (Cell 0) 0 0 0 0 0
+
+unfoldable pub planOf : Statement → Plan
+planOf (statement.Assign a) = made 0 (a .target) (a .count) 0 0 0 0
+planOf (statement.GoTo n) = made 1 (Cell 0) 0 0 n 0 0
+planOf (statement.Computed c) = made 2 (Cell (c .name)) 0 (c .exits) 0 0 0
+planOf (statement.If i) = made 3 (Cell 0) (i .count) 0 (i .below) (i .at) (i .above)
+planOf (statement.Do d) = made 4 (Cell (d .name)) 6 0 (d .last) 0 0
+planOf statement.Continue = bare 5
+planOf statement.Stop = bare 6
+planOf statement.End = bare 7
+planOf (statement.Dimension d) = made 8 (Cell 0) 0 (d .arrays) 0 0 0
+planOf statement.Bad = bare 9
+
+-- a DO's parameters as items
+abbrev pub parametersWords : Do → List ℕ
+parametersWords d = d .first .kind ∷ d .first .word ∷ d .limit .kind ∷ d .limit .word ∷ d .by .kind ∷ d .by .word ∷ []
+
+-- the table afterwards
+unfoldable pub Laid : Statement → List ℕ → List ℕ → Type 0
+Laid (statement.Assign a) before after = after ≡ before
+Laid (statement.GoTo n) before after = after ≡ before
+Laid (statement.Computed c) before after = after ≡ before
+Laid (statement.If i) before after = after ≡ before
+Laid (statement.Do d) before after = take 6 after ≡ parametersWords d
+Laid statement.Continue before after = after ≡ before
+Laid statement.Stop before after = after ≡ before
+Laid statement.End before after = after ≡ before
+Laid (statement.Dimension d) before after = after ≡ before
+Laid statement.Bad before after = after ≡ before
+
+pub record Planned (s : Statement) (before after : List ℕ) (r : Plan) : Type 0 where
+  pub says : r ≡ planOf s
+  pub table : Laid s before after
+
+-- ---- of a form
+
+unfoldable pub formPlan : Form → Plan
+formPlan (assign t e) = made 0 (targetValue t) (length (flat e)) 0 0 0 0
+formPlan (goTo n) = made 1 (Cell 0) 0 0 (capped n) 0 0
+formPlan (computed ns v) = made 2 (Cell (nameWord v)) 0 (length ns) 0 0 0
+formPlan (ifs e a b c) = made 3 (Cell 0) (length (flat e)) 0 (capped a) (capped b) (capped c)
+formPlan (loop n v p q r) = made 4 (Cell (nameWord v)) 6 0 (capped n) 0 0
+formPlan continue = bare 5
+formPlan stop = bare 6
+formPlan end = bare 7
+formPlan (dimension arrays) = made 8 (Cell 0) 0 (length arrays) 0 0 0
+
+-- a computed GO TO's numbers and a DIMENSION's arrays, as the reader leaves them
+unfoldable pub listedWords : Form → List ℕ
+listedWords (assign t e) = []
+listedWords (goTo n) = []
+listedWords (computed ns v) = map capped ns
+listedWords (ifs e a b c) = []
+listedWords (loop n v p q r) = []
+listedWords continue = []
+listedWords stop = []
+listedWords end = []
+listedWords (dimension arrays) = allWords arrays
+
+-- a form's plan, and its words in the table
+pub record Plans (f : Form) (items : List ℕ) (p : Plan) : Type 0 where
+  pub plan : p ≡ formPlan f
+  pub operands : take (p .count) items ≡ itemsWords (formItems f)
+  pub listed : take (length (listedWords f)) items ≡ listedWords f
+  pub room : p .count ≤ length items
+
+-- the words of what stands first
+unfoldable pub firstWords : Plan → List ℕ
+firstWords p =
+    cond (eqb (p .kind) 0) (targetWords (p .target)) (cond (eqb (p .kind) 2) (targetWords (p .target)) (cond (eqb (p .kind) 4) (targetWords (p .target)) []))
+
+-- the plan of some form, with what stands first
+pub record Readied (p : Plan) (first items : List ℕ) : Type 0 where
+  pub form : Form
+  pub plans : Plans form items p
+  pub first-are : first ≡ itemsWords (formFirst form)

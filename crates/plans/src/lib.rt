@@ -1,0 +1,101 @@
+// What a statement asks of the draft, in one shape for all forms.
+ghost use mathlib.Core.Path.{_≡_};
+ghost use Prim.Native.Nat.{_≤_};
+ghost use lib.ListN.{length};
+ghost use Rattle.items.specs.Parsed.{Put};
+ghost use Rattle.plans.specs.Plans.{made, parametersWords, Planned, firstWords};
+use elements::Target;
+use forms::Do;
+use forms::Statement;
+
+pub struct Plan {
+    // assignment 0, GO TO 1, computed 2, IF 3, DO 4, CONTINUE 5, STOP 6, END 7, DIMENSION 8
+    pub kind: u64,
+    // what stands first: an assignment's target, a computed GO TO's variable or a DO's
+    pub target: Target,
+    // words of the items
+    pub count: usize,
+    // numbers or arrays in the table
+    pub listed: usize,
+    // statement numbers; a GO TO's and a DO's is the first
+    pub below: u64,
+    pub at: u64,
+    pub above: u64,
+}
+
+fn make(
+    kind: u64,
+    target: Target,
+    count: usize,
+    listed: usize,
+    below: u64,
+    at: u64,
+    above: u64,
+) -> Plan
+    ensures { λ r. ⌜ r ≡ made kind target count listed below at above ⌝ }
+{
+    Plan {
+        kind,
+        target,
+        count,
+        listed,
+        below,
+        at,
+        above,
+    }
+}
+
+fn put_parameters(items: &mut [u64], d: Do) -> usize
+    requires { ⌜ 6 ≤ length (now items) ⌝ }
+    ensures { λ r. ⌜ Put (now (items .entry)) (now (items .exit)) 0 (parametersWords d) r ⌝ }
+{
+    let first = d.first;
+    let a = items::put_two(items, 0, first.kind, first.word);
+    let limit = d.limit;
+    let b = items::put_two(items, a, limit.kind, limit.word);
+    let by = d.by;
+    items::put_two(items, b, by.kind, by.word)
+}
+
+// A DO's parameters become items.
+pub fn plan_of(s: Statement, items: &mut [u64]) -> Plan
+    requires { ⌜ 6 ≤ length (now items) ⌝ }
+    ensures { λ r. ⌜ Planned s (now (items .entry)) (now (items .exit)) r ⌝ }
+{
+    match s {
+        Statement::Assign(a) => {
+            let target = a.target;
+            make(0, target, a.count, 0, 0, 0, 0)
+        }
+        Statement::GoTo(n) => make(1, Target::Cell(0), 0, 0, n, 0, 0),
+        Statement::Computed(c) => make(2, Target::Cell(c.name), 0, c.exits, 0, 0, 0),
+        Statement::If(i) => make(3, Target::Cell(0), i.count, 0, i.below, i.at, i.above),
+        Statement::Do(d) => {
+            let count = put_parameters(items, d);
+            make(4, Target::Cell(d.name), count, 0, d.last, 0, 0)
+        }
+        Statement::Continue => make(5, Target::Cell(0), 0, 0, 0, 0, 0),
+        Statement::Stop => make(6, Target::Cell(0), 0, 0, 0, 0, 0),
+        Statement::End => make(7, Target::Cell(0), 0, 0, 0, 0, 0),
+        Statement::Dimension(d) => make(8, Target::Cell(0), 0, d.arrays, 0, 0, 0),
+        Statement::Bad => make(9, Target::Cell(0), 0, 0, 0, 0, 0),
+    }
+}
+
+// The words of what stands first, if anything does.
+pub fn put_first(p: Plan, first: &mut [u64]) -> usize
+    requires { ⌜ 11 ≤ length (now first) ⌝ }
+    ensures { λ r. ⌜ Put (now (first .entry)) (now (first .exit)) 0 (firstWords p) r ⌝ }
+{
+    let target = p.target;
+    if p.kind == 0 {
+        return items::put_target(first, 0, target);
+    }
+    if p.kind == 2 {
+        return items::put_target(first, 0, target);
+    }
+    if p.kind == 4 {
+        return items::put_target(first, 0, target);
+    }
+    0
+}

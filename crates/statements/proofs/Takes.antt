@@ -1,0 +1,50 @@
+-- A planned statement that is taken.
+-- Assumes nothing.
+use mathlib.Core.Path.{_≡_, refl, sym, ap, _∙_, subst}
+use Prim.Native.Nat.{ℕ, suc, _+_, _-_, _≤_, _<_}
+use native.Mathlib.Numerals.{add-one}
+use native.Mathlib.Omega.{arith}
+use mathlib.Core.Bool.{Bool, true, false}
+use mathlib.Core.List.{List}
+use Rattle.rules_deck.specs.Trees.{Form}
+use Rattle.rules_deck.specs.Judge.{Taken}
+use Rattle.draft.specs.declared.Counts.{Counts}
+use Rattle.draft.specs.Draft.{Draft}
+use Rattle.draft.specs.Kept.{Fit, Kept, Matches}
+use Rattle.emission.specs.declared.Emitted.{Emitted}
+use Rattle.emission.specs.declared.Emitted.the-variants as emitted
+use Rattle.plans.specs.declared.Plan.{Plan}
+use Rattle.naming.specs.Naming.{RightArrays, RightOperands}
+use Rattle.statements.specs.declared.Outcome.the-variants as outcome
+use Rattle.statements.specs.Taking.{Took, Judged}
+use Rattle.statements.specs.Steps.{Onward, Filled, Fills, Counted, Entered, Enters, Marked}
+use Rattle.statements.specs.Planned.{ComesPlanned}
+use Rattle.statements.proofs.Judging.{judged-none}
+use Rattle.statements.proofs.Counting.{After, after}
+use Rattle.statements.proofs.Keeping.{fits-18}
+use Rattle.statements.proofs.Assembly.{fit-after, kept-after, r-statements}
+use Rattle.statements.proofs.Outcomes.{Given, is-15, is-16, as-15, as-16, filled-of, entered-of}
+
+module _ {p : Plan} {number : ℕ} {first items names constants elements dos loops code rows jumps names′ constants′ elements′ dos′ loops′ code′ rows′ jumps′ : List ℕ} {n m l r : Counts}
+    {a b : Bool} {u v : Emitted} {words : ℕ} where
+  pub is-taken : RightArrays p items names (n .names) a → a ≡ true → RightOperands p first items names (n .names) b → b ≡ true
+      → Onward p n u → Fills p first items names constants elements code names′ constants′ elements′ code′ n u → u ≡ emitted.Counts m
+      → Counted p m v → Enters p names′ dos loops dos′ loops′ m v → v ≡ emitted.Counts l
+      → words ≡ m .code - n .code → Marked p number words items rows jumps rows′ jumps′ l r → Fit n → n .statements < 400
+      → (D : Draft) → Kept D names constants elements dos loops code rows jumps n
+      → ComesPlanned p number first items (n .statements) D names′ constants′ elements′ dos′ loops′ code′ rows′ jumps′ (outcome.Taken r)
+  unfolding Judged
+  is-taken ra ea rb eb o fills eu c enters ev w marks fit few D kept k f t pl fa pa M fr =
+      let g : Given p first items names constants elements dos loops code rows jumps n k f D = record { plans = pl; first-are = fa; passed = pa; kept = kept; fresh = fr } in
+      let filled = filled-of g ra ea rb eb fills in
+      let entered = entered-of g ra ea rb eb filled eu (o .statements m eu) enters in
+      let s = after f (pl .plan) c ev in
+      let x₁ = o .dos m eu in
+      let x₂ = o .jumps m eu in
+      let x₃ = o .statements m eu in
+      record {
+        right = judged-none (n .statements) t pa (as-15 g M (sym (is-15 g ra) ∙ ea)) (as-16 g M (sym (is-16 g rb) ∙ eb)) (fits-18 kept f number M filled eu x₁ s (c .fit l ev));
+        kept = kept-after kept f number pl (pa .right-13) x₁ x₂ x₃ s marks eu filled w ev entered;
+        fit = fit-after kept f number pl (pa .right-13) x₁ x₂ x₃ s marks eu filled M (c .fit l ev) fit few;
+        counted = r-statements kept f number pl (pa .right-13) x₁ x₂ x₃ s marks ∙ add-one (n .statements);
+      }

@@ -1,0 +1,67 @@
+-- One statement that was read: refused by 11 to 18, or taken into the draft.
+-- Assumes nothing.
+use mathlib.Core.Path.{_≡_}
+use mathlib.Core.Bool.{false}
+use mathlib.Core.List.{List}
+use mathlib.Core.Option.{Option, none, some}
+use Prim.Native.Nat.{ℕ, suc, _≤_, _<_}
+use lib.ListN.{length, take}
+use Rattle.rules_deck.specs.Trees.{Form}
+use Rattle.rules_deck.specs.Trees as trees
+use Rattle.rules_deck.specs.Grammar.{formOf}
+use Rattle.rules_deck.specs.Translation.{isHidden, holds}
+use Rattle.rules_deck.specs.Judge.{Taken, judgeForm}
+use Rattle.forms.specs.declared.Statement.{Statement}
+use Rattle.forms.specs.Statements.{formWords, statementOf}
+use Rattle.draft.specs.declared.Counts.{Counts}
+use Rattle.draft.specs.Draft.{Draft, drafts}
+use Rattle.draft.specs.Kept.{Fit, Room, Kept, Matches}
+use Rattle.statements.specs.declared.Outcome.{Outcome}
+use Rattle.statements.specs.declared.Outcome.the-variants as outcome
+
+-- what the reader gave, and the table that it filled
+pub record Reading (s : Statement) (items : List ℕ) : Type 0 where
+  pub text : List ℕ
+  pub form : Form
+  pub read : formOf text ≡ some form
+  pub short : length text ≤ 660
+  pub says : s ≡ statementOf form
+  pub table : take (length (formWords form)) items ≡ formWords form
+
+-- no DO at position q or later has hidden cells yet
+abbrev pub Fresh : ℕ → Draft → Type 0
+Fresh q D = (p : ℕ) → q ≤ p → holds (isHidden p) (D .held) ≡ false
+
+-- what stands between the code and its limits; the tables hold some draft
+pub record Ready (s : Statement) (number k : ℕ) (items names constants elements dos loops code rows jumps : List ℕ) (n : Counts) : Type 0 where
+  pub reading : Reading s items
+  pub number-low : number ≤ 99999
+  pub digits-some : 1 ≤ k
+  pub digits-few : k ≤ 9
+  pub items-long : 2651 ≤ length items
+  pub room : Room names constants elements dos loops code rows jumps
+  pub fit : Fit n
+  pub statements-few : n .statements < 400
+  pub draft : Draft
+  pub kept : Kept draft names constants elements dos loops code rows jumps n
+  pub fresh : Fresh (n .statements) draft
+
+-- the tables hold the draft with the statement
+pub record Took (k q : ℕ) (st : trees.Statement) (t : Taken) (D : Draft) (names constants elements dos loops code rows jumps : List ℕ) (n : Counts) : Type 0 where
+  pub right : judgeForm k q (st .form) t ≡ none
+  pub kept : Kept (drafts q st D) names constants elements dos loops code rows jumps n
+  pub fit : Fit n
+  pub counted : n .statements ≡ suc q
+
+-- where it is refused, the tables are free
+unfoldable pub Judged :
+    (k q : ℕ) (st : trees.Statement) (t : Taken) (D : Draft) (names constants elements dos loops code rows jumps : List ℕ) → Outcome → Type 0
+Judged k q st t D names constants elements dos loops code rows jumps (outcome.Refused m) = judgeForm k q (st .form) t ≡ some m
+Judged k q st t D names constants elements dos loops code rows jumps (outcome.Taken n) =
+    Took k q st t D names constants elements dos loops code rows jumps n
+
+-- the statement at position q, after what the draft D has
+abbrev pub Comes : Statement → ℕ → ℕ → List ℕ → ℕ → Draft → (names constants elements dos loops code rows jumps : List ℕ) → Outcome → Type 0
+Comes s number k items q D names constants elements dos loops code rows jumps r =
+    (R : Reading s items) (t : Taken) → Matches t D → Fresh q D
+    → Judged k q (record { number = number; form = R .form }) t D names constants elements dos loops code rows jumps r
