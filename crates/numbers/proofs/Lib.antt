@@ -1,0 +1,4 @@
+pub mod Tests
+pub mod Ends
+pub mod Placing
+pub mod Settling

@@ -1,0 +1,77 @@
+-- `ranges::depth_at` meets its contract. Assumes nothing.
+use mathlib.Core.Path.{_≡_, ap, _∙_}
+use Prim.Native.Nat.{_+_, _-_, _≤_}
+use native.Mathlib.Omega.{arith}
+use mathlib.Core.Bool.{Bool, cond}
+use Rattle.numbers.specs.Rows.{countFrom}
+use Rattle.ranges.specs.Ranges.{covers}
+use Rattle.ranges.proofs.Counts.{count-starts, count-on, count-done}
+use borrow.Author.Needs.{needs}
+use Rattle.ranges.proofs.depth_at.Statement.{statement}
+use Rattle.ranges.proofs.depth_at.Tie as tie
+
+abbrev Inv-loop : tie.InvT-loop
+Inv-loop loops dos jumps j deep₀ k₀ deep k = (k ≤ dos) × ((deep ≤ k) × (countFrom (covers loops jumps j) dos 0 ≡ deep + countFrom (covers loops jumps j) (dos - k) k))
+
+abbrev μ-loop : tie.MeasureT-loop
+μ-loop loops dos jumps j deep₀ k₀ deep k = dos - k
+
+loop-holds : tie.Need-loop-holds Inv-loop μ-loop
+loop-holds c =
+    let L = c .before .before .args .loops .now in
+    let J = c .before .before .args .jumps .now in
+    let test = covers L J (c .before .before .args .j) in
+    let n = c .before .before .args .dos in
+    (omega arith, (omega arith, count-starts test n))
+
+in-range-requires : tie.Need-in-range-requires Inv-loop μ-loop
+in-range-requires c κs = search needs
+
+one-if-requires : tie.Need-one-if-requires Inv-loop μ-loop
+one-if-requires c κs = search needs
+
+add-deep : tie.Need-add-deep Inv-loop μ-loop
+add-deep c = search needs
+
+add-k : tie.Need-add-k Inv-loop μ-loop
+add-k c = search needs
+
+loop-less : tie.Need-loop-less Inv-loop μ-loop
+loop-less c = search needs
+
+loop-again : tie.Need-loop-again Inv-loop μ-loop
+loop-again c =
+    let L = c .before .before .before .before .before .before .args .loops .now in
+    let J = c .before .before .before .before .before .before .args .jumps .now in
+    let test = covers L J (c .before .before .before .before .before .before .args .j) in
+    let n = c .before .before .before .before .before .before .args .dos in
+    let inv = c .before .before .before .loop .inv in
+    let k = c .before .before .before .loop .k in
+    let deep = c .before .before .before .loop .deep in
+    (omega arith, (omega (arith, c .one-if .ensures .1, inv .1 .0), count-on test n k deep (c .one-if .result) (c .before .before .loop-test .taken) (inv .1 .1) (c .one-if .ensures .0 ∙ ap (λ (b : Bool). cond b 1 0) (c .before .in-range .ensures))))
+
+returns : tie.Need-returns Inv-loop μ-loop
+returns c =
+    let L = c .before .before .before .before .args .loops .now in
+    let J = c .before .before .before .before .args .jumps .now in
+    let test = covers L J (c .before .before .before .before .args .j) in
+    let n = c .before .before .before .before .args .dos in
+    let inv = c .before .loop .inv in
+    let k = c .before .loop .k in
+    let deep = c .before .loop .deep in
+    count-done test n k deep (c .loop-test .left) (inv .1 .1)
+
+pub depth-at-spec : {M : Type 1} → statement M
+depth-at-spec =
+    tie.close
+    (tie.spec
+    Inv-loop
+    μ-loop
+    loop-holds
+    in-range-requires
+    one-if-requires
+    add-deep
+    add-k
+    loop-less
+    loop-again
+    returns)

@@ -1,0 +1,13 @@
+-- `ranges::may_end` meets its contract. Assumes nothing.
+use mathlib.Core.Path.{refl}
+use Rattle.ranges.specs.Ranges.{mayEndKind}
+use Rattle.ranges.proofs.may_end.Statement.{statement}
+use Rattle.ranges.proofs.may_end.Tie as tie
+
+returns : tie.Need-returns
+unfolding mayEndKind
+returns c =
+    refl
+
+pub may-end-spec : {M : Type 1} → statement M
+may-end-spec = tie.close (tie.spec returns)

@@ -1,0 +1,78 @@
+-- `ranges::set_right` meets its contract. Assumes nothing.
+use mathlib.Core.Path.{_≡_, sym, _∙_}
+use Prim.Native.Nat.{_-_, _≤_}
+use native.Mathlib.Omega.{arith}
+use borrow.Author.Tests.{not-true, not-false}
+use Rattle.numbers.proofs.Tests.{all-left, all-more, all-stops, all-ends}
+use Rattle.numbers.specs.Rows.{allFrom}
+use Rattle.ranges.specs.Ranges.{leaves, setRight}
+use borrow.Author.Needs.{needs}
+use Rattle.ranges.proofs.set_right.Statement.{statement}
+use Rattle.ranges.proofs.set_right.Tie as tie
+
+abbrev Inv-loop : tie.InvT-loop
+Inv-loop rows count loops dos jumps q i₀ i = (i ≤ dos) × (allFrom (leaves rows loops jumps q) dos 0 ≡ allFrom (leaves rows loops jumps q) (dos - i) i)
+
+abbrev μ-loop : tie.MeasureT-loop
+μ-loop rows count loops dos jumps q i₀ i = dos - i
+
+loop-holds : tie.Need-loop-holds Inv-loop μ-loop
+loop-holds c =
+    let n = c .before .before .before .args .dos in
+    (omega arith, rw (all-left n))
+
+leaves-be-requires : tie.Need-leaves-be-requires Inv-loop μ-loop
+leaves-be-requires c κs = search needs
+
+returns : tie.Need-returns Inv-loop μ-loop
+unfolding setRight
+returns c =
+    let L = c .before .before .before .before .before .before .before .args .loops .now in
+    let J = c .before .before .before .before .before .before .before .args .jumps .now in
+    let R = c .before .before .before .before .before .before .before .args .rows .now in
+    let n = c .before .before .before .before .before .before .before .args .dos in
+    let i = c .before .before .before .loop .i in
+    let inv = c .before .before .before .loop .inv in
+    sym (inv .1 ∙ all-stops (leaves R L J (c .before .before .before .before .before .before .before .args .q)) n i (c .before .before .loop-test .taken) (sym (c .before .leaves-be .ensures) ∙ not-true _ (c .if1 .taken)))
+
+add-i : tie.Need-add-i Inv-loop μ-loop
+add-i c = search needs
+
+loop-less : tie.Need-loop-less Inv-loop μ-loop
+loop-less c = search needs
+
+loop-again : tie.Need-loop-again Inv-loop μ-loop
+unfolding setRight
+loop-again c =
+    let L = c .before .before .before .before .before .before .before .args .loops .now in
+    let J = c .before .before .before .before .before .before .before .args .jumps .now in
+    let R = c .before .before .before .before .before .before .before .args .rows .now in
+    let n = c .before .before .before .before .before .before .before .args .dos in
+    let i = c .before .before .before .loop .i in
+    let inv = c .before .before .before .loop .inv in
+    (omega arith, inv .1 ∙ all-more (leaves R L J (c .before .before .before .before .before .before .before .args .q)) n i (c .before .before .loop-test .taken) (sym (c .before .leaves-be .ensures) ∙ not-false _ (c .if1 .left)))
+
+returns-2 : tie.Need-returns-2 Inv-loop μ-loop
+unfolding setRight
+returns-2 c =
+    let L = c .before .before .before .before .before .args .loops .now in
+    let J = c .before .before .before .before .before .args .jumps .now in
+    let R = c .before .before .before .before .before .args .rows .now in
+    let n = c .before .before .before .before .before .args .dos in
+    let i = c .before .loop .i in
+    let inv = c .before .loop .inv in
+    sym (inv .1 ∙ all-ends (leaves R L J (c .before .before .before .before .before .args .q)) n i (c .loop-test .left))
+
+pub set-right-spec : {M : Type 1} → statement M
+set-right-spec =
+    tie.close
+    (tie.spec
+    Inv-loop
+    μ-loop
+    loop-holds
+    leaves-be-requires
+    returns
+    add-i
+    loop-less
+    loop-again
+    returns-2)

@@ -1,0 +1,50 @@
+-- Tables that hold a deck's draft hold what the whole is judged by.
+-- Assumes nothing.
+use mathlib.Core.Path.{_≡_, sym, ap, _∙_}
+use Prim.Native.Nat.{ℕ, _*_, _≤_}
+use native.Mathlib.Omega.{arith}
+use mathlib.Core.List.{List}
+use lib.ListN.{length, take}
+use lib.Seq.{length-take-le}
+use Rattle.rules_deck.specs.Trees.{Statement}
+use Rattle.rules_deck.proofs.Readers.{All}
+use Rattle.draft.specs.declared.Counts.{Counts}
+use Rattle.draft.specs.Draft.{draftOf}
+use Rattle.draft.specs.Kept.{Fit, Room, Kept}
+use Rattle.draft.specs.Sketch.{deckRows}
+use Rattle.draft.proofs.DraftDeck.{draft-rows, draft-jumps, draft-loops, rows-count}
+use Rattle.whole.specs.Whole.{SetsTold, Sketched, Whole}
+
+module _ (deck : List Statement) (names constants elements dos loops code rows jumps : List ℕ) (n : Counts)
+    (room : Room names constants elements dos loops code rows jumps) (fit : Fit n) (kept : Kept (draftOf deck) names constants elements dos loops code rows jumps n) (told : All SetsTold deck) where
+  pub sketched : Sketched deck rows (n .statements) loops (n .dos) jumps (n .jumps)
+  sketched =
+      let are : take (5 * n .statements) rows ≡ deckRows deck = kept .rows-are ∙ draft-rows deck in
+      let few = fit .statements in
+      let long = room .rows-long in
+      let taken = length-take-le (5 * n .statements) rows (omega arith) in
+      let same = ap length are in
+      let many = rows-count deck in
+      record {
+        statements = omega arith;
+        rows-are = are;
+        loops-are = kept .loops-are ∙ draft-loops deck;
+        jumps-are = kept .jumps-are ∙ draft-jumps deck;
+        told = told;
+      }
+
+  pub whole : Whole rows (n .statements) loops (n .dos) jumps (n .jumps)
+  whole =
+      let few = fit .statements in
+      let exits = fit .exits in
+      let some = fit .jumps in
+      record {
+        rows-long = room .rows-long;
+        loops-long = room .loops-long;
+        jumps-long = room .jumps-long;
+        few = few;
+        few-dos = fit .dos;
+        few-jumps = omega arith;
+        deck = deck;
+        sketched = sketched;
+      }

@@ -1,0 +1,51 @@
+-- What the tables hold of a deck, and the answer for the deck as a whole.
+-- Assumes nothing.
+use mathlib.Core.Path.{_≡_}
+use Prim.Native.Nat.{ℕ, _*_, _≤_}
+use mathlib.Core.List.{List, map}
+use mathlib.Core.Option.{Option, none, some}
+use lib.ListN.{length, take}
+use Rattle.rules_object.specs.Limits.{limits}
+use Rattle.rules_object.specs.Calls.{Refusal, refusal}
+use Rattle.rules_deck.specs.Trees.{Statement}
+use Rattle.rules_deck.specs.Deck.{positionOf}
+use Rattle.rules_deck.specs.Whole.{formSets, judgeDeck}
+use Rattle.rules_deck.proofs.Readers.{All}
+use Rattle.draft.specs.Names.{Told}
+use Rattle.draft.specs.Sketch.{deckRows, deckJumps, loopsFrom}
+use Rattle.whole.specs.declared.Verdict.{Verdict}
+use Rattle.whole.specs.declared.Verdict.the-variants.{Right, Refused}
+
+-- the names that a statement sets are told by their words
+abbrev pub SetsTold : Statement → Type 0
+SetsTold s = All Told (formSets (s .form))
+
+-- the tables hold the deck
+pub record Sketched (deck : List Statement) (rows : List ℕ) (count : ℕ) (loops : List ℕ) (dos : ℕ) (jumps : List ℕ) (many : ℕ) : Type 0 where
+  pub statements : count ≡ length deck
+  pub rows-are : take (5 * count) rows ≡ deckRows deck
+  pub loops-are : take (2 * dos) loops ≡ loopsFrom 0 0 deck
+  pub jumps-are : take many jumps ≡ deckJumps deck
+  pub told : All SetsTold deck
+
+-- the tables hold some deck: what keeps reading inside them
+pub record Whole (rows : List ℕ) (count : ℕ) (loops : List ℕ) (dos : ℕ) (jumps : List ℕ) (many : ℕ) : Type 0 where
+  pub rows-long : length rows ≡ 2000
+  pub loops-long : length loops ≡ 128
+  pub jumps-long : length jumps ≡ 1424
+  pub few : count ≤ limits .statements
+  pub few-dos : dos ≤ limits .dos
+  pub few-jumps : many ≤ 1424
+  pub deck : List Statement
+  pub sketched : Sketched deck rows count loops dos jumps many
+
+-- the answer as the book says it
+unfoldable pub refusalOf : Verdict → Option Refusal
+refusalOf Right = none
+refusalOf (Refused number place) = some (refusal number (place .0) 0)
+
+-- the answer is the book's, and each number of a deck that is right is now its statement's position
+pub record Judged (deck : List Statement) (after : List ℕ) (many : ℕ) (r : Verdict) : Type 0 where
+  pub long : length after ≡ 1424
+  pub says : refusalOf r ≡ judgeDeck deck
+  pub placed : judgeDeck deck ≡ none → take many after ≡ map (positionOf deck) (deckJumps deck)
