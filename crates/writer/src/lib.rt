@@ -7,7 +7,7 @@ ghost use Rattle.rules_object.specs.Bytes.{bytesOf, concat};
 ghost use Rattle.rules_object.specs.Calls.{write};
 ghost use Rattle.writer.specs.Bodies.{contentsWords, wordsOfBodies};
 ghost use Rattle.writer.specs.Counts.{total, counts, Within, firstWords};
-ghost use Rattle.writer.specs.Answer.{answer};
+ghost use Rattle.writer.specs.Answer.{answer, Low};
 
 // How many words each body has.
 pub struct Counts {
@@ -163,7 +163,7 @@ pub fn write(
     n: Counts,
 ) -> Wrote
     requires { ⌜ (100 + 4 * total n < 2 ^ 32) × Within n (now constants) (now elements) (now exits) (now dos) (now code) (now lines) (now names) ⌝ }
-    ensures { λ r. ⌜ answer r (now (out .exit)) ≡ write (bytesOf (wordsOfBodies k cells (firstWords n (now (constants .entry)) (now (elements .entry)) (now (exits .entry)) (now (dos .entry)) (now (code .entry)) (now (lines .entry)) (now (names .entry))))) (now (out .entry)) ⌝ }
+    ensures { λ r. ⌜ (answer r (now (out .exit)) ≡ write (bytesOf (wordsOfBodies k cells (firstWords n (now (constants .entry)) (now (elements .entry)) (now (exits .entry)) (now (dos .entry)) (now (code .entry)) (now (lines .entry)) (now (names .entry))))) (now (out .entry))) × Low r ⌝ }
 {
     let end = HEAD + 4 * total(n);
     if out.len() < end {

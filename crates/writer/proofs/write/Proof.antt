@@ -41,7 +41,7 @@ returns c =
     let l6 = length-take-le (n .lines) (g .lines .now) (st .pre .1 .5) in
     let l7 = length-take-le (n .names) (g .names .now) (st .pre .1 .6) in
     let size = length-whole x1 x2 x3 x4 x5 x6 x7 (g .k) (g .cells) in
-    too-short (bytesOf (wordsOfBodies (g .k) (g .cells) (x1 ∷ x2 ∷ x3 ∷ x4 ∷ x5 ∷ x6 ∷ x7 ∷ []))) (g .out .now) (omega (arith, c .if1 .taken, c .before .total .ensures, size, l1, l2, l3, l4, l5, l6, l7))
+    (too-short (bytesOf (wordsOfBodies (g .k) (g .cells) (x1 ∷ x2 ∷ x3 ∷ x4 ∷ x5 ∷ x6 ∷ x7 ∷ []))) (g .out .now) (omega (arith, c .if1 .taken, c .before .total .ensures, size, l1, l2, l3, l4, l5, l6, l7)), tt)
 
 contents-requires : tie.Need-contents-requires
 contents-requires c κs = search needs
@@ -97,7 +97,7 @@ returns-2 c =
     let l7 = length-take-le (n .names) (g .names .now) (st .pre .1 .6) in
     let sum = c .before .before .before .before .before .before .before .before .before .before .before .total .ensures in
     let end = 100 + 4 * c .before .before .before .before .before .before .before .before .before .before .before .total .result in
-    both-parts x1 x2 x3 x4 x5 x6 x7 (g .k) (g .cells) (g .out .now) l1 l2 l3 l4 l5 l6 l7 (c .before .before .before .before .before .before .before .before .before .contents .ensures) (c .before .before .before .before .before .before .put-words .ensures) (c .before .before .put-bodies .ensures) end (omega (arith, sum)) (omega (arith, c .before .before .before .before .before .before .before .before .before .before .if1 .left))
+    (both-parts x1 x2 x3 x4 x5 x6 x7 (g .k) (g .cells) (g .out .now) l1 l2 l3 l4 l5 l6 l7 (c .before .before .before .before .before .before .before .before .before .contents .ensures) (c .before .before .before .before .before .before .put-words .ensures) (c .before .before .put-bodies .ensures) end (omega (arith, sum)) (omega (arith, c .before .before .before .before .before .before .before .before .before .before .if1 .left)), omega (arith, sum, st .pre .0))
 
 pub write-spec : {M : Type 1} → statement M
 write-spec =

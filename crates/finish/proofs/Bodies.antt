@@ -1,0 +1,102 @@
+-- The words of each body are the translation's, and so are the bytes.
+-- Assumes nothing.
+use mathlib.Core.Path.{_≡_, refl, sym, ap, _∙_}
+use Prim.Native.Nat.{ℕ, _+_, _*_, _≤_, _<_, _^_}
+use mathlib.Core.List.{List, [], _∷_, map}
+use native.Mathlib.Omega.{arith}
+use lib.ListN.{length, take, length-take}
+use Rattle.rules_object.specs.Limits.{limits}
+use Rattle.rules_object.specs.Object.{Object, Loop}
+use Rattle.rules_object.specs.Bytes.{bytesOf, concat, elementWords, loopWords, lineWords, nameWords, bodies, objectBytes}
+use Rattle.rules_deck.specs.Trees.{Statement}
+use Rattle.rules_deck.specs.Deck.{positionOf, dosOf}
+use Rattle.rules_deck.specs.Translation.{heldOf, cellCount, linesFrom, namesFrom, loopEntry, codeOf, translate}
+use Rattle.rules_deck.specs.Accepted.{Accepted, Fitting}
+use Rattle.draft.specs.declared.Counts.{Counts}
+use Rattle.draft.specs.Kept.{Room, Fit}
+use Rattle.draft.specs.KeptDeck.{KeptDeck}
+use Rattle.addresses.specs.Given.{Judged, Starts, Holds}
+use Rattle.lines.specs.Names.{Names}
+use Rattle.settle.specs.Settling.{Settling, Leading}
+use Rattle.writer.specs.declared.Counts as words
+use Rattle.writer.specs.Bodies.{wordsOfBodies}
+use Rattle.writer.specs.Counts.{total, Within, firstWords}
+use Rattle.writer.proofs.Words.{object-bytes}
+use Rattle.finish.specs.Finishing.{Finished}
+
+-- how many words each body has, as the writer counts them
+abbrev pub wordsIn : Counts → ℕ → ℕ → ℕ → words.Counts
+wordsIn n exits code lines =
+    record { constants = n .constants; elements = 9 * n .elements; exits = exits; dos = 4 * n .dos; code = code; lines = lines; names = 5 * n .names }
+
+seven : {a b c d e f g a′ b′ c′ d′ e′ f′ g′ : List ℕ} → a ≡ a′ → b ≡ b′ → c ≡ c′ → d ≡ d′ → e ≡ e′ → f ≡ f′ → g ≡ g′
+    → _≡_ {A = List (List ℕ)} (a ∷ b ∷ c ∷ d ∷ e ∷ f ∷ g ∷ []) (a′ ∷ b′ ∷ c′ ∷ d′ ∷ e′ ∷ f′ ∷ g′ ∷ [])
+seven p q r s t u v = cc
+
+-- a table that holds some words is as long
+holds-fits : {table ws : List ℕ} {r : ℕ} → Holds table r ws → r ≤ length table
+holds-fits {table} {ws} {r} h = let e = ap (length {A = ℕ}) (h .words) in omega (arith, length-take r table, h .count)
+
+module _ {k : ℕ} {deck : List Statement} {n : Counts} {names constants elements dos loops code rows jumps : List ℕ}
+    (f : Finished k deck n names constants elements dos loops code rows jumps) where
+  pub bodies-are : {exits settled lines : List ℕ} {x c l : ℕ} (dos′ entries : List ℕ) → Holds exits x (translate k deck .exits) → Holds settled c (translate k deck .code)
+      → take (4 * n .dos) dos′ ≡ concat (map loopWords (map (loopEntry deck) (dosOf deck))) → Holds lines l (concat (map lineWords (linesFrom deck 0 deck)))
+      → take (5 * n .names) entries ≡ concat (map nameWords (namesFrom 0 (heldOf deck)))
+      → firstWords (wordsIn n x c l) constants elements exits dos′ settled lines entries ≡ bodies (translate k deck)
+  unfolding translate
+  bodies-are dos′ entries hx hc hd hl hn = seven (f .kept .constants-are) (f .kept .elements-are) (hx .words) hd (hc .words) (hl .words) hn
+
+  cells-are : n .cells ≡ translate k deck .cells
+  unfolding translate
+  cells-are = f .kept .cells-count
+
+  digits-are : bytesOf (wordsOfBodies k (translate k deck .cells) (bodies (translate k deck))) ≡ bytesOf (wordsOfBodies (translate k deck .digits) (translate k deck .cells) (bodies (translate k deck)))
+  unfolding translate
+  digits-are = refl
+
+  pub bytes-are : {exits settled lines : List ℕ} {x c l : ℕ} (dos′ entries : List ℕ) → Holds exits x (translate k deck .exits) → Holds settled c (translate k deck .code)
+      → take (4 * n .dos) dos′ ≡ concat (map loopWords (map (loopEntry deck) (dosOf deck))) → Holds lines l (concat (map lineWords (linesFrom deck 0 deck)))
+      → take (5 * n .names) entries ≡ concat (map nameWords (namesFrom 0 (heldOf deck)))
+      → bytesOf (wordsOfBodies k (n .cells) (firstWords (wordsIn n x c l) constants elements exits dos′ settled lines entries)) ≡ objectBytes (translate k deck)
+  bytes-are dos′ entries hx hc hd hl hn =
+      ap (λ (b : List (List ℕ)). bytesOf (wordsOfBodies k (n .cells) b)) (bodies-are dos′ entries hx hc hd hl hn)
+      ∙ ap (λ (i : ℕ). bytesOf (wordsOfBodies k i (bodies (translate k deck)))) (cells-are)
+      ∙ digits-are
+      ∙ sym (object-bytes (translate k deck))
+
+  -- ---- what the parts ask for
+
+  pub judged : Judged k deck rows (n .statements) loops (n .dos) jumps
+  judged =
+      record {
+        in-rows = record { accepted = f .accepted; counted = f .counted; rows-are = f .kept .rows-are };
+        in-loops = record { accepted = f .accepted; dos-counted = f .kept .dos-count; loops-are = f .kept .loops-are };
+        jumps-are = ap (λ (i : ℕ). take i jumps) (sym (f .kept .jumps-count)) ∙ f .placed;
+      }
+
+  pub settling : {starts : List ℕ} → Starts deck starts → Settling k deck rows (n .statements) loops (n .dos) jumps starts code
+  settling s =
+      record { judged = judged; starts-are = s; drafted = ap (λ (i : ℕ). take i code) (sym (f .kept .code-count)) ∙ f .kept .code-is }
+
+  pub leading : {starts : List ℕ} → Starts deck starts → Leading k deck rows (n .statements) jumps starts
+  leading s = record { in-rows = judged .in-rows; jumps-are = judged .jumps-are; starts-are = s }
+
+  pub listing : Names k deck names (n .names)
+  listing = record { accepted = f .accepted; counted = f .kept .names-count; words-are = f .kept .names-are }
+
+  -- ---- room
+
+  pub fits : {exits settled lines : List ℕ} {x c l : ℕ} {xs cs ls : List ℕ} (dos′ entries : List ℕ) → Holds exits x xs → Holds settled c cs → Holds lines l ls
+      → length exits ≡ 1024 → length settled ≡ 4096 → length lines ≡ 1200 → length dos′ ≡ 256 → length entries ≡ 500
+      → (100 + 4 * total (wordsIn n x c l) < 2 ^ 32) × Within (wordsIn n x c l) constants elements exits dos′ settled lines entries
+  fits {exits} {settled} {lines} {x} {c} {l} dos′ entries hx hc hl ex es el ed en =
+      let a = holds-fits hx in
+      let b = holds-fits hc in
+      let d = holds-fits hl in
+      let r = f .room in
+      let t = f .fit in
+      let cs : n .constants ≤ length constants = omega (arith, t .constants, r .constants-long) in
+      let es′ : 9 * n .elements ≤ length elements = omega (arith, t .elements, r .elements-long) in
+      let ds : 4 * n .dos ≤ length dos′ = omega (arith, t .dos) in
+      let ns : 5 * n .names ≤ length entries = omega (arith, t .names) in
+      (omega (arith, t .constants, t .elements, t .dos, t .names), (cs, es′, a, ds, b, d, ns))

@@ -1,0 +1,72 @@
+// The object of a deck that nothing refuses, from its draft: addresses, code, exits, DO bodies, lines and names, and then all its bytes.
+ghost use mathlib.Core.Path.{_≡_};
+ghost use mathlib.Core.List.{List};
+ghost use Rattle.rules_object.specs.Bytes.{objectBytes};
+ghost use Rattle.rules_object.specs.Calls.{write};
+ghost use Rattle.rules_deck.specs.Trees.{Statement};
+ghost use Rattle.rules_deck.specs.Translation.{translate};
+ghost use Rattle.writer.specs.Answer.{answer, Low};
+ghost use Rattle.finish.specs.Finishing.{Finishes, Finished};
+use draft::Counts;
+use writer::Wrote;
+
+// The draft's tables, with positions for the numbers in the jumps.
+pub fn finish(
+    k: u32,
+    n: Counts,
+    names: &[u64],
+    constants: &[u32],
+    elements: &[u32],
+    dos: &mut [u32],
+    loops: &[u32],
+    code: &[u32],
+    rows: &[u64],
+    jumps: &[u32],
+    output: &mut [u8],
+) -> Wrote
+    requires { ⌜ Finishes k n (now names) (now constants) (now elements) (now dos) (now loops) (now code) (now rows) (now jumps) ⌝ }
+    ensures { λ r. ⌜ ((deck : List Statement) → Finished k deck n (now (names .entry)) (now (constants .entry)) (now (elements .entry)) (now (dos .entry)) (now (loops .entry)) (now (code .entry)) (now (rows .entry)) (now (jumps .entry)) → answer r (now (output .exit)) ≡ write (objectBytes (translate k deck)) (now (output .entry))) × Low r ⌝ }
+{
+    let mut starts = [0u32; 401];
+    addresses::addresses(rows, n.statements, loops, n.dos, jumps, &mut starts);
+    let mut settled = [0u32; 4096];
+    let words = settle::code(
+        rows,
+        n.statements,
+        loops,
+        n.dos,
+        jumps,
+        &starts,
+        code,
+        &mut settled,
+    );
+    let mut exits = [0u32; 1024];
+    let exit_words = settle::exits(rows, n.statements, jumps, &starts, &mut exits);
+    lines::bodies(loops, n.dos, &starts, dos);
+    let mut table = [0u32; 1200];
+    let line_words = lines::lines(rows, n.statements, &starts, &mut table);
+    let mut entries = [0u32; 500];
+    lines::names(names, n.names, &mut entries);
+    let counts = writer::Counts {
+        constants: n.constants,
+        elements: 9 * n.elements,
+        exits: exit_words,
+        dos: 4 * n.dos,
+        code: words,
+        lines: line_words,
+        names: 5 * n.names,
+    };
+    writer::write(
+        output,
+        k,
+        n.cells as u32,
+        constants,
+        elements,
+        &exits,
+        dos,
+        &settled,
+        &table,
+        &entries,
+        counts,
+    )
+}

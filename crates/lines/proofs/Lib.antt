@@ -1,0 +1,4 @@
+pub mod Listing
+pub mod Entering
+pub mod Naming
+pub mod KeptNames

@@ -1,0 +1,8 @@
+pub mod Filling
+pub mod Likeness
+pub mod Splitting
+pub mod Aiming
+pub mod Branching
+pub mod Coding
+pub mod Reaching
+pub mod KeptCode
