@@ -1,21 +1,18 @@
--- The map is the bytes of body 7, as they stand in the object; and what is copied.
+-- The map is the bytes of body 7, as they stand in the object.
 -- Assumes nothing.
-use mathlib.Core.Path.{_≡_, refl, sym, ap, ap₂, _∙_}
-use mathlib.Core.List.{List, [], _∷_, _++_, map, append-assoc}
-use Prim.Native.Nat.{ℕ, zero, suc, _+_, _*_, _/_, _%_, _≤_, _<_}
-use native.Mathlib.Numerals.{add-one}
+use mathlib.Core.Path.{_≡_, sym, ap, ap₂, _∙_}
+use mathlib.Core.List.{List, [], _∷_, _++_, map}
+use Prim.Native.Nat.{ℕ, suc, _+_, _*_, _/_, _≤_, _<_}
 use native.Mathlib.Omega.{arith}
-use lib.Dec.{leb}
-use lib.ListN.{length, getD, take, drop, set, length-drop, length-set}
-use lib.Seq.{length-take-le, take-all, take-suc, drop-cons, set-at, getD-drop}
+use lib.ListN.{length, getD, take, drop, length-drop}
+use lib.Seq.{take-all}
 use borrow.Author.Tests.{le-leb, lt-leb}
 use Rattle.rules_object.specs.Bytes.{wordsOf, bytesOf, concat, nameWords, namedOf, entries}
-use Rattle.rules_object.specs.Writable.{Each, IsByte, IsWord}
+use Rattle.rules_object.specs.Writable.{Each, IsByte}
 use Rattle.rules_object.specs.Calls.{accepted, write, mapOf}
 use Rattle.rules_object.specs.Calls as book
 use Rattle.rules_object.proofs.Words.{each-drop, each-word, length-words, bytes-words}
 use Rattle.rules_object.proofs.RoundTrip.{flat-entries, name-forth}
-use Rattle.word.specs.Word.{wordAt}
 use Rattle.word.proofs.Laws.{word-at, word-drop}
 use Rattle.object.specs.declared.Layout.{Layout}
 use Rattle.object.specs.Layout.{listFrom, namedAt, objectAt, Placed}
@@ -59,36 +56,6 @@ module _ (e : Layout) (s : List ℕ) (bytes : (i : ℕ) → getD s i 0 < 256) (p
       ap (λ l. bytesOf (concat (map nameWords l))) (sym names-are)
       ∙ ap bytesOf (flat-entries 5 nameWords namedOf name-forth n (wordsOf body) w (each-word body b))
       ∙ bytes-words body b (omega (arith, body-length, words-length))
-
--- ---- n bytes from a on copied to the start of t₀: i of them so far
-
-pub record Copied (s : List ℕ) (a n : ℕ) (t₀ t : List ℕ) (i : ℕ) : Type 0 where
-  pub most : i ≤ n
-  pub long : length t ≡ length t₀
-  pub is : t ≡ take i (drop a s) ++ drop i t₀
-
-module _ (s : List ℕ) (a n : ℕ) (t₀ : List ℕ) (inside : a + n ≤ length s) (room : n ≤ length t₀) where
-  pub copied-none : Copied s a n t₀ t₀ 0
-  copied-none = record { most = omega arith; long = refl; is = refl }
-
-  pub copied-more : (t : List ℕ) (i : ℕ) → Copied s a n t₀ t i → i < n → Copied s a n t₀ (set t i (getD s (a + i) 0)) (i + 1)
-  copied-more t i h l =
-      let v : ℕ = getD s (a + i) 0 in
-      let front : List ℕ = take i (drop a s) in
-      let k : length front ≡ i = length-take-le i (drop a s) (omega (arith, length-drop a s)) in
-      let split : drop i t₀ ≡ getD t₀ i 0 ∷ drop (suc i) t₀ = drop-cons t₀ i 0 (omega arith) in
-      let put : set (front ++ (getD t₀ i 0 ∷ drop (suc i) t₀)) i v ≡ front ++ (v ∷ drop (suc i) t₀) = set-at front (getD t₀ i 0) (drop (suc i) t₀) v i k in
-      let more : take (suc i) (drop a s) ≡ front ++ (v ∷ []) = take-suc (drop a s) i 0 (omega (arith, length-drop a s)) ∙ ap (λ (w : ℕ). front ++ (w ∷ [])) (getD-drop a s i 0) in
-      let join : front ++ (v ∷ drop (suc i) t₀) ≡ (front ++ (v ∷ [])) ++ drop (suc i) t₀ = sym (append-assoc front (v ∷ []) (drop (suc i) t₀)) in
-      let all : set t i v ≡ take (suc i) (drop a s) ++ drop (suc i) t₀ = ap (λ (x : List ℕ). set x i v) (h .is ∙ ap (λ (x : List ℕ). front ++ x) split) ∙ put ∙ join ∙ ap (λ (x : List ℕ). x ++ drop (suc i) t₀) (sym more) in
-      record {
-        most = omega arith;
-        long = length-set t i v ∙ h .long;
-        is = all ∙ ap (λ (j : ℕ). take j (drop a s) ++ drop j t₀) (sym (add-one i));
-      }
-
-  pub copied-all : (t : List ℕ) (i : ℕ) → Copied s a n t₀ t i → n ≤ i → t ≡ take n (drop a s) ++ drop n t₀
-  copied-all t i h l = let q : i ≡ n = omega (arith, h .most) in h .is ∙ ap (λ (j : ℕ). take j (drop a s) ++ drop j t₀) q
 
 -- ---- written, or too short
 

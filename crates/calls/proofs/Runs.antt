@@ -17,7 +17,7 @@ use Rattle.rules_object.specs.Flow.{at}
 use Rattle.rules_object.specs.Bytes.{readObject}
 use Rattle.rules_object.specs.Check.{right41, benchStep}
 use Rattle.rules_object.specs.Safe.{NoFault, Stands}
-use Rattle.rules_object.specs.Calls.{Refusal, refusal, orElse, unless, Checked, refused, passed, checked, Lent, taken, given, right50, right51, right52, sequenceOf, notRun, ran, runFrom, orRefused, runChecked, running, benchObject, benching}
+use Rattle.rules_object.specs.Calls.{Refusal, orElse, unless, Checked, passed, Lent, taken, right50, right51, right52, sequenceOf, runFrom, orRefused, runChecked, running, benchObject, benching}
 use Rattle.rules_object.specs.Calls as book
 use Rattle.rules_object.proofs.Passed.{Passed, both, or-none, unless-none}
 use Rattle.rules_object.proofs.Accepts.{refused5}
@@ -26,8 +26,8 @@ use Rattle.rules_object.proofs.NoFault.{stands-no-fault}
 use Rattle.object.specs.declared.Layout.{Layout}
 use Rattle.object.specs.Layout.{objectAt, Placed}
 use Rattle.object.proofs.Entries.{code-length}
-use Rattle.operations.specs.declared.Regs.{Regs}
-use Rattle.operations.specs.Performed.{regs, stateOf, lentOf, Held}
+use Rattle.arithmetic.specs.Performed.{regs, stateOf, lentOf}
+use Rattle.operations.specs.Ready.{Held}
 use Rattle.machine.specs.declared.Ran.{Ran}
 use Rattle.machine.specs.Running.{answer}
 use Rattle.machine.proofs.Starts.{stands-held, fresh-held, fresh-state}
@@ -36,15 +36,16 @@ use Rattle.checker.specs.declared.Verdict.{Verdict}
 use Rattle.checker.specs.Verdicts.{passing}
 use Rattle.checker.proofs.Laws.{limited}
 use Rattle.calls.specs.declared.Ran as declared
-use Rattle.calls.specs.Outcomes.{lent, ranOf, refusedRan, Ends, numbered, refusedStore, Cleared}
+use Rattle.lent.specs.Lending.{lent, numbered, refusedStore, Cleared}
+use Rattle.calls.specs.Outcomes.{ranOf, refusedRan, Ends}
 use Rattle.calls.proofs.Verdicts.{Refused, Accepted}
-use Rattle.calls.proofs.Lent.{cleared-take, cleared-above, cleared-all}
-use Rattle.calls.proofs.Index.{Low, Back, stays-in}
+use Rattle.lent.proofs.Lent.{cleared-take, cleared-above, cleared-all}
+use Rattle.lent.proofs.Index.{Low, Back, stays-in}
 
--- the answer by its registers as they go back
-pub finished : (o : Object) (q : Ran) (places store : List ℤ) (i h n : ℕ) → i ≡ q .regs .index → h ≡ q .regs .height → n ≡ sequenceOf (o .lines) (q .regs .mark)
-    → ranOf (record { number = 0; place = 0; kind = 0; halt = q .halt; steps = q .steps; sequence = n }) (lent i h (q .regs .mark) places) store ≡ answer o q places store
-finished o q places store i h n a b c = rw (a, b, c)
+-- the answer by the state that goes back
+pub finished : (o : Object) (q : Ran) (places store : List ℤ) (l : Lent) (n : ℕ) → l ≡ lentOf (q .regs) places → n ≡ sequenceOf (o .lines) (q .regs .mark)
+    → ranOf (record { number = 0; place = 0; kind = 0; halt = q .halt; steps = q .steps; sequence = n }) l store ≡ answer o q places store
+finished o q places store l n a b = rw (a, b)
 
 -- ---- either run, ended
 

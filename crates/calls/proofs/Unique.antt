@@ -8,13 +8,20 @@ use Rattle.rules_object.specs.Calls as book
 use Rattle.calls.specs.declared.Refusal.{Refusal}
 use Rattle.calls.specs.declared.Written.{Written}
 use Rattle.calls.specs.declared.Ran.{Ran}
-use Rattle.calls.specs.Outcomes.{Checks, Maps, Ends}
+use Rattle.calls.specs.Outcomes.{Checks, Maps, Compiles, Ends}
 
 pub check-unique : {s : List ℕ} {r q : Refusal} → Checks s r → Checks s q → r ≡ q
 check-unique a b = ap (λ (x : book.Refusal). record { number = x .number; place = x .place; kind = x .kind }) (sym (a .is) ∙ b .is)
 
 pub map-unique : {s o o₁ o₂ : List ℕ} {r q : Written} → Maps s o o₁ r → Maps s o o₂ q → (r ≡ q) × (o₁ ≡ o₂)
 map-unique a b =
+    let e = sym (a .is) ∙ b .is in (
+      ap (λ (x : book.Written). record { number = x .refusal .number; place = x .refusal .place; kind = x .refusal .kind; length = x .length }) e,
+      ap (λ (x : book.Written). x .output) e,
+    )
+
+pub compile-unique : {k : ℕ} {s o o₁ o₂ : List ℕ} {r q : Written} → Compiles k s o o₁ r → Compiles k s o o₂ q → (r ≡ q) × (o₁ ≡ o₂)
+compile-unique a b =
     let e = sym (a .is) ∙ b .is in (
       ap (λ (x : book.Written). record { number = x .refusal .number; place = x .refusal .place; kind = x .refusal .kind; length = x .length }) e,
       ap (λ (x : book.Written). x .output) e,

@@ -1,25 +1,24 @@
-// The calls on an object that C and Rust make: check, run, bench and map. Whatever is lent gets one outcome, the book's.
+// The calls that C and Rust make: compile, check, run, bench and map. Whatever is lent gets one outcome, the book's.
 ghost use mathlib.Core.Path.{_≡_};
-ghost use mathlib.Core.List.{List, _++_};
+ghost use mathlib.Core.List.{List};
 ghost use mathlib.Core.Option.{some};
-ghost use Prim.Native.Nat.{ℕ, _+_, _≤_};
-ghost use lib.ListN.{length, take, drop};
+ghost use Prim.Native.Nat.{_≤_};
+ghost use lib.ListN.{length, take};
 ghost use lib.IntN.{ℤ};
-ghost use Rattle.number.specs.Number.{Rule, ceiling, fits};
-ghost use Rattle.rules_object.specs.Machine.{ruleOf};
-ghost use Rattle.rules_object.specs.Calls.{mapOf, all, right52, runChecked, running, benchObject, benching};
+ghost use Rattle.rules_object.specs.Calls.{mapOf, runChecked, running, benchObject, benching};
 ghost use Rattle.rules_object.proofs.Passed.{Passed};
-ghost use Rattle.rules_object.proofs.Accepts.{refused5};
 ghost use Rattle.object.specs.Layout.{Placed, objectAt};
 ghost use Rattle.heights.specs.Judged.{Fresh};
 ghost use Rattle.checker.specs.Verdicts.{passing};
+ghost use Rattle.lent.specs.Lending.{lent};
 ghost use Rattle.machine.specs.Running.{answer};
-ghost use Rattle.calls.specs.Outcomes.{Checks, Writes, Maps, lent, ranOf, refusedRan, Ends, numbered, refusedStore, Cleared};
+ghost use Rattle.calls.specs.Outcomes.{Checks, Writes, Maps, Compiles, ranOf, refusedRan, Ends};
+use arithmetic::Regs;
+use compiler::Compiled;
 use heights::NEVER;
 use heights::Table;
 use object::Contents;
 use object::Layout;
-use operations::Regs;
 
 #[repr(C)]
 pub struct Refusal {
@@ -70,18 +69,6 @@ pub extern "C" fn luvinqata_check(object: &[u8]) -> Refusal
 
 // ---- map
 
-// n bytes from `at` on, to the start of `to`.
-fn copy(from: &[u8], at: usize, to: &mut [u8], n: usize)
-    requires { ⌜ (at + n ≤ length (now from)) × (n ≤ length (now to)) ⌝ }
-    ensures { λ _. ⌜ now (to .exit) ≡ take n (drop at (now (from .entry))) ++ drop n (now (to .entry)) ⌝ }
-{
-    let mut i: usize = 0;
-    while i < n {
-        to[i] = from[at + i];
-        i += 1;
-    }
-}
-
 fn write_names(object: &[u8], e: Layout, output: &mut [u8]) -> Written
     requires { ⌜ Placed e (now object) × (e .«name_count» ≤ 100) ⌝ }
     ensures { λ r. ⌜ Writes (mapOf (objectAt e (now (object .entry)))) (now (output .entry)) (now (output .exit)) r ⌝ }
@@ -95,7 +82,7 @@ fn write_names(object: &[u8], e: Layout, output: &mut [u8]) -> Written
             length: 0,
         };
     }
-    copy(object, e.names, output, n);
+    lent::copy(object, e.names, output, n);
     Written {
         number: 0,
         place: 0,
@@ -130,6 +117,35 @@ pub extern "C" fn luvinqata_map(object: &[u8], table: &mut [u8]) -> Written
     map_with(object, table, &mut heights)
 }
 
+// ---- compile
+
+// The deck's object at the start of the output; bytes past it stay, and on a refusal all of them.
+#[no_mangle]
+pub extern "C" fn luvinqata_compile(k: u32, deck: &[u8], output: &mut [u8]) -> Written
+    ensures { λ r. ⌜ Compiles k (now (deck .entry)) (now (output .entry)) (now (output .exit)) r ⌝ }
+{
+    match compiler::compile(k, deck, output) {
+        Compiled::Refused { number, place } => Written {
+            number,
+            place,
+            kind: 0,
+            length: 0,
+        },
+        Compiled::Object(length) => Written {
+            number: 0,
+            place: 0,
+            kind: 0,
+            length,
+        },
+        Compiled::Short => Written {
+            number: 30,
+            place: 0,
+            kind: 0,
+            length: 0,
+        },
+    }
+}
+
 // ---- run and bench
 
 fn not_run(number: u32, place: u32, kind: u32) -> Ran
@@ -143,112 +159,6 @@ fn not_run(number: u32, place: u32, kind: u32) -> Ran
         steps: 0,
         sequence: 0,
     }
-}
-
-// The first n are of at most k digits, p being 10 to the k.
-fn fit(numbers: &[i64], n: usize, p: u64) -> bool
-    requires { ⌜ n ≤ length (now numbers) ⌝ }
-    ensures { λ r. ⌜ ((k : Rule) → p ≡ ceiling k → r ≡ all (fits k) (take n (now (numbers .entry)))) ⌝ }
-{
-    let mut i: usize = 0;
-    while i < n {
-        if !number::fits(numbers[i], p) {
-            return false;
-        }
-        i += 1;
-    }
-    true
-}
-
-// 50 and 51: the number of the refusal, or 0.
-fn store_wrong(e: Layout, p: u64, store: &[i64]) -> u32
-    ensures { λ r. ⌜ ((s : List ℕ) → p ≡ ceiling (ruleOf (objectAt e s)) → numbered r ≡ refusedStore (objectAt e s) (now (store .entry))) ⌝ }
-{
-    let n = word::index(e.cells);
-    if store.len() < n {
-        return 50;
-    }
-    if fit(store, n, p) { 0 } else { 51 }
-}
-
-fn wide(h: u8) -> u32
-    ensures { λ r. ⌜ r ≡ h ⌝ }
-{
-    h as u32
-}
-
-// 52.
-fn state_right(
-    e: Layout,
-    p: u64,
-    table: &Table,
-    index: u32,
-    height: u32,
-    mark: u32,
-    places: &[i64],
-) -> bool
-    requires { ⌜ (e .«code_count» ≤ 4096) × (length (now places) ≡ 40) ⌝ }
-    ensures { λ r. ⌜ ((s : List ℕ) → p ≡ ceiling (ruleOf (objectAt e s)) → r ≡ right52 (objectAt e s) (take (e .«code_count») (now (table .entry))) (lent index height mark (now (places .entry)))) ⌝ }
-{
-    let i = word::index(index);
-    if e.code_count <= i {
-        return false;
-    }
-    let h = wide(table[i]);
-    if 40 < h {
-        return false;
-    }
-    if height != h {
-        return false;
-    }
-    if !fit(places, word::index(height), p) {
-        return false;
-    }
-    word::index(mark) <= e.code_count
-}
-
-// 50 to 52: the number of the refusal, or 0.
-fn lent_wrong(
-    e: Layout,
-    p: u64,
-    table: &Table,
-    store: &[i64],
-    index: u32,
-    height: u32,
-    mark: u32,
-    places: &[i64],
-) -> u32
-    requires { ⌜ (e .«code_count» ≤ 4096) × (length (now places) ≡ 40) ⌝ }
-    ensures { λ r. ⌜ ((s : List ℕ) → p ≡ ceiling (ruleOf (objectAt e s)) → numbered r ≡ refused5 (objectAt e s) (take (e .«code_count») (now (table .entry))) (now (store .entry)) (lent index height mark (now (places .entry)))) ⌝ }
-{
-    let wrong = store_wrong(e, p, store);
-    if wrong != 0 {
-        return wrong;
-    }
-    if state_right(e, p, table, index, height, mark, places) {
-        0
-    } else {
-        52
-    }
-}
-
-// Places from the height on are 0.
-fn clear(places: &mut [i64], height: usize)
-    requires { ⌜ (height ≤ 40) × (length (now places) ≡ 40) ⌝ }
-    ensures { λ _. ⌜ Cleared (now (places .entry)) (now (places .exit)) height ⌝ }
-{
-    let mut i = height;
-    while i < 40 {
-        places[i] = 0;
-        i += 1;
-    }
-}
-
-fn narrow(i: usize) -> u32
-    requires { ⌜ i ≤ 4096 ⌝ }
-    ensures { λ r. ⌜ r ≡ i ⌝ }
-{
-    i as u32
 }
 
 // The state after a run goes back to where it was lent.
@@ -265,9 +175,7 @@ fn finish(
     ensures { λ r. ⌜ ((places store : List ℤ) → ranOf r (lent (now (index .exit)) (now (height .exit)) (now (mark .exit)) places) store ≡ answer (objectAt e (now (object .entry))) q places store) ⌝ }
 {
     let regs = q.regs;
-    *index = narrow(regs.index);
-    *height = narrow(regs.height);
-    *mark = regs.mark;
+    lent::give_back(regs, index, height, mark);
     Ran {
         number: 0,
         place: 0,
@@ -298,7 +206,7 @@ fn run_passed(
     let i = *index;
     let h = *height;
     let m = *mark;
-    let refused = lent_wrong(e, p, table, store, i, h, m, places);
+    let refused = lent::lent_wrong(e, p, table, store, i, h, m, places);
     if refused != 0 {
         return not_run(refused, 0, 0);
     }
@@ -307,7 +215,7 @@ fn run_passed(
         height: word::index(h),
         mark: m,
     };
-    clear(places, start.height);
+    lent::clear(places, start.height);
     let q = machine::run(object, e, p, start, places, store, allowance);
     finish(object, e, q, index, height, mark)
 }
@@ -387,7 +295,7 @@ fn bench_read(
         return not_run(41, 0, 0);
     }
     let p = number::ten(word::index(e.digits));
-    let wrong = store_wrong(e, p, store);
+    let wrong = lent::store_wrong(e, p, store);
     if wrong != 0 {
         return not_run(wrong, 0, 0);
     }
@@ -396,7 +304,7 @@ fn bench_read(
         height: 0,
         mark: 0,
     };
-    clear(places, 0);
+    lent::clear(places, 0);
     let q = machine::bench(object, e, p, start, places, store, allowance);
     finish(object, e, q, index, height, mark)
 }

@@ -7,7 +7,7 @@ ghost use Rattle.forms.specs.Statements.{Reads};
 ghost use Rattle.reader.specs.Which.{isForm};
 use forms::Statement;
 
-fn is_form(s: Statement) -> bool
+pub fn is_form(s: Statement) -> bool
     ensures { λ r. ⌜ r ≡ isForm s ⌝ }
 {
     match s {

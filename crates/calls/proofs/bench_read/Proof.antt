@@ -6,7 +6,7 @@ use lib.ListN.{length}
 use borrow.Author.Tests.{not-true, not-false}
 use Rattle.object.specs.Layout.{objectAt}
 use Rattle.checker.proofs.Laws.{digits-low, ceiling-is}
-use Rattle.calls.specs.Outcomes.{lent}
+use Rattle.lent.specs.Lending.{lent}
 use Rattle.calls.proofs.Runs.{made, bench-over, bench-refused, bench-held, bench-low, bench-ends, back, low-back}
 use borrow.Author.Needs.{needs}
 use Rattle.calls.proofs.bench_read.Statement.{statement}

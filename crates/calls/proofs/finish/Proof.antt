@@ -5,18 +5,16 @@ use borrow.Author.Needs.{needs}
 use Rattle.calls.proofs.finish.Statement.{statement}
 use Rattle.calls.proofs.finish.Tie as tie
 
-narrow-requires : tie.Need-narrow-requires
-narrow-requires c κs = search needs
-
-narrow-requires-2 : tie.Need-narrow-requires-2
-narrow-requires-2 c κs = search needs
+give-back-requires : tie.Need-give-back-requires
+give-back-requires c κs = search needs
 
 sequence-requires : tie.Need-sequence-requires
 sequence-requires c κs = search needs
 
 returns : tie.Need-returns
 returns c =
-    λ places store. finished (objectAt (c .before .before .before .before .before .args .e) (c .before .before .before .before .before .args .object .now)) (c .before .before .before .before .before .args .q) places store _ _ _ (c .before .before .narrow .ensures) (c .before .narrow2 .ensures) (c .sequence .ensures)
+    let a = c .before .before .before .before .before .before .before .args in
+    λ places store. finished (objectAt (a .e) (a .object .now)) (a .q) places store _ _ (c .before .give-back .ensures places) (c .sequence .ensures)
 
 pub finish-spec : {M : Type 1} → statement M
-finish-spec = tie.close (tie.spec narrow-requires narrow-requires-2 sequence-requires returns)
+finish-spec = tie.close (tie.spec give-back-requires sequence-requires returns)

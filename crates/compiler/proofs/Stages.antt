@@ -1,0 +1,193 @@
+-- What each stage's answer makes of the whole.
+-- Assumes nothing.
+use mathlib.Core.Path.{_≡_, refl, sym, ap, _∙_, subst}
+use Prim.Native.Nat.{ℕ, zero, suc, _≤_, _<_, _^_}
+use mathlib.Core.List.{List, [], _∷_, _++_, map}
+use mathlib.Core.Option.{Option, none, some}
+use native.Mathlib.Omega.{arith}
+use lib.ListN.{length, take, getElem?}
+use Rattle.rules_object.specs.Bytes.{objectBytes}
+use Rattle.rules_object.specs.Calls.{Refusal, refusal, Written, notWritten, write}
+use Rattle.rules_deck.specs.Trees.{Name, Form, assign, goTo, computed, ifs, loop, continue, stop, end, dimension, Target, cell, element, Statement}
+use Rattle.rules_deck.specs.Deck.{positionOf}
+use Rattle.rules_deck.specs.Cards.{Punched, Carded, cardsRefused, statements, carded}
+use Rattle.rules_deck.specs.Translation.{targetPlain, exprPlain, formPlain, heldOf, translate}
+use Rattle.rules_deck.specs.Whole.{targetSets, formSets, judgeDeck}
+use Rattle.rules_deck.specs.Judge.{nothingTaken}
+use Rattle.rules_deck.specs.Compile.{Read, notRead, read, readFrom, readCarded, orRefuse, judgeRead, deckOf, writeRead, compiling}
+use Rattle.rules_deck.specs.Accepted.{Accepted, Among, here, there}
+use Rattle.rules_deck.proofs.AcceptedDeck.{accepted}
+use Rattle.rules_deck.proofs.DeckCells.{plain-has}
+use Rattle.rules_deck.proofs.MapNames.{namesIn, name-among}
+use Rattle.rules_deck.proofs.BodySeven.{all-here}
+use Rattle.rules_deck.proofs.Readers.{All}
+use Rattle.cards.specs.declared.Judged.{Judged}
+use Rattle.cards.specs.declared.Judged.the-variants as judged
+use Rattle.cards.specs.declared.Sequence.{Sequence}
+use Rattle.cards.specs.Judging.{judgedOf}
+use Rattle.draft.specs.declared.Counts.{Counts}
+use Rattle.draft.specs.Names.{Told}
+use Rattle.draft.specs.Draft.{draftOf}
+use Rattle.draft.specs.Kept.{Room, Fit, Kept}
+use Rattle.draft.specs.Sketch.{deckJumps}
+use Rattle.draft.proofs.DraftDeck.{draft-held}
+use Rattle.draft.proofs.DeckKept.{kept-deck}
+use Rattle.draft.proofs.Knowing.{all-of}
+use Rattle.drafting.specs.declared.Drafted.{Drafted}
+use Rattle.drafting.specs.declared.Drafted.the-variants as drafted
+use Rattle.drafting.specs.Drafted.{Drafts, refused, kept}
+use Rattle.whole.specs.declared.Verdict.{Verdict}
+use Rattle.whole.specs.declared.Verdict.the-variants as verdict
+use Rattle.whole.specs.Whole.{SetsTold, refusalOf}
+use Rattle.whole.specs.Whole as whole
+use Rattle.writer.specs.declared.Wrote.{Wrote}
+use Rattle.writer.specs.declared.Wrote.the-variants as wrote
+use Rattle.writer.specs.Answer as written
+use Rattle.finish.specs.Finishing.{Finished}
+use Rattle.compiler.specs.declared.Compiled.{Compiled}
+use Rattle.compiler.specs.declared.Compiled.the-variants.{Refused, Object, Short}
+use Rattle.compiler.specs.Compiled.{answer, Punches, Holds}
+
+-- ---- the names that a deck sets are told by their words: they have cells
+
+target-plain : {v : Name} (t : Target) (more : List Name) → Among v (targetSets t) → Among v (targetPlain t ++ more)
+target-plain (cell w) more here = here
+
+sets-plain : {v : Name} (f : Form) → Among v (formSets f) → Among v (formPlain f)
+unfolding formSets formPlain
+sets-plain (assign t e) a = target-plain t (exprPlain e) a
+sets-plain (loop n w p q r) here = here
+
+index-of : {A : Type 0} {x : A} {l : List A} → Among x l → (j : ℕ) × (getElem? l j ≡ some x)
+index-of here = (0, refl)
+index-of (there a) = let i = index-of a in (suc (i .0), i .1)
+
+pub sets-told : (deck : List Statement) → All Told (namesIn (heldOf deck)) → All SetsTold deck
+sets-told deck h =
+    all-of deck (λ s a. all-of (formSets (s .form)) (λ v b.
+    let i = index-of a in
+    all-here h (name-among (heldOf deck) v (plain-has deck (i .0) s v (i .1) (sets-plain (s .form) b)))))
+
+-- ---- the deck as a whole
+
+module _ {k : ℕ} {deck : List Statement} {n : Counts} {names constants elements dos loops code rows jumps : List ℕ} (h : Holds k deck n names constants elements dos loops code rows jumps) where
+  pub told : All SetsTold deck
+  told = sets-told deck (subst (λ l. All Told (namesIn l)) (draft-held deck) (h .kept .held .told))
+
+  pub whole-refused : {after : List ℕ} {number : ℕ} {place : Sequence} (output : List ℕ) (v : Verdict) → whole.Judged deck after (n .jumps) v → v ≡ verdict.Refused number place
+      → answer (Refused number (place .0)) output ≡ writeRead k output (judgeRead (read deck))
+  unfolding refusalOf
+  whole-refused {number = number} {place = place} output v j e =
+      let o : judgeDeck deck ≡ some (refusal number (place .0) 0) = sym (j .says) ∙ ap refusalOf e in
+      sym (ap (λ (o : Option Refusal). writeRead k output (orRefuse deck o)) o)
+
+  right : {after : List ℕ} (v : Verdict) → whole.Judged deck after (n .jumps) v → v ≡ verdict.Right → judgeDeck deck ≡ none
+  unfolding refusalOf
+  right v j e = sym (j .says) ∙ ap refusalOf e
+
+  accepted-deck : judgeDeck deck ≡ none → Accepted k deck
+  unfolding deckOf
+  accepted-deck e = accepted k (h .bytes) deck (ap judgeRead (h .is) ∙ ap (orRefuse deck) e)
+
+  pub finished : {after : List ℕ} (v : Verdict) → whole.Judged deck after (n .jumps) v → v ≡ verdict.Right
+      → Finished k deck n names constants elements dos loops code rows after
+  finished {after} v j e =
+      let o = right v j e in
+      let a = accepted-deck o in
+      record {
+        accepted = a;
+        numbers = jumps;
+        kept = kept-deck a (h .kept);
+        placed = j .placed o;
+        counted = h .counted;
+        room =
+            record {
+              names-long = h .room .names-long;
+              constants-long = h .room .constants-long;
+              elements-long = h .room .elements-long;
+              dos-long = h .room .dos-long;
+              loops-long = h .room .loops-long;
+              code-long = h .room .code-long;
+              rows-long = h .room .rows-long;
+              jumps-long = j .long;
+            };
+        fit = h .fit;
+      }
+
+  whole-right : {after : List ℕ} (output : List ℕ) (v : Verdict) → whole.Judged deck after (n .jumps) v → v ≡ verdict.Right
+      → write (objectBytes (translate k deck)) output ≡ writeRead k output (judgeRead (read deck))
+  whole-right output v j e = sym (ap (λ (o : Option Refusal). writeRead k output (orRefuse deck o)) (right v j e))
+
+  pub whole-object : {after : List ℕ} {length : ℕ} (output output′ : List ℕ) (v : Verdict) → whole.Judged deck after (n .jumps) v → v ≡ verdict.Right → (w : Wrote)
+      → written.answer w output′ ≡ write (objectBytes (translate k deck)) output → w ≡ wrote.Bytes length → answer (Object length) output′ ≡ writeRead k output (judgeRead (read deck))
+  whole-object output output′ v j e w a i =
+      sym (ap (λ (x : Wrote). written.answer x output′) i) ∙ a ∙ whole-right output v j e
+
+  pub whole-short : {after : List ℕ} (output output′ : List ℕ) (v : Verdict) → whole.Judged deck after (n .jumps) v → v ≡ verdict.Right → (w : Wrote)
+      → written.answer w output′ ≡ write (objectBytes (translate k deck)) output → w ≡ wrote.Short → answer Short output′ ≡ writeRead k output (judgeRead (read deck))
+  whole-short output output′ v j e w a i =
+      sym (ap (λ (x : Wrote). written.answer x output′) i) ∙ a ∙ whole-right output v j e
+
+-- ---- the statements
+
+module _ (k : ℕ) (bytes : List ℕ) (ps : List Punched) (cards : carded k bytes ≡ statements ps) where
+  statements-read : readCarded k (carded k bytes) ≡ readFrom k 0 nothingTaken ps
+  statements-read = ap (readCarded k) cards
+
+  pub statements-refused : {names constants elements dos loops code rows jumps : List ℕ} {number : ℕ} {place : Sequence} (output : List ℕ) (d : Drafted) → Drafts (readFrom k 0 nothingTaken ps) names constants elements dos loops code rows jumps d
+      → d ≡ drafted.Refused number place → answer (Refused number (place .0)) output ≡ compiling k bytes output
+  unfolding compiling deckOf
+  statements-refused {names} {constants} {elements} {dos} {loops} {code} {rows} {jumps} {number} {place} output d h e =
+      sym (ap (λ (r : Read). writeRead k output (judgeRead r)) (statements-read ∙ refuses (subst (Drafts (readFrom k 0 nothingTaken ps) names constants elements dos loops code rows jumps) e h)))
+    where
+      refuses : Drafts (readFrom k 0 nothingTaken ps) names constants elements dos loops code rows jumps (drafted.Refused number place) → readFrom k 0 nothingTaken ps ≡ notRead (refusal number (place .0) 0)
+      refuses (refused number place e) = e
+
+  -- the deck that the tables hold
+  pub record Kept-deck (names constants elements dos loops code rows jumps : List ℕ) (n : Counts) : Type 0 where
+    pub deck : List Statement
+    pub is : readFrom k 0 nothingTaken ps ≡ read deck
+    pub counted : n .statements ≡ length deck
+    pub fit : Fit n
+    pub kept : Kept (draftOf deck) names constants elements dos loops code rows jumps n
+
+  pub statements-kept : {names constants elements dos loops code rows jumps : List ℕ} {n : Counts} (d : Drafted) → Drafts (readFrom k 0 nothingTaken ps) names constants elements dos loops code rows jumps d → d ≡ drafted.Kept n → Kept-deck names constants elements dos loops code rows jumps n
+  statements-kept {names} {constants} {elements} {dos} {loops} {code} {rows} {jumps} {n} d h e = keeps (subst (Drafts (readFrom k 0 nothingTaken ps) names constants elements dos loops code rows jumps) e h)
+    where
+      keeps : Drafts (readFrom k 0 nothingTaken ps) names constants elements dos loops code rows jumps (drafted.Kept n) → Kept-deck names constants elements dos loops code rows jumps n
+      keeps (kept deck n o c f κ) = record { deck = deck; is = o; counted = c; fit = f; kept = κ }
+
+  pub holds : {names constants elements dos loops code rows jumps : List ℕ} {n : Counts} (d : Kept-deck names constants elements dos loops code rows jumps n) → Room names constants elements dos loops code rows jumps → Holds k (d .deck) n names constants elements dos loops code rows jumps
+  holds d room = record { bytes = bytes; is = statements-read ∙ d .is; counted = d .counted; kept = d .kept; room = room; fit = d .fit }
+
+  pub compiled : (deck : List Statement) (output : List ℕ) → readFrom k 0 nothingTaken ps ≡ read deck → writeRead k output (judgeRead (read deck)) ≡ compiling k bytes output
+  unfolding compiling deckOf
+  compiled deck output e = sym (ap (λ (r : Read). writeRead k output (judgeRead r)) (statements-read ∙ e))
+
+-- ---- the cards
+
+pub cards-refused : {number place : ℕ} (k : ℕ) (bytes : List ℕ) (output : List ℕ) (j : Judged) → j ≡ judgedOf (carded k bytes) → j ≡ judged.Refused number place
+    → answer (Refused number place) output ≡ compiling k bytes output
+unfolding judgedOf compiling deckOf
+cards-refused {number} {place} k bytes output j a e = go (carded k bytes) refl (sym a ∙ e)
+  where
+    go : (c : Carded) → carded k bytes ≡ c → judgedOf c ≡ judged.Refused number place → notWritten (refusal number place 0) output ≡ writeRead k output (judgeRead (readCarded k (carded k bytes)))
+    go (cardsRefused m p) e h =
+        let x : m ≡ number = cc in
+        let y : p ≡ place = cc in
+        ap (λ (i : ℕ). notWritten (refusal i place 0) output) (sym x) ∙ ap (λ (i : ℕ). notWritten (refusal m i 0) output) (sym y)
+        ∙ sym (ap (λ (c : Carded). writeRead k output (judgeRead (readCarded k c))) e)
+    go (statements ps) e h = let z : _≡_ {A = ℕ} 0 1 = cc in absurd (omega arith)
+
+pub cards-punched : {s : Sequence} (k : ℕ) (bytes : List ℕ) (j : Judged) → j ≡ judgedOf (carded k bytes) → j ≡ judged.Statements s → Punches k bytes
+unfolding judgedOf
+cards-punched {s} k bytes j a e = go (carded k bytes) refl (sym a ∙ e)
+  where
+    go : (c : Carded) → carded k bytes ≡ c → judgedOf c ≡ judged.Statements s → Punches k bytes
+    go (cardsRefused m p) e h = let z : _≡_ {A = ℕ} 0 1 = cc in absurd (omega arith)
+    go (statements ps) e h = record { punched = ps; are = e }
+
+-- ---- the length
+
+pub low-word : {w : Wrote} {n : ℕ} → written.Low w → w ≡ wrote.Bytes n → n < 2 ^ 32
+low-word l e = subst written.Low e l

@@ -1,0 +1,39 @@
+-- What compiling gives for each answer of the book, and what its parts are given.
+-- Assumes nothing.
+use mathlib.Core.Path.{_≡_}
+use Prim.Native.Nat.{ℕ}
+use mathlib.Core.List.{List}
+use lib.ListN.{length}
+use Rattle.rules_object.specs.Calls.{Written, refusal, accepted, notWritten}
+use Rattle.rules_deck.specs.Trees.{Statement}
+use Rattle.rules_deck.specs.Cards.{Punched, statements, carded}
+use Rattle.rules_deck.specs.Compile.{read, readCarded}
+use Rattle.draft.specs.declared.Counts.{Counts}
+use Rattle.draft.specs.Draft.{draftOf}
+use Rattle.draft.specs.Kept.{Room, Fit, Kept}
+use Rattle.compiler.specs.declared.Compiled.{Compiled}
+use Rattle.compiler.specs.declared.Compiled.the-variants.{Refused, Object, Short}
+
+-- with the output at the end
+abbrev pub answer : Compiled → List ℕ → Written
+answer (Refused number place) output = notWritten (refusal number place 0) output
+answer (Object n) output = record { refusal = accepted; length = n; output = output }
+answer Short output = notWritten (refusal 30 0 0) output
+
+-- a deck whose cards are right
+pub record Punches (k : ℕ) (bytes : List ℕ) : Type 0 where
+  pub punched : List Punched
+  pub are : carded k bytes ≡ statements punched
+
+-- the tables hold a deck whose statements are right
+pub record Holds (k : ℕ) (deck : List Statement) (n : Counts) (names constants elements dos loops code rows jumps : List ℕ) : Type 0 where
+  pub bytes : List ℕ
+  pub is : readCarded k (carded k bytes) ≡ read deck
+  pub counted : n .statements ≡ length deck
+  pub kept : Kept (draftOf deck) names constants elements dos loops code rows jumps n
+  pub room : Room names constants elements dos loops code rows jumps
+  pub fit : Fit n
+
+pub record HoldsOne (k : ℕ) (n : Counts) (names constants elements dos loops code rows jumps : List ℕ) : Type 0 where
+  pub deck : List Statement
+  pub held : Holds k deck n names constants elements dos loops code rows jumps

@@ -1,0 +1,119 @@
+// A deck compiled: its cards, its statements one by one, the deck as a whole, and then its object, or the first of them that refuses.
+// All that it works with is in the frames of these functions.
+ghost use mathlib.Core.Path.{_≡_};
+ghost use mathlib.Core.List.{List};
+ghost use Rattle.rules_deck.specs.Trees.{Statement};
+ghost use Rattle.rules_deck.specs.Compile.{read, judgeRead, writeRead, compiling};
+ghost use Rattle.compiler.specs.Compiled.{answer, Punches, Holds, HoldsOne};
+use cards::Judged;
+use draft::Counts;
+use drafting::Drafted;
+use whole::Verdict;
+use writer::Wrote;
+
+pub enum Compiled {
+    Refused { number: u32, place: u32 },
+    // how many bytes the object has
+    Object(u32),
+    // 30
+    Short,
+}
+
+// The deck as a whole, and its object.
+fn judge_whole(
+    k: u32,
+    n: Counts,
+    names: &[u64],
+    constants: &[u32],
+    elements: &[u32],
+    dos: &mut [u32],
+    loops: &[u32],
+    code: &[u32],
+    rows: &[u64],
+    jumps: &mut [u32],
+    output: &mut [u8],
+) -> Compiled
+    requires { ⌜ HoldsOne k n (now names) (now constants) (now elements) (now dos) (now loops) (now code) (now rows) (now jumps) ⌝ }
+    ensures { λ r. ⌜ ((deck : List Statement) → Holds k deck n (now (names .entry)) (now (constants .entry)) (now (elements .entry)) (now (dos .entry)) (now (loops .entry)) (now (code .entry)) (now (rows .entry)) (now (jumps .entry)) → answer r (now (output .exit)) ≡ writeRead k (now (output .entry)) (judgeRead (read deck))) ⌝ }
+{
+    match whole::judge(rows, n.statements, loops, n.dos, jumps, n.jumps) {
+        Verdict::Refused { number, place } => Compiled::Refused {
+            number,
+            place: place.0,
+        },
+        Verdict::Right => {
+            match finish::finish(
+                k,
+                n,
+                names,
+                constants,
+                elements,
+                dos,
+                loops,
+                code,
+                rows,
+                jumps,
+                output,
+            ) {
+                Wrote::Bytes(length) => Compiled::Object(length as u32),
+                Wrote::Short => Compiled::Short,
+            }
+        }
+    }
+}
+
+// A deck whose cards are right.
+fn compile_statements(k: u32, deck: &[u8], output: &mut [u8]) -> Compiled
+    requires { ⌜ Punches k (now deck) ⌝ }
+    ensures { λ r. ⌜ answer r (now (output .exit)) ≡ compiling k (now (deck .entry)) (now (output .entry)) ⌝ }
+{
+    let mut items = [0u64; 2651];
+    let mut names = [0u64; 400];
+    let mut constants = [0u32; 256];
+    let mut elements = [0u32; 2304];
+    let mut dos = [0u32; 256];
+    let mut loops = [0u32; 128];
+    let mut code = [0u32; 4096];
+    let mut rows = [0u64; 2000];
+    let mut jumps = [0u32; 1424];
+    match drafting::draft(
+        k,
+        deck,
+        &mut items,
+        &mut names,
+        &mut constants,
+        &mut elements,
+        &mut dos,
+        &mut loops,
+        &mut code,
+        &mut rows,
+        &mut jumps,
+    ) {
+        Drafted::Refused { number, place } => Compiled::Refused {
+            number,
+            place: place.0,
+        },
+        Drafted::Kept(n) => judge_whole(
+            k,
+            n,
+            &names,
+            &constants,
+            &elements,
+            &mut dos,
+            &loops,
+            &code,
+            &rows,
+            &mut jumps,
+            output,
+        ),
+    }
+}
+
+pub fn compile(k: u32, deck: &[u8], output: &mut [u8]) -> Compiled
+    ensures { λ r. ⌜ answer r (now (output .exit)) ≡ compiling k (now (deck .entry)) (now (output .entry)) ⌝ }
+{
+    match cards::judge(k, deck) {
+        Judged::Refused { number, place } => Compiled::Refused { number, place },
+        Judged::Statements(last) => compile_statements(k, deck, output),
+    }
+}
