@@ -1,0 +1,4 @@
+pub mod PutLaws
+pub mod Going
+pub mod ValueLaws
+pub mod Loops

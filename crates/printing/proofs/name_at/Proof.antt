@@ -1,0 +1,69 @@
+-- `printing::name_at` meets its contract. Assumes nothing.
+use mathlib.Core.Path.{refl, _∙_}
+use Rattle.object.specs.Layout.{namedAt}
+use Rattle.printing.specs.Entries.{namedIn}
+use Rattle.printing.proofs.ValueLaws.{named-as}
+use borrow.Author.Needs.{needs}
+use Rattle.printing.proofs.name_at.Statement.{statement}
+use Rattle.printing.proofs.name_at.Tie as tie
+use Rattle.printing.proofs.name_at.Reads as reads
+use Rattle.printing.proofs.name_at.Lts as lts
+use Rattle.word.proofs.index.Reads as index-reads
+use Rattle.word.proofs.load.Reads as load-reads
+
+-- src/lib.rt:101:47
+add-load : tie.Need-add-load
+add-load c = search needs
+
+-- src/lib.rt:101:28
+load-requires : tie.Need-load-requires
+load-requires c κs = search needs
+
+-- src/lib.rt:101:16
+index-requires : tie.Need-index-requires
+index-requires c κs = search needs
+
+-- src/lib.rt:102:46
+add-load-2 : tie.Need-add-load-2
+add-load-2 c = search needs
+
+-- src/lib.rt:102:27
+load-requires-2 : tie.Need-load-requires-2
+load-requires-2 c κs = search needs
+
+-- src/lib.rt:102:15
+index-requires-2 : tie.Need-index-requires-2
+index-requires-2 c κs = search needs
+
+-- src/lib.rt:103:49
+add-load-3 : tie.Need-add-load-3
+add-load-3 c = search needs
+
+-- src/lib.rt:103:30
+load-requires-3 : tie.Need-load-requires-3
+load-requires-3 c κs = search needs
+
+-- src/lib.rt:103:18
+index-requires-3 : tie.Need-index-requires-3
+index-requires-3 c κs = search needs
+
+-- src/lib.rt:95:1
+returns : tie.Need-returns
+unfolding namedIn namedAt
+returns c =
+    (refl, named-as (c .before .before .before .before .before .before .before .args .object .now) (c .before .before .before .before .before .before .before .args .b) _ _ _ (c .before .before .before .before .index .ensures ∙ c .before .before .before .before .before .load .ensures) (c .before .before .index2 .ensures ∙ c .before .before .before .load2 .ensures) (c .index3 .ensures ∙ c .before .load3 .ensures))
+
+pub name-at-spec : {M : Type 1} → statement M
+name-at-spec =
+    tie.close
+    (tie.spec
+    add-load
+    load-requires
+    index-requires
+    add-load-2
+    load-requires-2
+    index-requires-2
+    add-load-3
+    load-requires-3
+    index-requires-3
+    returns)

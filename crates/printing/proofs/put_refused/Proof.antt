@@ -1,0 +1,78 @@
+-- `printing::put_refused` meets its contract. Assumes nothing.
+use Prim.Native.Nat.{ℕ}
+use mathlib.Core.List.{List, _++_}
+use Rattle.rules_deck.specs.Punch.{bytes}
+use Rattle.rules_program.specs.Text.{stated, lineEnd, refusedLine}
+use Rattle.printing.proofs.PutLaws.{room-first, room-then, puts-both}
+use borrow.Author.Needs.{needs}
+use Rattle.printing.proofs.put_refused.Statement.{statement}
+use Rattle.printing.proofs.put_refused.Tie as tie
+use Rattle.printing.proofs.put_refused.Reads as reads
+use Rattle.printing.proofs.put_refused.Lts as lts
+use Rattle.printing.proofs.put_stated.Reads as put-stated-reads
+use Rattle.printing.proofs.put_words.Reads as put-words-reads
+
+-- src/lib.rt:65:33
+slice-aggregate-put-stated : tie.Need-slice-aggregate-put-stated
+slice-aggregate-put-stated c = search needs
+
+-- src/lib.rt:65:9
+put-stated-requires : tie.Need-put-stated-requires
+unfolding refusedLine
+put-stated-requires c κs =
+    let t0 : List ℕ = stated (bytes "REFUSED ") (c .before .before .before .args .number) in
+    let t1 : List ℕ = stated (bytes " ") (c .before .before .before .args .place) in
+    let t2 : List ℕ = lineEnd in
+    room-first t0 (t1 ++ t2) (c .before .before .before .pre)
+
+-- src/lib.rt:66:32
+slice-aggregate-put-stated-2 : tie.Need-slice-aggregate-put-stated-2
+slice-aggregate-put-stated-2 c = search needs
+
+-- src/lib.rt:66:9
+put-stated-requires-2 : tie.Need-put-stated-requires-2
+unfolding refusedLine
+put-stated-requires-2 c κs =
+    let t0 : List ℕ = stated (bytes "REFUSED ") (c .before .before .before .before .before .before .before .before .args .number) in
+    let t1 : List ℕ = stated (bytes " ") (c .before .before .before .before .before .before .before .before .args .place) in
+    let t2 : List ℕ = lineEnd in
+    room-first t1 t2 (room-then t0 (t1 ++ t2) (c .before .before .before .before .put-stated .ensures) (c .before .before .before .before .before .before .before .before .pre))
+
+-- src/lib.rt:67:23
+slice-aggregate-put-words : tie.Need-slice-aggregate-put-words
+slice-aggregate-put-words c = search needs
+
+-- src/lib.rt:67:5
+put-words-requires : tie.Need-put-words-requires
+unfolding refusedLine
+put-words-requires c κs =
+    let t0 : List ℕ = stated (bytes "REFUSED ") (c .before .before .before .before .before .before .before .before .before .before .before .before .before .args .number) in
+    let t1 : List ℕ = stated (bytes " ") (c .before .before .before .before .before .before .before .before .before .before .before .before .before .args .place) in
+    let t2 : List ℕ = lineEnd in
+    room-then t1 t2 (c .before .before .before .before .put-stated2 .ensures) (room-then t0 (t1 ++ t2) (c .before .before .before .before .before .before .before .before .before .put-stated .ensures) (c .before .before .before .before .before .before .before .before .before .before .before .before .before .pre))
+
+-- src/lib.rt:61:1
+same-length : tie.Need-same-length
+same-length c = search needs
+
+-- src/lib.rt:61:1
+returns : tie.Need-returns
+unfolding refusedLine
+returns c =
+    let t0 : List ℕ = stated (bytes "REFUSED ") (c .before .before .before .before .before .before .before .before .before .before .before .before .before .before .before .before .args .number) in
+    let t1 : List ℕ = stated (bytes " ") (c .before .before .before .before .before .before .before .before .before .before .before .before .before .before .before .before .args .place) in
+    let t2 : List ℕ = lineEnd in
+    (puts-both t0 (t1 ++ t2) (c .before .before .before .before .before .before .before .before .before .before .before .before .put-stated .ensures) (puts-both t1 t2 (c .before .before .before .before .before .before .before .put-stated2 .ensures) (c .before .before .put-words .ensures)))
+
+pub put-refused-spec : {M : Type 1} → statement M
+put-refused-spec =
+    tie.close
+    (tie.spec
+    slice-aggregate-put-stated
+    put-stated-requires
+    slice-aggregate-put-stated-2
+    put-stated-requires-2
+    slice-aggregate-put-words
+    put-words-requires
+    same-length
+    returns)

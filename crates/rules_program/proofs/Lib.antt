@@ -1,0 +1,6 @@
+pub mod Numerals
+pub mod Lengths
+pub mod TidyDeck
+pub mod LongInput
+pub mod Enough
+pub mod ProgramExamples

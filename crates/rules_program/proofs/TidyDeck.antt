@@ -1,0 +1,56 @@
+-- The names of a compiled deck are tidy: their values stand in cells of their own.
+-- Assumes nothing.
+use Prim.Native.Nat.{ℕ, zero, suc, _+_, _*_, _≤_}
+use mathlib.Core.Path.{_≡_, refl, sym, ap, _∙_, subst}
+use mathlib.Core.List.{List, [], _∷_}
+use mathlib.Core.Option.{Option, none, some}
+use native.Mathlib.Omega.{arith}
+use lib.ListN.{length, getElem?}
+use Rattle.rules_object.specs.Limits.{limits}
+use Rattle.rules_object.specs.Object.{Named, Object}
+use Rattle.rules_object.specs.Bytes.{objectBytes, readObject}
+use Rattle.rules_object.specs.Check.{span}
+use Rattle.rules_deck.specs.Trees.{Statement}
+use Rattle.rules_deck.specs.Deck.{width}
+use Rattle.rules_deck.specs.Translation.{Held, name, array, hidden, arraySize, cellCount, heldOf, namesFrom, translate}
+use Rattle.rules_deck.specs.Compile.{read, deckOf}
+use Rattle.rules_deck.specs.Accepted.{Accepted, here, there}
+use Rattle.rules_deck.proofs.MapNames.{Full}
+use Rattle.rules_deck.proofs.MapOnce.{once-held}
+use Rattle.rules_deck.proofs.BodySeven.{names-inside}
+use Rattle.rules_deck.proofs.FittingDeck.{fitting}
+use Rattle.rules_deck.proofs.AcceptedDeck.{accepted}
+use Rattle.rules_deck.proofs.CompiledWritable.{compiled-reads}
+use Rattle.rules_program.specs.Tidy.{values, Tidy, TidyObject}
+
+span-size : (r c : ℕ) → 1 ≤ r → span r c ≡ r * width c
+span-size zero c h = absurd (omega arith)
+span-size (suc r) zero h = omega arith
+span-size (suc r) (suc c) h = refl
+
+full-rest : {h : Held} {held : List Held} → Full (h ∷ held) → Full held
+full-rest f = record { rows = λ a i. f .rows a (there i) }
+
+few-from : (held : List Held) (at : ℕ) → Full held → values (namesFrom at held) ≤ cellCount held
+few-from [] at f = omega arith
+few-from (name v ∷ held) at f = omega (arith, few-from held (suc at) (full-rest f))
+few-from (array a ∷ held) at f =
+    omega (arith, span-size (a .dims .rows) (a .dims .columns) (f .rows a here), few-from held (at + arraySize (a .dims)) (full-rest f))
+few-from (hidden q ∷ held) at f = omega (arith, few-from held (at + 2) (full-rest f))
+
+tidy-deck : (k : ℕ) (deck : List Statement) → Accepted k deck → Tidy (translate k deck .names)
+unfolding translate
+tidy-deck k deck c =
+    record {
+      few = omega (arith, few-from (heldOf deck) 0 (once-held k deck c .full), fitting c .cells);
+      inside = λ i n e. omega (arith, names-inside k deck c i n e .within, fitting c .cells);
+    }
+
+some-same : {a b : Object} → some a ≡ some b → a ≡ b
+some-same e = cc
+
+-- the object of a deck that is read
+pub compiled-tidy : (k : ℕ) (bytes : List ℕ) (deck : List Statement) → deckOf k bytes ≡ read deck → TidyObject (objectBytes (translate k deck))
+compiled-tidy k bytes deck e =
+    let c = accepted k bytes deck e in
+    record { names = λ o r. subst (λ (x : Object). Tidy (x .names)) (some-same (sym (compiled-reads c) ∙ r)) (tidy-deck k deck c) }

@@ -1,0 +1,1 @@
+// No code: the promises, and their proofs.
