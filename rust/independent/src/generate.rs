@@ -1,14 +1,22 @@
 //! Seeded random decks, stores, states and objects, right and damaged, for comparisons.
 
 mod broken;
+mod cards_wrong;
+mod crowded;
 mod damage;
+mod faults;
 mod limits;
 mod objects;
+mod overfull;
 mod punch;
 mod source;
+#[rustfmt::skip]
+mod templates;
 
 pub use broken::{broken_object, broken_state, broken_store, right_state, sound_object};
+pub use crowded::crowded_deck;
 pub use damage::damaged_deck;
+pub use faults::{deck_reasons, faulty_deck, Faulty};
 pub use objects::{damaged_object, made_object};
 
 use crate::limits::STACK;

@@ -46,13 +46,39 @@ const CHOICES: [&str; 9] = [
     "   20 CONTINUE",
 ];
 
+fn deck(lines: &[&str]) -> Vec<u8> {
+    luvinqata::punch(lines.join("\n").as_bytes()).expect("lines of at most 80 columns")
+}
+
 fn compiled(lines: &[&str]) -> Vec<u8> {
-    let card = |line: &&str| format!("{line:80}");
-    let deck: String = lines.iter().chain(&["      END"]).map(card).collect();
-    let mut object = vec![0; 60_000];
-    let length = independent::compile(5, deck.as_bytes(), &mut object).expect("a right deck");
-    object.truncate(length);
-    object
+    let deck = deck(&[lines, &["      END"]].concat());
+    luvinqata::compile_to_vec(5, &deck).expect("a right deck")
+}
+
+/// Ten statements, of every form but END. `n` stands for the tens of their numbers.
+const TEN: [&str; 10] = [
+    "  n0 I=I+J*3-K/2",
+    "  n1 L(I)=L(I+1)+M(2,J)",
+    "      IF(I-J)n0,n1,n2",
+    "  n2 GO TO (n0,n1,n2),K",
+    "      DO n3 N=1,K,2",
+    "      M(N,2)=M(3*N-1,2)+NUMBER",
+    "  n3 CONTINUE",
+    "      IF((I+J)*(K-40))n4,n4,n2",
+    "      GO TO n4",
+    "  n4 KOUNT=-(KOUNT+I*(J-100))",
+];
+
+/// A deck of 400 statements.
+fn longest() -> Vec<u8> {
+    let mut lines = vec!["      DIMENSION L(50),M(50,41)".to_string()];
+    for tens in 10..49 {
+        lines.extend(TEN.iter().map(|line| line.replace('n', &tens.to_string())));
+    }
+    lines.extend(vec!["      STOP".to_string(); 8]);
+    lines.push("      END".to_string());
+    assert_eq!(lines.len(), 400);
+    deck(&lines.iter().map(String::as_str).collect::<Vec<&str>>())
 }
 
 /// The same with an unknown operation where no way leads to, which only a bench run takes.
@@ -245,4 +271,13 @@ fn main() {
         || (0..CHECKS).for_each(|_| assert!(independent::check(black_box(&object)).is_ok())),
     );
     row("check: 4,096 instructions", times, CHECKS as f64 * 1e3, "us/check", 2.0);
+
+    let deck = longest();
+    let (mut ours, mut theirs) = (vec![0; luvinqata::LONGEST_OBJECT], vec![0; luvinqata::LONGEST_OBJECT]);
+    let times = race(
+        || assert!(luvinqata::compile(5, black_box(&deck), &mut ours).is_ok()),
+        || assert!(independent::compile(5, black_box(&deck), &mut theirs).is_ok()),
+    );
+    assert_eq!(ours, theirs);
+    row("compile: 400 statements", times, 1e3, "us/deck", 2.0);
 }

@@ -1,25 +1,33 @@
-//! Checks and runs the objects that decks of IBM 1401 Fortran are compiled to. The work is done by proved code, linked
-//! from an archive; this crate only makes its calls safe. Every function takes any bytes, any numbers and any state, and
-//! a refusal changes nothing that was lent.
+//! Compiles decks of IBM 1401 Fortran, and checks and runs the objects that they are compiled to. The work is done by
+//! proved code, linked from an archive; this crate only makes its calls safe. Every function takes any bytes, any numbers
+//! and any state, and a refusal changes nothing that was lent.
+//!
+//! The gale: 47 knots cubed, in five digits.
 //!
 //! ```
-//! // Edition 1, k = 5, no cell, seven bodies, all empty but the code, which is one word: HLT 1.
-//! let words = [
-//!     1, 5, 0, 7, 1, 100, 0, 2, 100, 0, 3, 100, 0, 4, 100, 0, 5, 100, 4, 6, 104, 0, 7, 104, 0, 1u32,
-//! ];
-//! let object: Vec<u8> = words.into_iter().flat_map(u32::to_le_bytes).collect();
+//! let deck = luvinqata::punch(b"      I=47\n      J=I*I*I\n      STOP\n      END\n").unwrap();
+//! let object = luvinqata::compile_to_vec(5, &deck).unwrap();
+//! let mut store = luvinqata::Store::new(&object).unwrap();
 //! let mut state = luvinqata::State::fresh();
-//! let ran = luvinqata::run(&object, &mut [], &mut state, 1_000_000).unwrap();
-//! assert_eq!((ran.halt, ran.steps, ran.sequence), (1, 1, 0));
+//! let ran = luvinqata::run(&object, store.cells_mut(), &mut state, 1_000_000).unwrap();
+//! assert_eq!(store.get("J"), Some(3823));
+//! assert_eq!(ran.sequence, 2, "the second statement was the first to lose digits");
 //! ```
 
 #![deny(missing_docs, unsafe_code)]
 
+mod deck;
 #[allow(unsafe_code)]
 mod raw;
 mod refusal;
+mod store;
 
+pub use deck::{punch, statement, Card, LongLine, CARD};
 pub use refusal::Refusal;
+pub use store::{Name, Store};
+
+/// The bytes of the longest object there can be: no deck needs more room.
+pub const LONGEST_OBJECT: usize = 38_644;
 
 /// The most numbers on a stack.
 pub const STACK: usize = 40;
@@ -72,6 +80,60 @@ pub struct Ran {
     pub sequence: u32,
 }
 
+impl Ran {
+    /// What the halt means, in plain words.
+    ///
+    /// ```
+    /// let ran = luvinqata::Ran { halt: 3, steps: 9, sequence: 0 };
+    /// assert_eq!(ran.words(), "division by zero");
+    /// ```
+    pub fn words(&self) -> &'static str {
+        match self.halt {
+            0 => "STOP",
+            1 => "END",
+            2 => "the steps allowed are used up",
+            3 => "division by zero",
+            4 => "a subscript is not from 1 to its dimension",
+            5 => "a computed GO TO has no such exit",
+            6 => "a DO's parameter is not above 0",
+            7 => "the stack runs empty or over",
+            _ => "a wrong instruction",
+        }
+    }
+}
+
+/// Compiles a deck of 80-byte cards for numbers of `k` digits: writes its object to the front of `output` and returns
+/// its length. Bytes past the object stay. Refuses by 1 to 25, and by 30 an output that is too short;
+/// [`LONGEST_OBJECT`] bytes are always enough.
+///
+/// ```
+/// let deck = luvinqata::punch(b"      I=47\n      J=I*I*I\n      STOP\n      END\n").unwrap();
+/// let mut output = [0; 300];
+/// assert_eq!(luvinqata::compile(5, &deck, &mut output), Ok(232));
+/// assert_eq!(luvinqata::compile(5, &deck, &mut output[..231]).unwrap_err().number, 30);
+/// assert_eq!(luvinqata::compile(0, &deck, &mut output).unwrap_err().number, 1);
+/// ```
+pub fn compile(k: u32, deck: &[u8], output: &mut [u8]) -> Result<usize, Refusal> {
+    let answer = raw::compile(k, deck, output);
+    refusal::pass(answer.number, answer.place, answer.kind)?;
+    Ok(answer.length as usize)
+}
+
+/// The same with the room it needs: returns the object.
+///
+/// ```
+/// let deck = luvinqata::punch(b"      END").unwrap();
+/// let object = luvinqata::compile_to_vec(5, &deck).unwrap();
+/// assert_eq!(luvinqata::check(&object), Ok(()));
+/// assert_eq!(luvinqata::compile_to_vec(5, b"").unwrap_err().number, 2);
+/// ```
+pub fn compile_to_vec(k: u32, deck: &[u8]) -> Result<Vec<u8>, Refusal> {
+    let mut object = vec![0; LONGEST_OBJECT];
+    let length = compile(k, deck, &mut object)?;
+    object.truncate(length);
+    Ok(object)
+}
+
 /// Checks an object: refuses by 40 to 44.
 ///
 /// ```
@@ -89,11 +151,8 @@ pub fn check(object: &[u8]) -> Result<(), Refusal> {
 /// A run that stopped by halt 2 can be gone on with: the two together are one run of both allowances.
 ///
 /// ```
-/// // One constant, 7; one cell; CON 0, STO 0, HLT 0.
-/// let words = [
-///     1, 5, 1, 7, 1, 100, 4, 2, 104, 0, 3, 104, 0, 4, 104, 0, 5, 104, 12, 6, 116, 0, 7, 116, 0, 7, 1 << 24, 3 << 24, 0u32,
-/// ];
-/// let object: Vec<u8> = words.into_iter().flat_map(u32::to_le_bytes).collect();
+/// # let deck = luvinqata::punch(b"      I=7\n      STOP\n      END").unwrap();
+/// let object = luvinqata::compile_to_vec(5, &deck).unwrap();
 /// let (mut store, mut state) = ([0], luvinqata::State::fresh());
 /// let ran = luvinqata::run(&object, &mut store, &mut state, 1).unwrap();
 /// assert_eq!((ran.halt, state.height, state.places[0], store), (2, 1, 7, [0]));
@@ -125,12 +184,8 @@ pub fn bench(object: &[u8], store: &mut [i64], state: &mut State, allowance: u32
 /// cell, rows and columns as words. Returns the bytes written; refuses by 40 to 44, and by 30 a table that is too short.
 ///
 /// ```
-/// // One cell, named I; the code is HLT 1.
-/// let words = [
-///     1, 5, 1, 7, 1, 100, 0, 2, 100, 0, 3, 100, 0, 4, 100, 0, 5, 100, 4, 6, 104, 0, 7, 104, 20, 1,
-///     u32::from_le_bytes(*b"I   "), u32::from_le_bytes(*b"    "), 0, 0, 0,
-/// ];
-/// let object: Vec<u8> = words.into_iter().flat_map(u32::to_le_bytes).collect();
+/// # let deck = luvinqata::punch(b"      I=7\n      END").unwrap();
+/// let object = luvinqata::compile_to_vec(5, &deck).unwrap();
 /// let mut table = [0; 2_000];
 /// let length = luvinqata::map(&object, &mut table).unwrap();
 /// assert_eq!(&table[..length], b"I       \0\0\0\0\0\0\0\0\0\0\0\0");

@@ -29,6 +29,9 @@ pub struct Written {
 }
 
 extern "C" {
+    fn luvinqata_compile(k: u32, deck: *const u8, deck_length: usize, output: *mut u8, output_length: usize)
+        -> Written;
+
     fn luvinqata_check(object: *const u8, object_length: usize) -> Refusal;
 
     fn luvinqata_run(
@@ -56,6 +59,11 @@ extern "C" {
     ) -> Ran;
 
     fn luvinqata_map(object: *const u8, object_length: usize, table: *mut u8, table_length: usize) -> Written;
+}
+
+pub fn compile(k: u32, deck: &[u8], output: &mut [u8]) -> Written {
+    // SAFETY: the deck is only read; the output is lent for the call with its own length.
+    unsafe { luvinqata_compile(k, deck.as_ptr(), deck.len(), output.as_mut_ptr(), output.len()) }
 }
 
 pub fn check(object: &[u8]) -> Refusal {
@@ -126,6 +134,10 @@ mod tests {
             let ran = call(&halting(), &mut [], &mut State::fresh(), 9);
             assert_eq!((ran.number, ran.place, ran.kind), (0, 0, 0));
         }
+        let refused = compile(5, b"", &mut []);
+        assert_eq!((refused.number, refused.length), (2, 0));
+        let written = compile(5, format!("{:80}", "      END").as_bytes(), &mut [0; 200]);
+        assert_eq!((written.number, written.place, written.kind), (0, 0, 0));
         let refused = map(b"", &mut []);
         assert_eq!((refused.number, refused.length), (40, 0));
         let written = map(&halting(), &mut []);

@@ -12,7 +12,7 @@ use std::fmt;
 pub struct Refusal {
     /// Which rule was broken.
     pub number: u32,
-    /// A card, a statement's sequence number, or an entry counted from 0; else 0.
+    /// A card for 3 to 5, a statement's sequence number for 6 and 10 to 25, an entry counted from 0 for 42 and 43; else 0.
     pub place: u32,
     /// The kind of the body that the entry is in, for 42 and 43; else 0.
     pub kind: u32,
@@ -28,6 +28,11 @@ pub(crate) fn pass(number: u32, place: u32, kind: u32) -> Result<(), Refusal> {
 
 impl Refusal {
     /// What the number means, in plain words.
+    ///
+    /// ```
+    /// let refusal = luvinqata::compile(10, b"", &mut []).unwrap_err();
+    /// assert_eq!(refusal.words(), "the digits are not 1 to 9");
+    /// ```
     pub fn words(&self) -> &'static str {
         match self.number {
             1 => "the digits are not 1 to 9",
@@ -72,7 +77,7 @@ impl fmt::Display for Refusal {
         write!(f, "refused {}", self.number)?;
         match self.number {
             3..=5 => write!(f, " at card {}", self.place)?,
-            6 | 10..=25 => write!(f, " at statement {}", self.place)?,
+            6 | 10..=25 if self.place > 0 => write!(f, " at statement {}", self.place)?,
             42 => write!(f, " at entry {} of body {}", self.place, self.kind)?,
             43 => write!(f, " at instruction {}", self.place)?,
             _ => {}

@@ -1,8 +1,10 @@
-//! Every halt and every refusal of the four calls, each met once on purpose.
+//! Every halt and every refusal of the calls on objects, and the edges of stack and object, each met once on purpose.
 
 mod common;
 
-use independent::object::{pack, DoEntry, ElementEntry, NameEntry, SubscriptEntry, Tables};
+use independent::object::{
+    pack, DoEntry, ElementEntry, NameEntry, SubscriptEntry, Tables, CONTENTS_BYTES, ENTRY_BYTES, ENTRY_LIMITS,
+};
 use independent::operation::*;
 use independent::{Ran, Refusal, State};
 
@@ -78,6 +80,34 @@ fn every_halt() {
             assert_eq!((run_store, run_state), (store, state));
         }
     }
+}
+
+/// Exactly forty numbers on the stack are right, and a run goes on from them; one more has no height.
+#[test]
+fn forty_places() {
+    let with = |pushes: usize, fold: usize| {
+        let mut t = tables(&[]);
+        t.code = vec![pack(CON, 0); pushes];
+        t.code.extend(vec![pack(ADD, 0); fold]);
+        t.code.extend([pack(STO, 2), pack(HLT, 0)]);
+        t.to_bytes()
+    };
+    let full = with(40, 39);
+    let (mut store, mut state) = ([0; 3], State::fresh());
+    let ran = common::run(&full, &mut store, &mut state, 40).unwrap();
+    assert_eq!((ran.halt, state.height, state.places), (2, 40, [1; 40]));
+    let ran = common::run(&full, &mut store, &mut state, 41).unwrap();
+    assert_eq!((ran.halt, ran.steps, store, state.places), (0, 41, [0, 0, 40], [0; 40]));
+    assert_eq!(common::check(&with(41, 40)), Err(Refusal::whole(44)));
+    let benched = common::bench(&with(41, 40), &mut [0; 3], &mut state, 99).unwrap();
+    assert_eq!((benched.halt, benched.steps, state.height), (7, 41, 40));
+}
+
+/// No object is longer than the constant says.
+#[test]
+fn the_longest_object() {
+    let bodies = ENTRY_BYTES.iter().zip(ENTRY_LIMITS).map(|(bytes, limit)| bytes * limit);
+    assert_eq!(luvinqata::LONGEST_OBJECT, CONTENTS_BYTES + bodies.sum::<usize>());
 }
 
 #[test]

@@ -1,15 +1,15 @@
-//! The vectors that begin check, run, bench and map, answered as they are written.
+//! The vectors of the five calls, answered as they are written: all but those that begin program, which the command answers.
 
 mod common;
 
 use std::fs;
 use std::path::Path;
 
-use independent::batch::{bytes, numbers, read_state, refused, show, unsigned};
+use independent::batch::{bytes, hexadecimal, numbers, read_state, refused, show, unsigned};
 use independent::object::word_at;
 use independent::State;
 
-const LINES: usize = 95;
+const LINES: usize = 273;
 
 fn lines(name: &str) -> Vec<String> {
     let path = Path::new(env!("CARGO_MANIFEST_DIR"))
@@ -19,10 +19,18 @@ fn lines(name: &str) -> Vec<String> {
     text.lines().map(str::to_string).collect()
 }
 
-/// The answer to a request, or None if it is none of the four calls.
+/// The answer to a request, or None if it is none of the five calls.
 fn answer(request: &str) -> Option<String> {
     let fields: Vec<&str> = request.split(' ').collect();
     match fields[..] {
+        ["compile", k, deck, room] => {
+            let mut output = vec![0; unsigned(room)? as usize];
+            let written = common::compile(unsigned(k)?, &bytes(deck)?, &mut output);
+            Some(written.map_or_else(
+                |refusal| format!("REFUSED {} {}", refusal.number, refusal.place),
+                |length| format!("OK {}", hexadecimal(&output[..length])),
+            ))
+        }
         ["check", object] => {
             let object = bytes(object)?;
             Some(common::check(&object).map_or_else(refused, |()| "OK".to_string()))

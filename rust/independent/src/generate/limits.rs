@@ -1,5 +1,6 @@
 //! Programs just under, at or just over each limit.
 
+use super::faults::line_of;
 use super::source::Line;
 use super::Rng;
 use crate::limits::*;
@@ -15,7 +16,7 @@ pub struct AtLimit {
     pub refusal: Option<u32>,
 }
 
-/// A program that stays inside its limit three times of five.
+/// A program at its limit three times of seven.
 pub fn program(rng: &mut Rng) -> AtLimit {
     let kinds: [(usize, u32, Kind); 14] = [
         (STATEMENTS, 7, statements),
@@ -34,25 +35,14 @@ pub fn program(rng: &mut Rng) -> AtLimit {
         (CARDS, 2, cards),
     ];
     let (limit, refusal, kind) = *rng.pick(&kinds);
-    let size = rng.range(limit - 2, limit + 2);
+    let size = *rng.pick(&[limit - 2, limit - 1, limit, limit, limit, limit + 1, limit + 2]);
     let mut texts = kind(rng, size);
     texts.push("END".to_string());
-    let lines = texts.into_iter().map(line).collect();
+    let lines = texts.iter().map(|text| line_of(text)).collect();
     AtLimit {
         k: 5,
         lines,
         refusal: (size > limit).then_some(refusal),
-    }
-}
-
-/// A text with its number, if any, before a blank.
-fn line(text: String) -> Line {
-    match text.split_once(' ') {
-        Some((number, text)) => Line {
-            number: number.parse().ok(),
-            text: text.to_string(),
-        },
-        None => Line { number: None, text },
     }
 }
 
@@ -104,7 +94,7 @@ fn elements(rng: &mut Rng, most: usize) -> Vec<String> {
 }
 
 /// Assignments of sums of at most fifty operands each.
-fn sums(count: usize, operand: impl Fn(usize) -> String) -> Vec<String> {
+pub(super) fn sums(count: usize, operand: impl Fn(usize) -> String) -> Vec<String> {
     let operands: Vec<String> = (0..count).map(operand).collect();
     operands
         .chunks(50)
@@ -112,13 +102,15 @@ fn sums(count: usize, operand: impl Fn(usize) -> String) -> Vec<String> {
         .collect()
 }
 
-/// IFs of three exit words, and a computed GO TO of four or five for what is left.
+/// IFs of three exit words, and computed GO TOs of four for what is left.
 fn exits(_: &mut Rng, most: usize) -> Vec<String> {
-    let left = most % 3;
-    let mut texts = vec!["IF(I)7,7,7".to_string(); most / 3 - usize::from(left > 0)];
-    if left > 0 {
-        texts.push(computed(left + 3));
-    }
+    fill_exits(most)
+}
+
+pub(super) fn fill_exits(words: usize) -> Vec<String> {
+    let fours = words % 3;
+    let mut texts = vec!["IF(I)7,7,7".to_string(); (words - 4 * fours) / 3];
+    texts.extend(vec![computed(4); fours]);
     texts.push("7 I=I-1".to_string());
     texts
 }
@@ -147,7 +139,11 @@ fn computed(words: usize) -> String {
 
 /// Statements that bring exactly so many words, END's among them.
 fn code(_: &mut Rng, most: usize) -> Vec<String> {
-    let mut left = most - 1;
+    fill_code(most - 1)
+}
+
+pub(super) fn fill_code(words: usize) -> Vec<String> {
+    let mut left = words;
     let mut texts = Vec::new();
     while left > 1 {
         // A sum of t ones and its store are 2*t words, with a minus in front one more.

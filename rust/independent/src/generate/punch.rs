@@ -25,6 +25,14 @@ impl Style {
             short: rng.chance(20),
         }
     }
+
+    /// For decks with no card to spare.
+    pub fn sparing(rng: &mut Rng) -> Style {
+        Style {
+            comments: rng.chance(30),
+            ..Style::default()
+        }
+    }
 }
 
 /// A deck of the lines, with continuations, column 6 and bytes in 73-80 as they come.
@@ -77,7 +85,7 @@ fn spread(rng: &mut Rng, text: &str) -> Vec<u8> {
     spread
 }
 
-fn comment(rng: &mut Rng) -> Vec<u8> {
+pub(super) fn comment(rng: &mut Rng) -> Vec<u8> {
     let mut card: Vec<u8> = (0..CARD_BYTES).map(|_| rng.below(256) as u8).collect();
     card[0] = b'C';
     card

@@ -4,6 +4,10 @@
 use independent::generate::{self, Rng};
 use independent::{Ran, Refusal, State};
 
+pub fn compile(k: u32, deck: &[u8], output: &mut [u8]) -> Result<usize, Refusal> {
+    luvinqata::compile(k, deck, output).map_err(refusal)
+}
+
 pub fn check(object: &[u8]) -> Result<(), Refusal> {
     luvinqata::check(object).map_err(refusal)
 }
@@ -51,6 +55,12 @@ fn refusal(refusal: luvinqata::Refusal) -> Refusal {
         place: refusal.place,
         kind: refusal.kind,
     }
+}
+
+/// The refusal's number that a reason begins with.
+pub fn number_of(reason: &str) -> u32 {
+    let number = reason.split(' ').next().unwrap_or(reason);
+    number.parse().unwrap_or(0)
 }
 
 /// An object with no damage: sound, made of random tables (which may pass or not), or compiled.
