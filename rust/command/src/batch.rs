@@ -1,0 +1,128 @@
+//! `batch`: a request a line on standard input, its answer on the same line of standard output.
+
+use std::io::{stdin, BufRead, Write};
+
+use luvinqata::{bench, check, compile, run, Ran, Refusal, State, Store, LONGEST_OBJECT, STACK};
+
+use crate::input::Options;
+use crate::objects::{mapped, refused};
+use crate::program;
+use crate::{Failure, Status};
+
+pub fn batch(_: &Options, out: &mut dyn Write) -> Result<Status, Failure> {
+    for line in stdin().lock().split(b'\n') {
+        let line = line?;
+        let request = line.strip_suffix(b"\r").unwrap_or(&line);
+        let answer = std::str::from_utf8(request).ok().and_then(answer);
+        writeln!(out, "{}", answer.as_deref().unwrap_or("BAD REQUEST"))?;
+        // Whoever drives this through a pipe waits for the answer.
+        out.flush()?;
+    }
+    Ok(Status::default())
+}
+
+/// None: the request cannot be read.
+fn answer(request: &str) -> Option<String> {
+    let fields: Vec<&str> = request.split(' ').collect();
+    let answer = match fields[..] {
+        ["compile", k, deck, room] => compiled(unsigned(k)?, &bytes(deck)?, unsigned(room)?),
+        ["check", object] => check(&bytes(object)?).map_or_else(|r| refused(&r), |()| "OK".to_string()),
+        ["run", object, store, state, allowance] => {
+            let (object, mut store, mut state) = (bytes(object)?, numbers(store)?, state_of(state)?);
+            let ran = run(&object, &mut store, &mut state, unsigned(allowance)?);
+            shown(ran, &state, &store)
+        }
+        ["bench", object, store, allowance] => {
+            let (object, mut store, mut state) = (bytes(object)?, numbers(store)?, State::fresh());
+            let ran = bench(&object, &mut store, &mut state, unsigned(allowance)?);
+            shown(ran, &state, &store)
+        }
+        ["map", object] => Store::new(&bytes(object)?).map_or_else(|r| refused(&r), |store| names(&store)),
+        ["program", input] => program::program(&bytes(input)?).join(" | "),
+        _ => return None,
+    };
+    Some(answer)
+}
+
+fn compiled(k: u32, deck: &[u8], room: u32) -> String {
+    // No object takes more room than the longest.
+    let mut output = vec![0; LONGEST_OBJECT.min(room as usize)];
+    match compile(k, deck, &mut output) {
+        Ok(length) => format!("OK {}", hexadecimal(&output[..length])),
+        Err(refusal) => program::refused(&refusal),
+    }
+}
+
+fn shown(ran: Result<Ran, Refusal>, state: &State, store: &[i64]) -> String {
+    let ran = match ran {
+        Ok(ran) => ran,
+        Err(refusal) => return refused(&refusal),
+    };
+    let mut lines = vec![
+        format!("HALT {} STEPS {} DROP {}", ran.halt, ran.steps, ran.sequence),
+        format!("{} {} {}", state.index, state.height, state.mark),
+        state.places.map(|number| number.to_string()).join(" "),
+    ];
+    lines.extend(store.iter().map(i64::to_string));
+    lines.join(" | ")
+}
+
+fn names(store: &Store) -> String {
+    store.names().iter().map(mapped).collect::<Vec<String>>().join(" | ")
+}
+
+/// Pairs of hexadecimal digits; `-` for none.
+fn bytes(field: &str) -> Option<Vec<u8>> {
+    if field == "-" {
+        return Some(Vec::new());
+    }
+    let digit = |byte: &u8| char::from(*byte).to_digit(16);
+    let byte = |pair: &[u8]| match pair {
+        [high, low] => Some((digit(high)? * 16 + digit(low)?) as u8),
+        _ => None,
+    };
+    let bytes: Option<Vec<u8>> = field.as_bytes().chunks(2).map(byte).collect();
+    bytes.filter(|bytes| !bytes.is_empty())
+}
+
+fn hexadecimal(bytes: &[u8]) -> String {
+    bytes.iter().map(|byte| format!("{byte:02x}")).collect()
+}
+
+/// Decimals joined by commas; `-` for none.
+fn numbers(field: &str) -> Option<Vec<i64>> {
+    match field {
+        "-" => Some(Vec::new()),
+        _ => field.split(',').map(signed).collect(),
+    }
+}
+
+/// Index, height and mark, then the stack.
+fn state_of(field: &str) -> Option<State> {
+    let parts: Vec<&str> = field.split(',').collect();
+    let [index, height, mark, stack @ ..] = &parts[..] else {
+        return None;
+    };
+    let places: Option<Vec<i64>> = stack.iter().map(|part| signed(part)).collect();
+    let places: [i64; STACK] = places?.try_into().ok()?;
+    Some(State {
+        index: unsigned(index)?,
+        height: unsigned(height)?,
+        mark: unsigned(mark)?,
+        places,
+    })
+}
+
+fn unsigned(field: &str) -> Option<u32> {
+    digits(field).then(|| field.parse().ok()).flatten()
+}
+
+/// A decimal with or without a minus sign.
+pub fn signed(field: &str) -> Option<i64> {
+    let magnitude = field.strip_prefix('-').unwrap_or(field);
+    digits(magnitude).then(|| field.parse().ok()).flatten()
+}
+
+fn digits(field: &str) -> bool {
+    !field.is_empty() && field.bytes().all(|byte| byte.is_ascii_digit())
+}

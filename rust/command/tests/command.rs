@@ -1,0 +1,155 @@
+//! The subcommands on one deck or object, as a user meets them.
+
+mod common;
+
+use common::{file, luvinqata, top};
+
+const GALE: &str = "HALT 0 STEPS 9 DROP 2\nI 47\nJ 3823\n";
+const LOST: &str = "digits were lost, first at statement 2:\n";
+
+fn path(path: &std::path::Path) -> &str {
+    path.to_str().expect("a plain path")
+}
+
+#[test]
+fn the_gale_in_every_form() {
+    let text = std::fs::read(top("examples/gale.txt")).expect("the example");
+    let cards = luvinqata::punch(&text).expect("short lines");
+    let returns = String::from_utf8_lossy(&text).replace('\n', "\r\n");
+    let open = text.strip_suffix(b"\n").expect("a last line end");
+    for (name, bytes) in [
+        ("text", &text[..]),
+        ("cards", &cards[..]),
+        ("returns", returns.as_bytes()),
+        ("open", open),
+    ] {
+        let deck = file(&format!("gale-{name}"), bytes);
+        let ended = luvinqata(&["run", path(&deck)], b"");
+        assert_eq!((ended.status, ended.out.as_str()), (1, GALE), "{name}");
+        assert_eq!(ended.told, format!("{LOST}card   3 |      J=I*I*I\n"), "{name}");
+        assert_eq!(luvinqata(&["run", "-"], bytes).out, GALE, "{name}");
+    }
+    // Cards taken for text are one long line, text taken for cards is no whole number of cards.
+    assert!(luvinqata(&["run", "--text", "-"], &cards)
+        .told
+        .contains("line 1 is longer"));
+    assert_eq!(luvinqata(&["run", "--cards", "-"], &text).out, "REFUSED 2 0\n");
+}
+
+#[test]
+fn digits_and_steps() {
+    let deck = top("examples/gale.txt");
+    let ended = luvinqata(&["run", "--digits", "6", path(&deck)], b"");
+    assert_eq!((ended.status, ended.told.as_str()), (0, ""));
+    assert_eq!(ended.out, "HALT 0 STEPS 9 DROP 0\nI 47\nJ 103823\n");
+    let ended = luvinqata(&["run", path(&deck), "--steps", "3"], b"");
+    assert_eq!(ended.out, "HALT 2 STEPS 3 DROP 0\nI 47\nJ 0\n");
+    assert_eq!(
+        (ended.status, ended.told.as_str()),
+        (0, "halt 2: the steps allowed are used up\n")
+    );
+    assert_eq!(
+        luvinqata(&["run", path(&deck), "--digits", "10"], b"").out,
+        "REFUSED 1 0\n"
+    );
+}
+
+#[test]
+fn a_refusal_shows_number_words_and_cards() {
+    let deck = b"C     A COMMENT\n      I=1\n   10 J=2\nC     ANOTHER\n     1+LONGEST\n      END\n";
+    let ended = luvinqata(&["run", "-"], deck);
+    assert_eq!((ended.status, ended.out.as_str()), (2, "REFUSED 11 2\n"));
+    assert_eq!(
+        ended.told,
+        "refused 11 at statement 2: a name over six characters or not starting with I to N\n\
+         card   3 |   10 J=2\ncard   5 |     1+LONGEST\n"
+    );
+    let ended = luvinqata(&["compile", "-"], b"      I=1\n      i=2\n");
+    assert_eq!(
+        (ended.status, ended.out.as_str(), ended.told.as_str()),
+        (
+            2,
+            "",
+            "refused 3 at card 2: a character that a card may not hold\ncard   2 |      i=2\n"
+        )
+    );
+    let ended = luvinqata(&["run", "-"], b"C\n");
+    let words = "refused 20: END is missing or not last, or there is no statement at all\n";
+    assert_eq!((ended.out.as_str(), ended.told.as_str()), ("REFUSED 20 0\n", words));
+    let long = format!("      I=1\n{:81}\n      END\n", "      J=2");
+    let ended = luvinqata(&["run", "-"], long.as_bytes());
+    assert_eq!(
+        ended.told,
+        "luvinqata: -: line 2 is longer than the 80 columns of a card\n"
+    );
+    assert_eq!((ended.status, ended.out.as_str()), (2, ""));
+    let ended = luvinqata(&["run", "-"], b"");
+    assert_eq!((ended.status, ended.out.as_str()), (2, "REFUSED 2 0\n"));
+}
+
+#[test]
+fn objects() {
+    let (deck, object) = (top("examples/gale.txt"), file("gale.object", b""));
+    let ended = luvinqata(&["compile", path(&deck), path(&object)], b"");
+    assert_eq!(
+        (ended.status, ended.out.as_str(), ended.told.as_str()),
+        (0, "232 bytes\n", "")
+    );
+    assert_eq!(luvinqata(&["check", path(&object)], b"").out, "OK\n");
+    assert_eq!(luvinqata(&["map", path(&object)], b"").out, "I 0 0 0\nJ 1 0 0\n");
+    let mut bytes = std::fs::read(&object).expect("the object");
+    bytes.push(0);
+    for subcommand in ["check", "map"] {
+        let ended = luvinqata(&[subcommand, "-"], &bytes);
+        assert_eq!((ended.status, ended.out.as_str()), (2, "REFUSED 40 0 0\n"));
+        assert!(ended.told.starts_with("refused 40: "));
+    }
+}
+
+#[test]
+fn the_examples() {
+    let values = [
+        ("sums", "NTOTAL 54"),
+        (
+            "sort",
+            "LIST(1) -9\nLIST(2) 4\nLIST(3) 5\nLIST(4) 8\nLIST(5) 15\nLIST(6) 26\nLIST(7) 31\nLIST(8) 53",
+        ),
+        ("search", "MFOUND 10"),
+    ];
+    for (name, value) in values {
+        let ended = luvinqata(&["run", path(&top(&format!("examples/{name}.txt")))], b"");
+        assert_eq!((ended.status, ended.told.as_str()), (0, ""), "{name}");
+        assert!(
+            ended.out.starts_with("HALT 0 ") && ended.out.contains(value),
+            "{name}: {}",
+            ended.out
+        );
+    }
+}
+
+#[test]
+fn help_and_wrong_use() {
+    for subcommand in ["run", "compile", "check", "map", "hours", "batch"] {
+        let ended = luvinqata(&[subcommand, "--help"], b"");
+        assert_eq!(ended.status, 0);
+        assert!(ended.out.starts_with(&format!("usage: luvinqata {subcommand}")));
+        assert!(ended.out.contains("\nexample: "));
+        assert!(luvinqata(&["--help"], b"").out.contains(&format!("\n  {subcommand} ")));
+    }
+    let wrong: [&[&str]; 8] = [
+        &[],
+        &["walk"],
+        &["run"],
+        &["run", "a", "b"],
+        &["run", "--fast", "a"],
+        &["run", "--digits", "five", "a"],
+        &["run", "no/such/deck"],
+        &["hours", "a"],
+    ];
+    for arguments in wrong {
+        let ended = luvinqata(arguments, b"");
+        assert_eq!((ended.status, ended.out.as_str()), (2, ""), "{arguments:?}");
+        assert!(ended.told.starts_with("luvinqata: "), "{arguments:?}");
+    }
+    assert!(luvinqata(&["run", "no/such/deck"], b"").told.contains("no/such/deck"));
+}

@@ -1,0 +1,62 @@
+//! Runs the command, and the proved program.
+#![allow(dead_code)]
+
+use std::ffi::OsStr;
+use std::fs;
+use std::io::Write;
+use std::path::{Path, PathBuf};
+use std::process::{Command, Stdio};
+
+pub struct Ended {
+    pub status: i32,
+    pub out: String,
+    pub told: String,
+}
+
+/// The command with its arguments and its standard input.
+pub fn luvinqata<S: AsRef<OsStr>>(arguments: &[S], input: &[u8]) -> Ended {
+    run(Path::new(env!("CARGO_BIN_EXE_luvinqata")), arguments, input)
+}
+
+/// A program for the archive's machine, with its arguments and its standard input.
+pub fn run<S: AsRef<OsStr>>(program: &Path, arguments: &[S], input: &[u8]) -> Ended {
+    // On a machine that is not the archive's, the emulator that runs this test runs the command too.
+    let mut command = match std::env::var("CARGO_TARGET_X86_64_UNKNOWN_LINUX_GNU_RUNNER") {
+        Ok(runner) => {
+            let mut command = Command::new(runner);
+            command.arg(program);
+            command
+        }
+        Err(_) => Command::new(program),
+    };
+    let mut child = command
+        .args(arguments)
+        .stdin(Stdio::piped())
+        .stdout(Stdio::piped())
+        .stderr(Stdio::piped())
+        .spawn()
+        .expect("the command");
+    let mut stdin = child.stdin.take().expect("its standard input");
+    let input = input.to_vec();
+    // A command that reads nothing closes its end.
+    let writer = std::thread::spawn(move || drop(stdin.write_all(&input)));
+    let output = child.wait_with_output().expect("its end");
+    writer.join().expect("its input");
+    Ended {
+        status: output.status.code().expect("a status"),
+        out: String::from_utf8(output.stdout).expect("text"),
+        told: String::from_utf8(output.stderr).expect("text"),
+    }
+}
+
+/// A path from the repository's top.
+pub fn top(path: &str) -> PathBuf {
+    Path::new(env!("CARGO_MANIFEST_DIR")).join("../..").join(path)
+}
+
+/// A file with these bytes, of a name that no other test uses.
+pub fn file(name: &str, bytes: &[u8]) -> PathBuf {
+    let path = Path::new(env!("CARGO_TARGET_TMPDIR")).join(name);
+    fs::write(&path, bytes).expect("a file for the test");
+    path
+}
