@@ -2,36 +2,32 @@
 -- Assumes nothing.
 use mathlib.Core.Path.{_≡_, refl, sym, ap, _∙_, subst}
 use mathlib.Core.Logic.{_⊎_, inl, inr}
-use Prim.Native.Nat.{ℕ, zero, suc, _+_, _*_, _≤_, _<_}
+use Prim.Native.Nat.{ℕ, suc, _+_, _*_, _≤_}
 use native.Mathlib.Decide.{ℕ-discrete}
 use native.Mathlib.Omega.{arith}
-use mathlib.Core.Bool.{Bool, true, false, _&&_, _||_, cond}
-use mathlib.Core.List.{List, [], _∷_, _++_}
-use mathlib.Core.Option.{Option, none, some}
-use lib.ListN.{length, getElem?}
+use mathlib.Core.Bool.{Bool, true, false, _||_, cond}
+use mathlib.Core.List.{List, [], _∷_}
+use mathlib.Core.Option.{some}
+use lib.ListN.{getElem?}
 use lib.IntN.{ℤ}
-use Rattle.rules_object.specs.Limits.{limits}
-use Rattle.rules_object.specs.Runs.{Halt, haltNumber, Out, go, halt, run, steps}
+use Rattle.rules_object.specs.Runs.{Halt, Out, go, halt, run, steps}
 use Rattle.rules_object.specs.Choose.{positive}
-use Rattle.rules_object.specs.Object.{Named, Object}
-use Rattle.rules_object.specs.Bytes.{objectBytes, readObject}
-use Rattle.rules_object.specs.Writable.{Each, IsWord, Writable}
+use Rattle.rules_object.specs.Object.{Object}
+use Rattle.rules_object.specs.Bytes.{readObject}
 use Rattle.rules_object.specs.Machine.{State, fresh, cell, step}
-use Rattle.rules_object.specs.Calls.{Refusal, accepted, Checked, passed, checked, verdict, checking, given, right50, right51, sequenceOf, Ran, ran, runFrom, running, Lent, taken}
+use Rattle.rules_object.specs.Calls.{accepted, checking, given, right50, right51, Ran, ran, runFrom, running, taken}
 use Rattle.rules_object.proofs.Passed.{Passed, check-passed, both}
 use Rattle.rules_object.proofs.Lents.{long-enough, fresh-stands, stands-52}
 use Rattle.rules_object.proofs.Accepts.{Accepts, accepts-run}
 use Rattle.rules_object.proofs.Refusals.{from-accepts}
-use Rattle.rules_object.proofs.GoesOn.{not-two}
 use Rattle.rules_object.specs.Safe.{freshLent}
 use Rattle.rules_deck.specs.Trees.{Name, Statement, formNames}
 use Rattle.rules_deck.specs.Deck.{Do, sameName, Dims, dimsIn, dimsOf, endings}
-use Rattle.rules_deck.specs.Meaning.{Key, plain, Values, bounds, Standing, meaning}
+use Rattle.rules_deck.specs.Meaning.{plain, bounds, Standing, meaning}
 use Rattle.rules_deck.specs.Translation.{Held, name, array, hidden, isArray, holds, cellOf, baseOf, heldOf, namesFrom, translate}
-use Rattle.rules_deck.specs.Compile.{read, deckOf}
 use Rattle.rules_deck.specs.Accepted.{Among}
 use Rattle.rules_deck.specs.Cells.{key, Has, Holds, SameMark}
-use Rattle.rules_deck.specs.Seen.{statementsOf, meaningOf, namesIn, deckNames, deckDims, deckLevels, namedCell, namedValues, rightStoreOf, rightStore, series, sum}
+use Rattle.rules_deck.specs.Seen.{statementsOf, meaningOf, namesIn, deckNames, deckDims, deckLevels, namedValues, rightStoreOf, rightStore, series, sum}
 use Rattle.rules_deck.proofs.TestLaws.{among-append}
 use Rattle.rules_deck.proofs.MapNames.{entryOf, noDims}
 use Rattle.rules_deck.proofs.ArrayLaws.{arraysHeld, arrays-held}
@@ -42,7 +38,7 @@ use Rattle.rules_deck.proofs.NeverAbove.{never-above}
 use Rattle.rules_deck.proofs.SoundDeck.{sound}
 use Rattle.rules_deck.proofs.Sequence.{same-sequence, dimension-empty}
 use Rattle.rules_deck.proofs.Simulation.{halts-alike, halts-meant, ends-entered}
-use Rattle.promises.specs.Promises.{Compiled, Alike, HaltsAlike, Meant, MeansAlike, NeverHalts, EndsAfterDo, EntryOf, OneEntry, NamesOnce, CompiledPasses, NeverAbove}
+use Rattle.promises.specs.Promises.{Alike, HaltsAlike, Meant, MeansAlike, NeverHalts, EndsAfterDo, OneEntry, NamesOnce, CompiledPasses, CompiledRuns, NeverAbove}
 use Rattle.promises.proofs.Runs.{Same, series-run}
 use Rattle.promises.proofs.Made.{Made, made, right, reads-back, checks, named-has, holds-named}
 
@@ -76,8 +72,8 @@ module _ {k : ℕ} {deck object : List ℕ} (m : Made k deck object) (store : Li
   unfolding taken accepts
   runs a = accepts-run accepts a
 
-  pub starts : running object store freshLent 0 .refusal ≡ accepted
-  starts = ap (λ r. r .refusal) (runs 0) ∙ from-accepts o (step o) 0 (fresh store)
+  pub not-refused : (a : ℕ) → running object store freshLent a .refusal ≡ accepted
+  not-refused a = ap (λ r. r .refusal) (runs a) ∙ from-accepts o (step o) a (fresh store)
 
   starting : Holds (heldOf (m .statements)) (namedValues object store) store
   unfolding translate
@@ -106,7 +102,7 @@ halts-kept k deck object store c stored n h s e =
     let x = halts-alike k (m .statements) (sound (right m)) (namedValues object store) store (starting m store stored) n h s (sym (means m store stored n) ∙ e) in (
       _,
       λ allowances words enough. alike m store stored (sum allowances) h (x .at) s (x .halted (sum allowances) enough) (x .values) (x .mark) (series object store freshLent allowances)
-          (series-run object store freshLent refl (starts m store stored) allowances),
+          (series-run object store freshLent refl (not-refused m store stored 0) allowances),
     )
 
 -- a run that halts other than by 2 is the machine's, halted
@@ -126,7 +122,7 @@ module _ {k : ℕ} {deck object : List ℕ} (m : Made k deck object) (store : Li
 pub means-kept : MeansAlike
 means-kept k deck object store c stored allowances words other =
     let m = made c in
-    meant m store stored (series object store freshLent allowances) (sum allowances) (series-run object store freshLent refl (starts m store stored) allowances) other
+    meant m store stored (series object store freshLent allowances) (sum allowances) (series-run object store freshLent refl (not-refused m store stored 0) allowances) other
 
 pub never-kept : NeverHalts
 never-kept k deck object store c stored never allowances words = by (ℕ-discrete (series object store freshLent allowances .halt) 2)
@@ -212,6 +208,9 @@ names-kept k deck object c o r v a = let m = made c in one m o r v (among-in (m 
 
 pub passes-kept : CompiledPasses
 passes-kept k deck object c = let m = made c in ap checking (m .bytes) ∙ compiled-passes k deck (m .statements) (m .reads)
+
+pub runs-kept : CompiledRuns
+runs-kept k deck object store c stored = not-refused (made c) store stored
 
 pub above-kept : NeverAbove
 above-kept k deck object store l c forty a accepts =

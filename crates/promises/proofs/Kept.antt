@@ -1,6 +1,6 @@
 -- Every promise of the page, with its proof.
 -- Assumes nothing.
-use mathlib.Core.Path.{_≡_, refl, sym, ap, _∙_, subst}
+use mathlib.Core.Path.{_≡_, refl, sym}
 use Prim.Native.Nat.{ℕ}
 use mathlib.Core.Bool.{Bool, true, false}
 use mathlib.Core.List.{List}
@@ -19,7 +19,7 @@ use Rattle.rules_deck.proofs.Proved.{decks-right}
 use Rattle.promises.specs.Promises.{Kept, RefusalKeeps, RoundTrip}
 use Rattle.promises.proofs.Made.{made, right}
 use Rattle.promises.proofs.Machine.{goes-on-kept, never-refused-kept, steps-kept, heights-kept, no-fault-kept, tests-nothing-kept, cells-past-kept, bench-is-run-kept}
-use Rattle.promises.proofs.Decks.{halts-kept, means-kept, never-kept, ends-kept, names-kept, passes-kept, above-kept}
+use Rattle.promises.proofs.Decks.{halts-kept, means-kept, never-kept, ends-kept, names-kept, passes-kept, runs-kept, above-kept}
 
 compile-keeps : (k : ℕ) (deck output : List ℕ) → (compiling k deck output .refusal ≡ accepted → ⊥) → compiling k deck output ≡ notWritten (compiling k deck output .refusal) output
 unfolding compiling write
@@ -56,6 +56,7 @@ kept =
       cellsPast = cells-past-kept;
       benchIsRun = bench-is-run-kept;
       compiledPasses = passes-kept;
+      compiledRuns = runs-kept;
       neverAbove = above-kept;
       refusalKeeps = keeps;
       roundTrip = round;

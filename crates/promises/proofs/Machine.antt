@@ -1,25 +1,23 @@
 -- The promises about objects and runs, 3 to 6, each from its theorem in `rules_object`.
 -- Assumes nothing.
 use mathlib.Core.Path.{_≡_, refl, sym, ap, _∙_, subst}
-use mathlib.Core.Logic.{_↔_}
-use mathlib.Core.Bool.{true}
 use mathlib.Core.List.{List}
 use mathlib.Core.Option.{Option, none, some}
-use Prim.Native.Nat.{ℕ, _+_, _≤_, _<_}
+use Prim.Native.Nat.{ℕ}
 use native.Mathlib.Omega.{arith}
 use lib.ListN.{length}
 use lib.IntN.{ℤ}
 use Rattle.rules_object.specs.Limits.{limits}
-use Rattle.rules_object.specs.Runs.{Out, go, run}
+use Rattle.rules_object.specs.Runs.{go, run}
 use Rattle.rules_object.specs.Object.{Object}
 use Rattle.rules_object.specs.Bytes.{readObject}
 use Rattle.rules_object.specs.Machine.{State, step}
 use Rattle.rules_object.specs.Check.{right41, flowOf, benchStep}
-use Rattle.rules_object.specs.Flow.{Valid, NoTable, Least}
+use Rattle.rules_object.specs.Flow.{Valid, NoTable}
 use Rattle.rules_object.specs.Heights.{heights}
-use Rattle.rules_object.specs.Calls.{Refusal, refusal, accepted, orElse, unless, refused42, refused43, Checked, refused, passed, judged44, judged, checkedObject, checked, verdict, checking, Lent, taken, running}
+use Rattle.rules_object.specs.Calls.{Refusal, refusal, accepted, orElse, unless, refused42, refused43, refused, judged44, judged, checkedObject, checked, verdict, checking, Lent, taken, running}
 use Rattle.rules_object.specs.Safe.{Right, Stands}
-use Rattle.rules_object.proofs.HeightsExact.{heights-some, heights-none, heights-exact, table-iff-agree, height-at-reached}
+use Rattle.rules_object.proofs.HeightsExact.{heights-some, heights-none, table-iff-agree, height-at-reached}
 use Rattle.rules_object.proofs.OneTable.{no-table-is}
 use Rattle.rules_object.proofs.Accepts.{Accepts, accepts}
 use Rattle.rules_object.proofs.Lents.{taken-stands}
@@ -27,7 +25,7 @@ use Rattle.rules_object.proofs.Safe.{run-stands}
 use Rattle.rules_object.proofs.GoesOn.{goes-on, leaves-right, steps-two, halts-exactly}
 use Rattle.rules_object.proofs.BenchRuns.{bench-is-run, bench-is-running, run-no-fault}
 use Rattle.rules_object.proofs.MoreCells.{past-cells}
-use Rattle.promises.specs.Promises.{GoesOn, NeverRefused, StepsTrue, Judged, Exactly, HeightsExactly, NoFault, TestsNothing, CellsPast, BenchIsRun}
+use Rattle.promises.specs.Promises.{GoesOn, NeverRefused, StepsTrue, Judged, HeightsExactly, NoFault, TestsNothing, CellsPast, BenchIsRun}
 
 -- an acceptance's number is 0
 zero-of : {r : Refusal} → r ≡ accepted → r .number ≡ 0

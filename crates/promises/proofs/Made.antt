@@ -1,19 +1,17 @@
 -- What compiling gives, by the deck's statements: the translation's bytes, which pass the check and whose body 7 tells the named values' cells.
 -- Assumes nothing.
 use mathlib.Core.Path.{_≡_, refl, sym, ap, _∙_, subst}
-use Prim.Native.Nat.{ℕ, zero, suc, _+_, _≤_, _<_}
+use Prim.Native.Nat.{ℕ, _≤_, _<_}
 use native.Mathlib.Omega.{arith}
-use mathlib.Core.Bool.{Bool, true, false, cond}
-use mathlib.Core.List.{List, [], _∷_, _++_}
-use mathlib.Core.Option.{Option, none, some}
+use mathlib.Core.Bool.{Bool, true, false}
+use mathlib.Core.List.{List}
+use mathlib.Core.Option.{some}
 use lib.Dec.{leb}
-use lib.ListN.{length, take, drop}
+use lib.ListN.{length, drop}
 use lib.Seq.{take-append-seam}
 use lib.IntN.{ℤ}
-use Rattle.rules_object.specs.Object.{Object}
 use Rattle.rules_object.specs.Bytes.{objectBytes, readObject}
-use Rattle.rules_object.specs.Machine.{cell}
-use Rattle.rules_object.specs.Calls.{Refusal, refusal, accepted, Checked, passed, checked, Written, notWritten, writtenIf, write}
+use Rattle.rules_object.specs.Calls.{Refusal, refusal, accepted, passed, checked, writtenIf, write}
 use Rattle.rules_deck.specs.Trees.{Statement}
 use Rattle.rules_deck.specs.Meaning.{Key}
 use Rattle.rules_deck.specs.Translation.{heldOf, cellCount, namesFrom, translate}

@@ -1,7 +1,7 @@
 -- Runs one after the other are one run of all their allowances together, but for how the steps are counted.
 -- Assumes nothing.
 use mathlib.Core.Path.{_≡_, refl, sym, ap, _∙_, subst}
-use Prim.Native.Nat.{ℕ, zero, suc, _+_, _≤_, _<_}
+use Prim.Native.Nat.{ℕ, _+_}
 use native.Mathlib.Omega.{arith}
 use mathlib.Core.Bool.{Bool, true, false, cond}
 use mathlib.Core.List.{List, [], _∷_}
@@ -10,10 +10,10 @@ use lib.ListN.{length}
 use lib.IntN.{ℤ}
 use borrow.Author.Tests.{eqb-true, eqb-false}
 use Rattle.rules_object.specs.Limits.{limits}
-use Rattle.rules_object.specs.Calls.{Refusal, accepted, Lent, Ran, running}
+use Rattle.rules_object.specs.Calls.{accepted, Lent, Ran, running}
 use Rattle.rules_object.specs.Safe.{afterSteps}
 use Rattle.rules_object.proofs.GoesOn.{goes-on, stays-halted}
-use Rattle.rules_object.proofs.Accepts.{Accepts, accepts, accepts-run}
+use Rattle.rules_object.proofs.Accepts.{accepts, accepts-run}
 use Rattle.rules_object.proofs.Refusals.{from-accepts}
 use Rattle.rules_deck.specs.Seen.{goOn, series, sum}
 

@@ -3,14 +3,14 @@
 -- Assumes nothing.
 use mathlib.Core.Path.{_≡_}
 use mathlib.Core.Logic.{_↔_}
-use Prim.Native.Nat.{ℕ, zero, suc, _+_, _*_, _-_, _≤_, _<_}
-use mathlib.Core.Bool.{Bool, true, false}
+use Prim.Native.Nat.{ℕ, _+_, _*_, _-_, _≤_, _<_}
+use mathlib.Core.Bool.{true}
 use mathlib.Core.List.{List, [], _∷_, _++_}
-use mathlib.Core.Option.{Option, none, some}
+use mathlib.Core.Option.{none, some}
 use lib.ListN.{length, getElem?}
-use lib.IntN.{ℤ, pos}
+use lib.IntN.{ℤ}
 use Rattle.rules_object.specs.Limits.{limits}
-use Rattle.rules_object.specs.Runs.{Halt, haltNumber, Out, go, halt, run}
+use Rattle.rules_object.specs.Runs.{Halt, haltNumber, go, halt, run}
 use Rattle.rules_object.specs.Choose.{positive}
 use Rattle.rules_object.specs.Object.{Named, Object}
 use Rattle.rules_object.specs.Bytes.{objectBytes, readObject}
@@ -19,13 +19,13 @@ use Rattle.rules_object.specs.Machine.{State, cell, step}
 use Rattle.rules_object.specs.Check.{right41, flowOf, benchStep}
 use Rattle.rules_object.specs.Flow.{Valid, NoTable, Reached, PathsAgree}
 use Rattle.rules_object.specs.Heights.{heights, heightAt}
-use Rattle.rules_object.specs.Calls.{Refusal, refusal, accepted, refused42, refused43, checking, Lent, taken, Ran, notRun, running, benching, Written, notWritten, mapping}
+use Rattle.rules_object.specs.Calls.{refusal, accepted, refused42, refused43, checking, Lent, taken, Ran, notRun, running, benching, notWritten, mapping}
 use Rattle.rules_object.specs.Safe.{Right, ranWithCells, afterSteps, freshLent}
 use Rattle.rules_object.specs.Small.{HLT, CON, ADD, JMP, object, plain}
 use Rattle.rules_deck.specs.Trees.{Name, Statement}
 use Rattle.rules_deck.specs.Deck.{Do, endings}
 use Rattle.rules_deck.specs.Grammar.{readings}
-use Rattle.rules_deck.specs.Meaning.{Key, Values, bounds, Standing}
+use Rattle.rules_deck.specs.Meaning.{Key, bounds, Standing}
 use Rattle.rules_deck.specs.Translation.{filled}
 use Rattle.rules_deck.specs.Compile.{deckOf, compiling}
 use Rattle.rules_deck.specs.Accepted.{Among}
@@ -178,6 +178,12 @@ BenchIsRun = (object : List ℕ) → checking object ≡ accepted → (store : L
 abbrev pub CompiledPasses : Type 0
 CompiledPasses = (k : ℕ) (deck object : List ℕ) → Compiled k deck object → checking object ≡ accepted
 
+-- and its run, from a fresh state and a store that 50 and 51 let pass, is never refused
+abbrev pub CompiledRuns : Type 0
+CompiledRuns =
+    (k : ℕ) (deck object : List ℕ) (store : List ℤ) → Compiled k deck object → rightStore object store ≡ true → (a : ℕ) →
+    running object store freshLent a .refusal ≡ accepted
+
 -- a compiled deck with p levels of parentheses never stands above 2p+3, from whatever state it is run
 abbrev pub NeverAbove : Type 0
 NeverAbove =
@@ -233,6 +239,7 @@ pub record Kept : Type 0 where
   pub cellsPast : CellsPast
   pub benchIsRun : BenchIsRun
   pub compiledPasses : CompiledPasses
+  pub compiledRuns : CompiledRuns
   pub neverAbove : NeverAbove
   pub refusalKeeps : RefusalKeeps
   pub roundTrip : RoundTrip
