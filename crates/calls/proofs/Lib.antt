@@ -1,4 +1,1 @@
-pub mod Verdicts
-pub mod Names
-pub mod Runs
 pub mod Unique

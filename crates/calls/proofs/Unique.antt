@@ -5,10 +5,12 @@ use mathlib.Core.List.{List}
 use Prim.Native.Nat.{ℕ}
 use lib.IntN.{ℤ}
 use Rattle.rules_object.specs.Calls as book
-use Rattle.calls.specs.declared.Refusal.{Refusal}
-use Rattle.calls.specs.declared.Written.{Written}
-use Rattle.calls.specs.declared.Ran.{Ran}
-use Rattle.calls.specs.Outcomes.{Checks, Maps, Compiles, Ends}
+use Rattle.verdicts.specs.declared.Refusal.{Refusal}
+use Rattle.verdicts.specs.declared.Written.{Written}
+use Rattle.verdicts.specs.Outcomes.{Checks, Maps}
+use Rattle.runs.specs.declared.Ran.{Ran}
+use Rattle.runs.specs.Outcomes.{Ends}
+use Rattle.calls.specs.Outcomes.{Compiles}
 
 pub check-unique : {s : List ℕ} {r q : Refusal} → Checks s r → Checks s q → r ≡ q
 check-unique a b = ap (λ (x : book.Refusal). record { number = x .number; place = x .place; kind = x .kind }) (sym (a .is) ∙ b .is)

@@ -7,7 +7,7 @@ use mathlib.Core.Option.{Option, none, some}
 use Prim.Native.Nat.{ℕ, zero, suc, _+_, _^_, _≤_, _<_}
 use native.Mathlib.Omega.{arith}
 use lib.Dec.{leb}
-use lib.ListN.{length, getD, take}
+use lib.ListN.{length, getD}
 use borrow.Author.Tests.{leb-true}
 use Rattle.number.specs.Number.{ceiling}
 use Rattle.rules_object.specs.Limits.{limits}
@@ -16,7 +16,7 @@ use Rattle.rules_object.specs.Machine.{noElement, noLoop, ruleOf}
 use Rattle.rules_object.specs.Check.{right41, rightConstant, rightElement, rightLoop, rightLine, rightNamed, right43, flowOf}
 use Rattle.rules_object.specs.Heights.{heights}
 use Rattle.rules_object.specs.Bytes.{readObject}
-use Rattle.rules_object.specs.Calls.{Refusal, refusal, firstBad, atEntry, orElse, unless, refused42, refused43, Checked, refused, judged44, judged, checkedObject, checked}
+use Rattle.rules_object.specs.Calls.{Refusal, refusal, firstBad, atEntry, refused42, refused43, Checked, refused, judged44, judged, checked}
 use Rattle.rules_object.proofs.Passed.{some-none, both}
 use Rattle.rules_object.proofs.Accepts.{If, or-if}
 use Rattle.object.specs.declared.Layout.{Layout}
@@ -24,7 +24,8 @@ use Rattle.object.specs.Layout.{objectAt, Placed}
 use Rattle.object.proofs.Entries.{code-length}
 use Rattle.judge.specs.declared.Found.{Found}
 use Rattle.judge.specs.declared.Found.the-variants.{Nothing, At}
-use Rattle.judge.specs.Judge.{noLine, noName, refusalOf}
+use Rattle.named.specs.Names.{noName}
+use Rattle.judge.specs.Judge.{noLine, refusalOf}
 use Rattle.heights.specs.Judged.{Judged, answered}
 use Rattle.checker.specs.declared.Verdict.{Verdict}
 use Rattle.checker.specs.Verdicts.{noLayout, passing, judgedAll, Says}
@@ -34,9 +35,6 @@ use Rattle.checker.specs.Verdicts.{noLayout, passing, judgedAll, Says}
 pub refuses : (n p k : ℕ) → 0 < n → (s table : List ℕ) → Says (record { number = n; place = p; kind = k; layout = noLayout }) s table (refused (refusal n p k))
 refuses zero p k h s table = absurd (omega arith)
 refuses (suc n) p k h s table = record { is = refl; besides = refl }
-
-pub passes : (e : Layout) (s table : List ℕ) → Placed e s → Says (record { number = 0; place = 0; kind = 0; layout = e }) s table (passing e s table)
-passes e s table p = record { is = refl; besides = record { place = refl; kind = refl; placed = p } }
 
 pub says : {v : Verdict} {s table : List ℕ} {c d : Checked} → c ≡ d → Says v s table c → Says v s table d
 says e h = record { is = h .is ∙ e; besides = h .besides }

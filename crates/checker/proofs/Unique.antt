@@ -5,14 +5,14 @@ use mathlib.Core.List.{List}
 use Prim.Native.Nat.{ℕ, zero, suc}
 use native.Mathlib.Omega.{arith}
 use lib.ListN.{take}
-use Rattle.rules_object.specs.Calls.{Refusal, refusal, Checked, refused, passed, checked}
+use Rattle.rules_object.specs.Calls.{Refusal, refusal, refused, checked}
 use Rattle.rules_object.proofs.Passed.{check-passed}
 use Rattle.object.specs.declared.Layout.{Layout}
 use Rattle.object.specs.Layout.{objectAt}
 use Rattle.object.specs.Opened.{OpenedAt}
 use Rattle.object.proofs.OneLayout.{one-layout}
 use Rattle.checker.specs.declared.Verdict.{Verdict}
-use Rattle.checker.specs.Verdicts.{noLayout, passing, checkedAs, Good, Besides, Says}
+use Rattle.checker.specs.Verdicts.{passing, checkedAs, Good, Besides, Says}
 
 abbrev made : ℕ → ℕ → ℕ → Layout → Verdict
 made n p k e = record { number = n; place = p; kind = k; layout = e }

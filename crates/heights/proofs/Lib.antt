@@ -1,4 +1,3 @@
-pub mod Operations
 pub mod Places
 pub mod Loops
 pub mod Answers

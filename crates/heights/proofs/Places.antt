@@ -9,29 +9,24 @@ use lib.Dec.{leb}
 use lib.ListN.{length, getD}
 use borrow.Author.Tests.{leb-true}
 use Rattle.rules_object.specs.Limits.{limits}
-use Rattle.rules_object.specs.Object.{Loop, Object}
-use Rattle.rules_object.specs.Machine.{Instr, operationOf, operandOf, meant, decode, noLoop}
+use Rattle.rules_object.specs.Object.{Object}
+use Rattle.rules_object.specs.Machine.{Instr, operationOf, operandOf, meant, decode}
 use Rattle.rules_object.specs.Check.{right41, right43, popsTable, pushesTable, operationNumber, successors, instruction, flowOf}
 use Rattle.rules_object.specs.Flow.{at}
 use Rattle.rules_object.proofs.Filling.{Filling}
 use Rattle.rules_object.proofs.Fills.{there}
 use Rattle.rules_object.proofs.Passed.{both}
 use Rattle.word.specs.Word.{wordAt}
-use Rattle.object.specs.Layout.{objectAt, loopAt}
+use Rattle.object.specs.Layout.{objectAt}
 use Rattle.object.specs.declared.Layout.{Layout}
-use Rattle.object.proofs.Entries.{code-length, do-at, code-at}
+use Rattle.object.proofs.Entries.{code-length, code-at}
 use Rattle.operands.specs.Operands.{operandRight}
+use Rattle.successors.proofs.Operations.{number-is, known}
 use Rattle.heights.specs.Judged.{Judged}
-use Rattle.heights.proofs.Operations.{number-is, known}
 
-module _ (e : Layout) (s : List ℕ) where
-  pub body-is : (i : ℕ) → i < e .«do_count» → wordAt s (e .dos + 16 * i + 12) ≡ getD (objectAt e s .dos) i noLoop .body
-  unfolding loopAt
-  body-is i l = sym (ap (λ (d : Loop). d .body) (do-at e s i noLoop l))
-
-  pub flow-length : flowOf (objectAt e s) .n ≡ e .«code_count»
-  unfolding flowOf
-  flow-length = code-length e s
+pub flow-length : (e : Layout) (s : List ℕ) → flowOf (objectAt e s) .n ≡ e .«code_count»
+unfolding flowOf
+flow-length e s = code-length e s
 
 -- what waits last is inside the code
 pub waits-inside : (e : Layout) (s H W : List ℕ) (b : ℕ) {a : ℕ} → at W b ≡ a → Filling (flowOf (objectAt e s)) H W (b + 1) → a < e .«code_count»

@@ -1,15 +1,12 @@
 // 44: a height for each instruction, filled in by a worklist over control flow. The object has passed 40, 41 and 43.
 ghost use mathlib.Core.Path.{_≡_};
-ghost use mathlib.Core.Bool.{true};
-ghost use Prim.Native.Nat.{ℕ, _+_, _≤_, _<_};
-ghost use lib.ListN.{length, getD};
-ghost use Rattle.rules_object.specs.Machine.{meant, noLoop};
-ghost use Rattle.rules_object.specs.Check.{successors, flowOf};
+ghost use Prim.Native.Nat.{_+_, _≤_, _<_};
+ghost use lib.ListN.{length};
+ghost use Rattle.rules_object.specs.Check.{flowOf};
 ghost use Rattle.rules_object.specs.Flow.{at};
 ghost use Rattle.rules_object.specs.Heights.{heights};
 ghost use Rattle.rules_object.proofs.Filling.{nevers, Filling};
-ghost use Rattle.object.specs.Layout.{Placed, objectAt};
-ghost use Rattle.operands.specs.Operands.{operandRight};
+ghost use Rattle.object.specs.Layout.{objectAt};
 ghost use Rattle.heights.specs.Judged.{Judged, Fresh, answered};
 ghost use Rattle.heights.specs.Walk.{Meets, Visited};
 use object::Layout;
@@ -34,54 +31,6 @@ fn place(t: u16) -> usize
     ensures { λ r. ⌜ r ≡ t ⌝ }
 {
     t as usize
-}
-
-fn exit_at(o: &[u8], e: Layout, i: usize) -> usize
-    requires { ⌜ Placed e (now o) × (i < e .«exit_count») ⌝ }
-    ensures { λ r. ⌜ r ≡ getD (objectAt e (now (o .entry)) .exits) i 0 ⌝ }
-{
-    word::index(word::load(o, e.exits + 4 * i))
-}
-
-fn body_of(o: &[u8], e: Layout, i: usize) -> usize
-    requires { ⌜ Placed e (now o) × (i < e .«do_count») ⌝ }
-    ensures { λ r. ⌜ r ≡ getD (objectAt e (now (o .entry)) .dos) i noLoop .body ⌝ }
-{
-    word::index(word::load(o, e.dos + 16 * i + 12))
-}
-
-// How many successors.
-fn width_of(o: &[u8], e: Layout, operation: usize, x: usize) -> usize
-    requires { ⌜ Placed e (now o) × (operandRight (objectAt e (now o)) operation x ≡ true) ⌝ }
-    ensures { λ r. ⌜ ((a : ℕ) → r ≡ length (successors a (meant (objectAt e (now (o .entry))) operation x))) ⌝ }
-{
-    match operation {
-        0 => 0,
-        12 => 3,
-        13 => exit_at(o, e, x),
-        15 => 2,
-        _ => 1,
-    }
-}
-
-// One of them. A computed branch's count stands before its targets.
-fn next_of(o: &[u8], e: Layout, operation: usize, x: usize, a: usize, k: usize) -> usize
-    requires { ⌜ Placed e (now o) × (operandRight (objectAt e (now o)) operation x ≡ true) ⌝ }
-    requires { ⌜ (a < 4096) × (k < length (successors a (meant (objectAt e (now o)) operation x))) ⌝ }
-    ensures { λ r. ⌜ r ≡ getD (successors a (meant (objectAt e (now (o .entry))) operation x)) k 0 ⌝ }
-{
-    match operation {
-        11 => x,
-        12 => exit_at(o, e, x + k),
-        13 => exit_at(o, e, x + 1 + k),
-        15 => {
-            if k == 0 {
-                return body_of(o, e, x);
-            }
-            a + 1
-        }
-        _ => a + 1,
-    }
 }
 
 // The height h comes to the instruction t.
@@ -120,11 +69,11 @@ fn visit(o: &[u8], e: Layout, table: &mut Table, work: &mut Work, start: usize) 
         return Met::No;
     }
     let h = g - p + operands::pushes_of(operation);
-    let n = width_of(o, e, operation, x);
+    let n = successors::width_of(o, e, operation, x);
     let mut top = start;
     let mut k = 0;
     while k < n {
-        let t = next_of(o, e, operation, x, a, k);
+        let t = successors::next_of(o, e, operation, x, a, k);
         let met = meet(t, e.code_count, h, table, work, top);
         match met {
             Met::On(q) => {

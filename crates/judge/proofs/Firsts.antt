@@ -15,7 +15,8 @@ use Rattle.rules_object.specs.Calls.{Refusal, firstBad, atEntry, orElse, refuse
 use Rattle.object.specs.declared.Layout.{Layout}
 use Rattle.object.specs.Layout.{objectAt}
 use Rattle.object.proofs.Entries.{constant-length, element-length, do-length, line-length, name-length}
-use Rattle.judge.specs.Judge.{noLine, noName, passes, firstFrom}
+use Rattle.named.specs.Names.{noName}
+use Rattle.judge.specs.Judge.{noLine, passes, firstFrom}
 
 pub first-more : (test : ℕ → Bool) (n i : ℕ) → i < n → test i ≡ true → firstFrom test (n - i) i ≡ firstFrom test (n - (i + 1)) (i + 1)
 first-more test n i h q =

@@ -1,39 +1,26 @@
 -- What the code's functions answer, in the book's words.
 -- Assumes nothing.
-use mathlib.Core.Path.{_≡_}
-use Prim.Native.Nat.{ℕ, zero, suc, _+_, _≤_}
-use mathlib.Core.Bool.{Bool, true, false, _&&_, cond}
+use Prim.Native.Nat.{ℕ, zero, suc, _+_}
+use mathlib.Core.Bool.{Bool, _&&_, cond}
 use mathlib.Core.List.{List, [], _∷_}
 use mathlib.Core.Option.{Option, none, some}
-use lib.Dec.{ltb, leb}
-use lib.ListN.{length, getD, take, drop}
+use lib.Dec.{ltb}
+use lib.ListN.{getD}
 use lib.IntN.{natAbs}
-use Rattle.rules_object.specs.Object.{Line, Named, Object}
+use Rattle.rules_object.specs.Object.{Line, Object}
 use Rattle.rules_object.specs.Bytes.{signedOf}
 use Rattle.rules_object.specs.Machine.{noElement, noLoop}
-use Rattle.rules_object.specs.Check.{rightConstant, rightElement, rightLoop, rightLine, rightNamed, nameTail, blanks, noEntry}
+use Rattle.rules_object.specs.Check.{rightConstant, rightElement, rightLoop, rightLine, rightNamed, noEntry}
 use Rattle.rules_object.specs.Calls.{Refusal, refusal}
 use Rattle.word.specs.Word.{wordAt}
 use Rattle.object.specs.declared.Layout.{Layout}
+use Rattle.named.specs.Names.{noName}
 use Rattle.judge.specs.declared.Found.{Found}
 use Rattle.judge.specs.declared.Found.the-variants.{Nothing, At}
 
--- entries that stand in for those outside a body
+-- an entry that stands in for those outside a body
 abbrev pub noLine : Line
 noLine = record { sequence = 0; number = 0; address = 0 }
-
-abbrev pub noName : Named
-noName = record { name = []; first = 0; rows = 0; columns = 0 }
-
--- the eight bytes of a name
-abbrev pub nameAt : List ℕ → ℕ → List ℕ
-nameAt s b = take 8 (drop b s)
-
--- letters and digits of a name end at r: six characters at most
-pub record NameEnd (name : List ℕ) (r : ℕ) : Type 0 where
-  pub some : 1 ≤ r
-  pub most : r ≤ 6
-  pub rest : nameTail 5 (drop 1 name) ≡ blanks (drop r name)
 
 -- the subscript at b: its multiplier and its addend below p, its cell inside
 unfoldable pub subscriptAt : List ℕ → ℕ → ℕ → ℕ → Bool

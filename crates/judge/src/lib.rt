@@ -1,20 +1,19 @@
 // Rules 41 and 42 on an object's bytes. Tests are joined by `&`, so each is made whatever the others say; the bytes are there in any case.
 ghost use mathlib.Core.Path.{_≡_};
-ghost use mathlib.Core.Bool.{true, _&&_, _||_};
 ghost use mathlib.Core.List.{List};
-ghost use Prim.Native.Nat.{ℕ, _+_, _*_, _^_, _≤_, _<_};
-ghost use lib.Dec.{ltb, leb};
-ghost use lib.ListN.{length, getD, drop};
+ghost use Prim.Native.Nat.{ℕ, _+_, _≤_, _<_};
+ghost use lib.Dec.{ltb};
+ghost use lib.ListN.{length, getD};
 ghost use lib.IntN.{natAbs};
 ghost use Rattle.number.specs.Number.{ceiling};
 ghost use Rattle.rules_object.specs.Bytes.{signedOf};
-ghost use Rattle.rules_object.specs.Object.{Object};
 ghost use Rattle.rules_object.specs.Machine.{noElement, noLoop, ruleOf};
-ghost use Rattle.rules_object.specs.Check.{right41, rightConstant, rightElement, rightLoop, rightLine, rightNamed, rightName, letter, digit, blanks, span};
+ghost use Rattle.rules_object.specs.Check.{right41, rightConstant, rightElement, rightLoop, rightLine};
 ghost use Rattle.rules_object.specs.Calls.{orElse, atEntry, refused42};
 ghost use Rattle.word.specs.Word.{wordAt};
 ghost use Rattle.object.specs.Layout.{Placed, objectAt};
-ghost use Rattle.judge.specs.Judge.{NameEnd, noLine, noName, nameAt, subscriptAt, refusalOf, countOf, passes, firstFrom};
+ghost use Rattle.judge.specs.Judge.{noLine, subscriptAt, refusalOf, countOf, passes, firstFrom};
+use named::wide;
 use object::Layout;
 
 // The kind of the table, and the entry in it.
@@ -41,8 +40,6 @@ const STATEMENTS: usize = 400;
 
 const NAMES: usize = 100;
 
-const BLANK: u8 = b' ';
-
 // ---- 41
 
 pub fn limits_right(e: Layout) -> bool
@@ -56,12 +53,6 @@ pub fn limits_right(e: Layout) -> bool
 }
 
 // ---- 42
-
-fn wide(w: u32) -> u64
-    ensures { λ r. ⌜ (r ≡ w) × (r < 2 ^ 32) ⌝ }
-{
-    w as u64
-}
 
 // Of a word in two's complement.
 fn magnitude(w: u32) -> u64
@@ -102,13 +93,6 @@ fn signed_fits(o: &[u8], at: usize, p: u64) -> bool
     magnitude(word::load(o, at)) < p
 }
 
-// Exact: the words are 32 bits wide and the sum is not.
-fn inside(first: u32, rows: u32, columns: u32, cells: u32) -> bool
-    ensures { λ r. ⌜ r ≡ leb (first + rows * columns) cells ⌝ }
-{
-    wide(first) + wide(rows) * wide(columns) <= wide(cells)
-}
-
 pub fn constant_right(o: &[u8], e: Layout, p: u64, i: usize) -> bool
     requires { ⌜ p ≡ ceiling (ruleOf (objectAt e (now o))) ⌝ }
     requires { ⌜ Placed e (now o) × (i < e .«constant_count») ⌝ }
@@ -135,7 +119,8 @@ pub fn element_right(o: &[u8], e: Layout, p: u64, i: usize) -> bool
     let columns = word::load(o, b + 8);
     let subscripts = subscript_right(o, b + 12, e.cells, p)
         & subscript_right(o, b + 24, e.cells, p);
-    (1 <= rows) & ((1 <= columns) & (inside(word::load(o, b), rows, columns, e.cells) & subscripts))
+    (1 <= rows)
+        & ((1 <= columns) & (named::inside(word::load(o, b), rows, columns, e.cells) & subscripts))
 }
 
 pub fn loop_right(o: &[u8], e: Layout, i: usize) -> bool
@@ -154,74 +139,6 @@ pub fn line_right(o: &[u8], e: Layout, i: usize) -> bool
     in_code(o, e.lines + 12 * i + 8, e.code_count)
 }
 
-fn letter_or_digit(c: u8) -> bool
-    ensures { λ r. ⌜ r ≡ (letter c || digit c) ⌝ }
-{
-    ((b'A' <= c) & (c <= b'Z')) | ((b'0' <= c) & (c <= b'9'))
-}
-
-// Where the letters and digits of a name end: after six characters at most.
-fn name_end(o: &[u8], b: usize) -> usize
-    requires { ⌜ b + 8 ≤ length (now o) ⌝ }
-    ensures { λ r. ⌜ NameEnd (nameAt (now (o .entry)) b) r ⌝ }
-{
-    let mut k: usize = 1;
-    while k < 6 {
-        if !letter_or_digit(o[b + k]) {
-            return k;
-        }
-        k += 1;
-    }
-    k
-}
-
-fn blank_from(o: &[u8], b: usize, from: usize) -> bool
-    requires { ⌜ (b + 8 ≤ length (now o)) × (from ≤ 8) ⌝ }
-    ensures { λ r. ⌜ r ≡ blanks (drop from (nameAt (now (o .entry)) b)) ⌝ }
-{
-    let mut k = from;
-    while k < 8 {
-        if o[b + k] != BLANK {
-            return false;
-        }
-        k += 1;
-    }
-    true
-}
-
-fn name_right(o: &[u8], b: usize) -> bool
-    requires { ⌜ b + 8 ≤ length (now o) ⌝ }
-    ensures { λ r. ⌜ r ≡ rightName (nameAt (now (o .entry)) b) ⌝ }
-{
-    let c = o[b];
-    let end = name_end(o, b);
-    (b'I' <= c) & ((c <= b'N') & blank_from(o, b, end))
-}
-
-// How many cells a name has.
-fn span_of(rows: u32, columns: u32) -> u64
-    ensures { λ r. ⌜ (r ≡ span rows columns) × (r ≤ 4294967295 * 4294967295) ⌝ }
-{
-    if rows == 0 {
-        return 1;
-    }
-    if columns == 0 {
-        return wide(rows);
-    }
-    wide(rows) * wide(columns)
-}
-
-pub fn named_right(o: &[u8], e: Layout, i: usize) -> bool
-    requires { ⌜ Placed e (now o) × (i < e .«name_count») ⌝ }
-    ensures { λ r. ⌜ r ≡ rightNamed (objectAt e (now (o .entry))) (getD (objectAt e (now (o .entry)) .names) i noName) ⌝ }
-{
-    let b = e.names + 20 * i;
-    let rows = word::load(o, b + 12);
-    let columns = word::load(o, b + 16);
-    let last = wide(word::load(o, b + 8)) + span_of(rows, columns);
-    name_right(o, b) & (((1 <= rows) | (columns == 0)) & (last <= wide(e.cells)))
-}
-
 fn entry_passes(o: &[u8], e: Layout, p: u64, kind: u32, i: usize) -> bool
     requires { ⌜ p ≡ ceiling (ruleOf (objectAt e (now o))) ⌝ }
     requires { ⌜ Placed e (now o) × (i < countOf e kind) ⌝ }
@@ -232,7 +149,7 @@ fn entry_passes(o: &[u8], e: Layout, p: u64, kind: u32, i: usize) -> bool
         2 => element_right(o, e, p, i),
         4 => loop_right(o, e, i),
         6 => line_right(o, e, i),
-        7 => named_right(o, e, i),
+        7 => named::named_right(o, e, i),
         _ => true,
     }
 }

@@ -22,10 +22,11 @@ use Rattle.arithmetic.specs.Performed.{After, performed, stateOf}
 use Rattle.operations.specs.Ready.{Held}
 use Rattle.machine.proofs.Places.{tops-is, length-tops, given-back}
 use Rattle.machine.specs.declared.Ran.{Ran}
-use Rattle.machine.specs.Running.{answer, wordOf, guardOf}
+use Rattle.guards.specs.Guarding.{wordOf, guardOf}
+use Rattle.machine.specs.Running.{answer}
 use Rattle.machine.proofs.Does.{Did, DidAll}
 use Rattle.machine.proofs.Performs.{performs, sound-held}
-use Rattle.machine.proofs.Guards.{guard-passes, passes-ready, instruction-is, guard-none, guard-stops, right-guard}
+use Rattle.machine.proofs.Passes.{guard-passes, passes-ready, instruction-is, guard-none, guard-stops, right-guard}
 
 -- at every state of the unguarded run from t the instruction can be done
 abbrev pub Rights : Object → State → Type 0

@@ -1,8 +1,7 @@
 pub mod Places
 pub mod Does
 pub mod Performs
-pub mod Guards
+pub mod Passes
 pub mod Going
 pub mod Sequences
 pub mod Starts
-pub mod Seen

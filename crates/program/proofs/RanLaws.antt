@@ -22,9 +22,9 @@ use Rattle.object.specs.declared.Layout.{Layout}
 use Rattle.object.specs.Layout.{listFrom, namedAt, objectAt}
 use Rattle.object.specs.Opened.{OpenedAt}
 use Rattle.printing.specs.Entries.{AllInside}
-use Rattle.calls.specs.declared.Ran.{Ran}
+use Rattle.runs.specs.declared.Ran.{Ran}
 use Rattle.lent.specs.Lending.{lent}
-use Rattle.calls.specs.Outcomes.{ranOf, Ends}
+use Rattle.runs.specs.Outcomes.{ranOf, Ends}
 use Rattle.program.specs.Printing.{ranText, Zero, writtenAs}
 
 -- ---- a run

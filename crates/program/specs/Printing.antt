@@ -12,8 +12,8 @@ use Rattle.rules_object.specs.Calls.{refusal, Written}
 use Rattle.rules_object.specs.Safe.{freshLent}
 use Rattle.rules_program.specs.Program.{zeroStore, namesOf, runLines, mostBytes}
 use Rattle.rules_program.specs.Tidy.{TidyObject}
-use Rattle.calls.specs.declared.Ran.{Ran}
-use Rattle.calls.specs.Outcomes.{ranOf}
+use Rattle.runs.specs.declared.Ran.{Ran}
+use Rattle.runs.specs.Outcomes.{ranOf}
 
 -- the digits on a control card, 0 for none
 abbrev pub digitsOf : ℕ → Option ℕ

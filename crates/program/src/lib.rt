@@ -11,9 +11,9 @@ ghost use Rattle.rules_program.specs.Tidy.{TidyObject};
 ghost use Rattle.rules_deck.specs.Compile.{compiling};
 ghost use Rattle.printing.specs.Puts.{Puts};
 ghost use Rattle.program.specs.Printing.{digitsOf, mostPrinted, ranText, Zero, writtenAs, Object, Unwritten};
-use calls::Ran;
 use compiler::Compiled;
 use object::Contents;
+use runs::Ran;
 
 const ALLOWANCE: u32 = 1_000_000;
 
@@ -97,7 +97,7 @@ fn run_and_print(object: &[u8], store: &mut [i64], places: &mut [i64; 40], out: 
     let mut index = 0;
     let mut height = 0;
     let mut mark = 0;
-    let ran = calls::luvinqata_run(
+    let ran = runs::run(
         object,
         store,
         &mut index,

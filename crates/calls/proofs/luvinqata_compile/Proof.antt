@@ -1,13 +1,10 @@
 -- `calls::luvinqata_compile` meets its contract. Assumes nothing.
-use mathlib.Core.Path.{_≡_, sym, ap, _∙_}
+use mathlib.Core.Path.{sym, ap, _∙_}
 use Rattle.compiler.specs.declared.Compiled.{Compiled}
 use Rattle.compiler.specs.Compiled.{answer}
 use borrow.Author.Needs.{needs}
 use Rattle.calls.proofs.luvinqata_compile.Statement.{statement}
 use Rattle.calls.proofs.luvinqata_compile.Tie as tie
-use Rattle.calls.proofs.luvinqata_compile.Reads as reads
-use Rattle.calls.proofs.luvinqata_compile.Lts as lts
-use Rattle.compiler.proofs.compile.Reads as compile-reads
 
 compile-requires : tie.Need-compile-requires
 compile-requires c κs = search needs

@@ -1,5 +1,4 @@
 -- `checker::check` meets its contract. Assumes nothing.
-use Rattle.object.specs.Layout.{objectAt}
 use Rattle.object.proofs.Opens.{read-of, wrong-of}
 use Rattle.checker.proofs.Laws.{says, unread, read}
 use borrow.Author.Needs.{needs}

@@ -1,10 +1,8 @@
 -- `checker::check_bodies` meets its contract. Assumes nothing.
-use mathlib.Core.Path.{_≡_, sym, ap, _∙_}
-use mathlib.Core.Bool.{true, false}
+use mathlib.Core.Path.{sym, ap, _∙_}
 use Prim.Native.Nat.{ℕ, _^_}
 use native.Mathlib.Omega.{arith}
 use borrow.Author.Tests.{not-true, not-false}
-use Rattle.rules_object.specs.Check.{right41}
 use Rattle.object.specs.Layout.{objectAt}
 use Rattle.checker.proofs.Laws.{says, digits-low, ceiling-is, place-42, found-42, none-42, over-limit}
 use borrow.Author.Needs.{needs}

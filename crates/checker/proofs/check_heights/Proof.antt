@@ -1,5 +1,4 @@
 -- `checker::check_heights` meets its contract. Assumes nothing.
-use borrow.Author.Tests.{not-true, not-false}
 use Rattle.checker.proofs.Laws.{says, with-table, no-table}
 use borrow.Author.Needs.{needs}
 use Rattle.checker.proofs.check_heights.Statement.{statement}

@@ -1,3 +1,4 @@
+-- `heights::fill` meets its contract. Assumes nothing.
 use Prim.Native.Nat.{_-_, _+_}
 use native.Mathlib.Omega.{arith}
 use Rattle.rules_object.specs.Check.{flowOf}
@@ -8,9 +9,6 @@ use Rattle.heights.proofs.Loops.{Round, first-round, last-one, visited,
 use borrow.Author.Needs.{needs}
 use Rattle.heights.proofs.fill.Statement.{statement}
 use Rattle.heights.proofs.fill.Tie as tie
-use Rattle.heights.proofs.fill.Reads as reads
-use Rattle.heights.proofs.fill.Lts as lts
-use Rattle.heights.proofs.visit.Reads as visit-reads
 
 abbrev Inv-loop : tie.InvT-loop
 Inv-loop o e table₀ work₀ top₀ table work top = Round (flowOf (objectAt e o)) table work top
@@ -18,11 +16,9 @@ Inv-loop o e table₀ work₀ top₀ table work top = Round (flowOf (objectAt e 
 abbrev μ-loop : tie.MeasureT-loop
 μ-loop o e table₀ work₀ top₀ table work top = nevers table + top
 
--- src/lib.rt:166:5
 element-write-table : tie.Need-element-write-table Inv-loop μ-loop
 element-write-table c = search needs
 
--- src/lib.rt:168:5
 loop-holds : tie.Need-loop-holds Inv-loop μ-loop
 loop-holds c =
     let st = c .before in
@@ -35,13 +31,11 @@ loop-holds c =
     let made = st .pre .1 in
     first-round F H W (made .0) (omega (arith, flow-length e s, jud .placed .someCode)) (omega (arith, flow-length e s, code-within jud)) (made .1 .0) (made .1 .1)
 
--- src/lib.rt:169:44
 sub-visit : tie.Need-sub-visit Inv-loop μ-loop
 sub-visit c =
     let lp = c .before .before .before .loop in
     omega (arith, lp .inv .few, c .before .before .loop-test .taken)
 
--- src/lib.rt:169:13
 visit-requires : tie.Need-visit-requires Inv-loop μ-loop
 visit-requires c κs =
     let st = c .before .before .before .before .before in
@@ -52,11 +46,9 @@ visit-requires c κs =
     let lp = c .before .before .before .loop in
     ((jud, omega (arith, lp .inv .few, c .before .before .loop-test .taken)), last-one F (lp .table) (lp .work) (lp .top) (omega (arith, c .before .before .loop-test .taken)) (lp .inv .filling))
 
--- src/lib.rt:171:21
 enum-known-met : tie.Need-enum-known-met Inv-loop μ-loop
 enum-known-met c = search needs
 
--- src/lib.rt:168:5
 loop-less : tie.Need-loop-less Inv-loop μ-loop
 loop-less c =
     let st = c .before .before .before .before .before .before .before .before .before in
@@ -66,7 +58,6 @@ loop-less c =
     let v = visited F _ _ _ _ _ (c .before .before .before .visit .ensures) (c .before .met .given .1) in
     omega (arith, v .1, c .before .before .before .before .before .before .loop-test .taken)
 
--- src/lib.rt:168:5
 loop-again : tie.Need-loop-again Inv-loop μ-loop
 loop-again c =
     let st = c .before .before .before .before .before .before .before .before .before in
@@ -77,11 +68,9 @@ loop-again c =
     let v = visited F _ _ _ _ _ (c .before .before .before .visit .ensures) (c .before .met .given .1) in
     record { filling = v .0; few = omega (arith, v .1, lp .inv .few, c .before .before .before .before .before .before .loop-test .taken) }
 
--- src/lib.rt:175:17
 enum-told : tie.Need-enum-told Inv-loop μ-loop
 enum-told c = search needs
 
--- src/lib.rt:175:17
 returns : tie.Need-returns Inv-loop μ-loop
 returns c =
     let st = c .before .before .before .before .before .before .before .before in
@@ -90,7 +79,6 @@ returns c =
     let F = flowOf (objectAt e s) in
     not-filled F _ _ (stuck F _ _ _ _ (c .before .before .visit .ensures) (c .enum-told .given .1))
 
--- src/lib.rt:161:1
 returns-2 : tie.Need-returns-2 Inv-loop μ-loop
 returns-2 c =
     let st = c .before .before .before in

@@ -1,13 +1,11 @@
+-- `heights::meet` meets its contract. Assumes nothing.
 use native.Mathlib.Omega.{arith}
 use Rattle.rules_object.proofs.Fills.{nevers-some, past, over, clash, same, new}
 use Rattle.heights.specs.Walk.{Goes}
 use borrow.Author.Needs.{needs}
 use Rattle.heights.proofs.meet.Statement.{statement}
 use Rattle.heights.proofs.meet.Tie as tie
-use Rattle.heights.proofs.meet.Reads as reads
-use Rattle.heights.proofs.meet.Lts as lts
 
--- src/lib.rt:111:9
 returns : tie.Need-returns
 unfolding Goes
 returns c =
@@ -19,11 +17,9 @@ returns c =
     let v = st .args .h in
     record { goes = λ F a k en et ev kw vis. past F H W top a k t v et ev kw vis (omega (arith, c .if1 .taken)) }
 
--- src/lib.rt:113:13
 element-copy-out-g : tie.Need-element-copy-out-g
 element-copy-out-g c = search needs
 
--- src/lib.rt:116:13
 returns-2 : tie.Need-returns-2
 unfolding Goes
 returns-2 c =
@@ -35,15 +31,12 @@ returns-2 c =
     let v = st .args .h in
     record { goes = λ F a k en et ev kw vis. over F H W top a k t v et ev kw vis (omega (arith, c .if3 .taken)) }
 
--- src/lib.rt:118:9
 element-write-table : tie.Need-element-write-table
 element-write-table c = search needs
 
--- src/lib.rt:119:21
 cast-work : tie.Need-cast-work
 cast-work c = search needs
 
--- src/lib.rt:119:9
 mul-work : tie.Need-mul-work
 mul-work c =
     let st = c .before .before .before .before in
@@ -51,7 +44,6 @@ mul-work c =
     let t = st .args .t in
     omega (arith, nevers-some H t (omega (arith, st .pre .1 .0, c .before .before .before .if1 .left)) (c .before .if2 .taken), st .pre .1 .1)
 
--- src/lib.rt:119:9
 element-write-work : tie.Need-element-write-work
 element-write-work c =
     let st = c .before .before .before .before in
@@ -59,7 +51,6 @@ element-write-work c =
     let t = st .args .t in
     omega (arith, nevers-some H t (omega (arith, st .pre .1 .0, c .before .before .before .if1 .left)) (c .before .if2 .taken), st .pre .1 .1)
 
--- src/lib.rt:120:24
 add-t16 : tie.Need-add-t16
 add-t16 c =
     let st = c .before .before .before .before in
@@ -67,7 +58,6 @@ add-t16 c =
     let t = st .args .t in
     omega (arith, nevers-some H t (omega (arith, st .pre .1 .0, c .before .before .before .if1 .left)) (c .before .if2 .taken), st .pre .1 .1)
 
--- src/lib.rt:120:9
 returns-3 : tie.Need-returns-3
 unfolding Goes
 returns-3 c =
@@ -79,7 +69,6 @@ returns-3 c =
     let v = st .args .h in
     record { goes = λ F a k en et ev kw vis. new F H W top a k t v et ev kw vis (omega (arith, c .before .before .before .if1 .left)) (c .before .if2 .taken) (omega (arith, c .if3 .left)) }
 
--- src/lib.rt:106:1
 returns-4 : tie.Need-returns-4
 unfolding Goes
 returns-4 c =
@@ -91,7 +80,6 @@ returns-4 c =
     let v = st .args .h in
     record { goes = λ F a k en et ev kw vis. same F H W top a k t v et ev kw vis (omega (arith, c .before .before .before .if1 .left)) (c .before .if2 .left) (c .if4 .taken) }
 
--- src/lib.rt:106:1
 returns-5 : tie.Need-returns-5
 unfolding Goes
 returns-5 c =

@@ -1,5 +1,6 @@
-use mathlib.Core.Path.{refl, sym, _∙_, subst}
-use Prim.Native.Nat.{_+_, _-_, _<_}
+-- `heights::visit` meets its contract. Assumes nothing.
+use mathlib.Core.Path.{refl, sym, _∙_}
+use Prim.Native.Nat.{_+_, _-_}
 use native.Mathlib.Omega.{arith}
 use Rattle.rules_object.specs.Check.{flowOf}
 use Rattle.rules_object.proofs.Filling.{nevers, Went}
@@ -12,16 +13,6 @@ use Rattle.heights.proofs.Loops.{went, blocked}
 use borrow.Author.Needs.{needs}
 use Rattle.heights.proofs.visit.Statement.{statement}
 use Rattle.heights.proofs.visit.Tie as tie
-use Rattle.heights.proofs.visit.Reads as reads
-use Rattle.heights.proofs.visit.Lts as lts
-use Rattle.heights.proofs.meet.Reads as meet-reads
-use Rattle.heights.proofs.next_of.Reads as next-of-reads
-use Rattle.heights.proofs.place.Reads as place-reads
-use Rattle.heights.proofs.width_of.Reads as width-of-reads
-use Rattle.word.proofs.index.Reads as index-reads
-use Rattle.word.proofs.load.Reads as load-reads
-use Rattle.word.proofs.operand.Reads as operand-reads
-use Rattle.word.proofs.operation.Reads as operation-reads
 
 abbrev Inv-loop : tie.InvT-loop
 Inv-loop o e table₀ work₀ start a w operation x g p h n top₀ k₀ table work top k = Went (flowOf (objectAt e o)) table work (nevers table₀ + start) h a k top
@@ -29,23 +20,19 @@ Inv-loop o e table₀ work₀ start a w operation x g p h n top₀ k₀ table wo
 abbrev μ-loop : tie.MeasureT-loop
 μ-loop o e table₀ work₀ start a w operation x g p h n top₀ k₀ table work top k = n - k
 
--- src/lib.rt:131:19
 mul-place : tie.Need-mul-place Inv-loop μ-loop
 mul-place c =
     let st = c .before in
     omega (arith, st .pre .0 .1)
 
--- src/lib.rt:131:19
 element-copy-out-place : tie.Need-element-copy-out-place Inv-loop μ-loop
 element-copy-out-place c =
     let st = c .before in
     omega (arith, st .pre .0 .1)
 
--- src/lib.rt:131:9
 place-requires : tie.Need-place-requires Inv-loop μ-loop
 place-requires c κs = search needs
 
--- src/lib.rt:132:36
 mul-load : tie.Need-mul-load Inv-loop μ-loop
 mul-load c =
     let st = c .before .before .before in
@@ -62,7 +49,6 @@ mul-load c =
     let inn = waits-inside e s H W b isa fil in
     omega (arith, st .good, code-inside e s pl a inn)
 
--- src/lib.rt:132:27
 add-load : tie.Need-add-load Inv-loop μ-loop
 add-load c =
     let st = c .before .before .before .before in
@@ -79,7 +65,6 @@ add-load c =
     let inn = waits-inside e s H W b isa fil in
     omega (arith, st .good, code-inside e s pl a inn)
 
--- src/lib.rt:132:9
 load-requires : tie.Need-load-requires Inv-loop μ-loop
 load-requires c κs =
     let st = c .before .before .before .before in
@@ -96,23 +81,18 @@ load-requires c κs =
     let inn = waits-inside e s H W b isa fil in
     code-inside e s pl a inn
 
--- src/lib.rt:133:33
 operation-requires : tie.Need-operation-requires Inv-loop μ-loop
 operation-requires c κs = search needs
 
--- src/lib.rt:133:9
 index-requires : tie.Need-index-requires Inv-loop μ-loop
 index-requires c κs = search needs
 
--- src/lib.rt:134:25
 operand-requires : tie.Need-operand-requires Inv-loop μ-loop
 operand-requires c κs = search needs
 
--- src/lib.rt:134:9
 index-requires-2 : tie.Need-index-requires-2 Inv-loop μ-loop
 index-requires-2 c κs = search needs
 
--- src/lib.rt:135:13
 element-copy-out-g : tie.Need-element-copy-out-g Inv-loop μ-loop
 element-copy-out-g c =
     let st = c .before .before .before .before .before .before .before .before .before in
@@ -127,7 +107,6 @@ element-copy-out-g c =
     let inn = waits-inside e s H W b isa fil in
     omega (arith, inn, code-within jud)
 
--- src/lib.rt:136:9
 pops-of-requires : tie.Need-pops-of-requires Inv-loop μ-loop
 pops-of-requires c κs =
     let st = c .before .before .before .before .before .before .before .before .before .before in
@@ -144,7 +123,6 @@ pops-of-requires c κs =
     let d = decoded e s a (c .before .before .before .before .before .load .result) (c .before .before .before .index .result) (c .before .index2 .result) jud inn (c .before .before .before .before .before .load .ensures) (c .before .before .before .index .ensures ∙ c .before .before .before .before .operation .ensures .0) (c .before .index2 .ensures ∙ c .before .before .operand .ensures .0) in
     op-known d
 
--- src/lib.rt:138:9
 returns : tie.Need-returns Inv-loop μ-loop
 unfolding Visited
 returns c =
@@ -163,7 +141,6 @@ returns c =
     let d = decoded e s a (c .before .before .before .before .before .before .before .load .result) (c .before .before .before .before .before .index .result) (c .before .before .before .index2 .result) jud inn (c .before .before .before .before .before .before .before .load .ensures) (c .before .before .before .before .before .index .ensures ∙ c .before .before .before .before .before .before .operation .ensures .0) (c .before .before .before .index2 .ensures ∙ c .before .before .before .before .operand .ensures .0) in
     short F H W b a isa fil (omega (arith, c .if1 .taken, takes-is d (c .before .pops-of .result) (c .before .pops-of .ensures)))
 
--- src/lib.rt:140:21
 pushes-of-requires : tie.Need-pushes-of-requires Inv-loop μ-loop
 pushes-of-requires c κs =
     let st = c .before .before .before .before .before .before .before .before .before .before .before .before in
@@ -180,7 +157,6 @@ pushes-of-requires c κs =
     let d = decoded e s a (c .before .before .before .before .before .before .before .load .result) (c .before .before .before .before .before .index .result) (c .before .before .before .index2 .result) jud inn (c .before .before .before .before .before .before .before .load .ensures) (c .before .before .before .before .before .index .ensures ∙ c .before .before .before .before .before .before .operation .ensures .0) (c .before .before .before .index2 .ensures ∙ c .before .before .before .before .operand .ensures .0) in
     op-known d
 
--- src/lib.rt:140:13
 add-h : tie.Need-add-h Inv-loop μ-loop
 add-h c =
     let st = c .before .before .before .before .before .before .before .before .before .before .before .before .before in
@@ -195,7 +171,6 @@ add-h c =
     let fil = st .pre .1 in
     omega (arith, there F H W b a isa fil .1, c .pushes-of .ensures .1)
 
--- src/lib.rt:141:9
 width-of-requires : tie.Need-width-of-requires Inv-loop μ-loop
 width-of-requires c κs =
     let st = c .before .before .before .before .before .before .before .before .before .before .before .before .before in
@@ -213,7 +188,6 @@ width-of-requires c κs =
     let d = decoded e s a (c .before .before .before .before .before .before .before .before .load .result) (c .before .before .before .before .before .before .index .result) (c .before .before .before .before .index2 .result) jud inn (c .before .before .before .before .before .before .before .before .load .ensures) (c .before .before .before .before .before .before .index .ensures ∙ c .before .before .before .before .before .before .before .operation .ensures .0) (c .before .before .before .before .index2 .ensures ∙ c .before .before .before .before .before .operand .ensures .0) in
     (pl, d .right)
 
--- src/lib.rt:144:5
 loop-holds : tie.Need-loop-holds Inv-loop μ-loop
 loop-holds c =
     let st = c .before .before .before .before .before .before .before .before .before .before .before .before .before .before in
@@ -233,7 +207,6 @@ loop-holds c =
     let eg = gives-is d (c .before .pushes-of .result) (c .before .pushes-of .ensures .0) in
     record { visiting = begin F H W b a isa fil (omega (arith, ep, c .before .before .if1 .left)); stays = omega (arith, ep, eg); count = refl }
 
--- src/lib.rt:145:13
 next-of-requires : tie.Need-next-of-requires Inv-loop μ-loop
 next-of-requires c κs =
     let st = c .before .before .before .before .before .before .before .before .before .before .before .before .before .before .before .before in
@@ -251,7 +224,6 @@ next-of-requires c κs =
     let d = decoded e s a (c .before .before .before .before .before .before .before .before .before .before .before .load .result) (c .before .before .before .before .before .before .before .before .before .index .result) (c .before .before .before .before .before .before .before .index2 .result) jud inn (c .before .before .before .before .before .before .before .before .before .before .before .load .ensures) (c .before .before .before .before .before .before .before .before .before .index .ensures ∙ c .before .before .before .before .before .before .before .before .before .before .operation .ensures .0) (c .before .before .before .before .before .before .before .index2 .ensures ∙ c .before .before .before .before .before .before .before .before .operand .ensures .0) in
     ((pl, d .right), (omega (arith, inn, code-within jud), omega (arith, c .before .before .width-of .ensures a, c .loop-test .taken)))
 
--- src/lib.rt:146:13
 meet-requires : tie.Need-meet-requires Inv-loop μ-loop
 meet-requires c κs =
     let st = c .before .before .before .before .before .before .before .before .before .before .before .before .before .before .before .before .before .before .before in
@@ -261,15 +233,12 @@ meet-requires c κs =
     let lp = c .before .before .before .before .loop in
     (code-within jud, (omega (arith, flow-length e s, lp .inv .visiting .held .sized), omega (arith, lp .inv .count, st .pre .0 .1)))
 
--- src/lib.rt:148:21
 enum-known-met : tie.Need-enum-known-met Inv-loop μ-loop
 enum-known-met c = search needs
 
--- src/lib.rt:152:17
 enum-told : tie.Need-enum-told Inv-loop μ-loop
 enum-told c = search needs
 
--- src/lib.rt:152:17
 returns-2 : tie.Need-returns-2 Inv-loop μ-loop
 unfolding Visited
 returns-2 c =
@@ -290,17 +259,14 @@ returns-2 c =
     let em = width-is d (c .before .before .before .before .before .before .before .before .width-of .result) (c .before .before .before .before .before .before .before .before .width-of .ensures a) in
     blocked F _ _ _ _ a _ _ (c .before .before .meet .ensures .goes F a (lp .k) (flow-length e s) (next-is d (lp .k) (c .before .before .before .before .before .next-of .result) (c .before .before .before .before .before .next-of .ensures)) (lp .inv .stays) (omega (arith, em, c .before .before .before .before .before .before .loop-test .taken)) (lp .inv .visiting)) (c .enum-told .given .1)
 
--- src/lib.rt:155:9
 add-k : tie.Need-add-k Inv-loop μ-loop
 add-k c =
     omega (arith, c .before .before .before .before .before .before .before .loop-test .taken, c .before .before .before .before .before .before .before .before .before .width-of .ok)
 
--- src/lib.rt:144:5
 loop-less : tie.Need-loop-less Inv-loop μ-loop
 loop-less c =
     omega (arith, c .before .before .before .before .before .before .before .loop-test .taken)
 
--- src/lib.rt:144:5
 loop-again : tie.Need-loop-again Inv-loop μ-loop
 loop-again c =
     let st = c .before .before .before .before .before .before .before .before .before .before .before .before .before .before .before .before .before .before .before .before .before .before .before in
@@ -321,7 +287,6 @@ loop-again c =
     let g = went F _ _ _ _ a _ _ _ (c .before .before .before .meet .ensures .goes F a (lp .k) (flow-length e s) (next-is d (lp .k) (c .before .before .before .before .before .before .next-of .result) (c .before .before .before .before .before .before .next-of .ensures)) (lp .inv .stays) (omega (arith, em, c .before .before .before .before .before .before .before .loop-test .taken)) (lp .inv .visiting)) (c .before .met .given .1) in
     record { visiting = g .visiting; stays = g .stays; count = g .count ∙ lp .inv .count }
 
--- src/lib.rt:126:1
 returns-3 : tie.Need-returns-3 Inv-loop μ-loop
 unfolding Visited
 returns-3 c =

@@ -1,5 +1,5 @@
 -- `lent::clear` meets its contract. Assumes nothing.
-use mathlib.Core.Path.{_≡_, refl}
+use mathlib.Core.Path.{refl}
 use Prim.Native.Nat.{_-_}
 use native.Mathlib.Omega.{arith}
 use Rattle.lent.proofs.Lent.{Clearing, clearing-none, clearing-more, cleared}

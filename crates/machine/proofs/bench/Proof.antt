@@ -1,7 +1,7 @@
 -- `machine::bench` meets its contract. Assumes nothing.
 use Rattle.object.specs.Layout.{objectAt}
 use Rattle.subscripts.proofs.Laws.{apart}
-use Rattle.machine.proofs.Seen.{sees-none}
+use Rattle.guards.proofs.Seen.{sees-none}
 use borrow.Author.Needs.{needs}
 use Rattle.machine.proofs.bench.Statement.{statement}
 use Rattle.machine.proofs.bench.Tie as tie

@@ -3,7 +3,7 @@ use mathlib.Core.Path.{_∙_}
 use Rattle.object.specs.Layout.{objectAt}
 use Rattle.arithmetic.specs.Performed.{stateOf}
 use Rattle.machine.proofs.Going.{run-bench}
-use Rattle.machine.proofs.Seen.{sees-none}
+use Rattle.guards.proofs.Seen.{sees-none}
 use borrow.Author.Needs.{needs}
 use Rattle.machine.proofs.run.Statement.{statement}
 use Rattle.machine.proofs.run.Tie as tie

@@ -1,13 +1,13 @@
 -- `machine::step` meets its contract. Assumes nothing.
 use mathlib.Core.Path.{sym, ap, _∙_}
-use Prim.Native.Nat.{_-_}
 use native.Mathlib.Omega.{arith}
 use Rattle.rules_object.specs.Machine.{ruleOf}
 use Rattle.arithmetic.specs.Performed.{performed}
 use Rattle.operations.proofs.Known.{held-bounds}
 use Rattle.object.specs.Layout.{objectAt}
 use Rattle.object.proofs.Entries.{code-inside, code-length}
-use Rattle.machine.proofs.Guards.{word-is, guard-passes, passes-ready, instruction-is}
+use Rattle.guards.proofs.Guards.{word-is}
+use Rattle.machine.proofs.Passes.{guard-passes, passes-ready, instruction-is}
 use borrow.Author.Needs.{needs}
 use Rattle.machine.proofs.step.Statement.{statement}
 use Rattle.machine.proofs.step.Tie as tie

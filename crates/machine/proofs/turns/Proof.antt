@@ -4,7 +4,7 @@ use Prim.Native.Nat.{_-_}
 use Rattle.object.specs.Layout.{objectAt}
 use Rattle.arithmetic.specs.Performed.{after}
 use Rattle.operations.proofs.Known.{held-bounds}
-use Rattle.machine.specs.Running.{Sees}
+use Rattle.guards.specs.Guarding.{Sees}
 use Rattle.machine.proofs.Going.{Going, begins, goes, stops, guard-ends, used, rights-guard}
 use borrow.Author.Needs.{needs}
 use Rattle.machine.proofs.turns.Statement.{statement}

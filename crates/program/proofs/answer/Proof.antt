@@ -18,21 +18,17 @@ use Rattle.printing.proofs.put_refused.Reads as put-refused-reads
 use Rattle.program.proofs.control.Reads as control-reads
 use Rattle.program.proofs.print_deck.Reads as print-deck-reads
 
--- src/lib.rt:170:9
 control-requires : tie.Need-control-requires
 control-requires c κs = search needs
 
--- src/lib.rt:172:9
 put-refused-requires : tie.Need-put-refused-requires
 put-refused-requires c κs =
     let line = refused-length 1 0 (omega arith) (omega arith) in
     record { fits = omega (arith, line, c .before .before .before .before .before .pre) }
 
--- src/lib.rt:172:9
 same-length : tie.Need-same-length
 same-length c = search needs
 
--- src/lib.rt:172:9
 returns : tie.Need-returns
 returns c =
     let s = c .before .before .before .before .before .before .before .before .args .input .now in
@@ -41,7 +37,6 @@ returns c =
     let line = refused-length 1 0 (omega arith) (omega arith) in
     (puts-as (printed-refused s k is (c .before .before .before .before .if1 .taken)) (c .before .before .put-refused .ensures), omega (arith, line, c .before .before .put-refused .ensures .end))
 
--- src/lib.rt:175:19
 sub-print-deck : tie.Need-sub-print-deck
 sub-print-deck c =
     let k = c .before .control .result in
@@ -49,7 +44,6 @@ sub-print-deck c =
     let long = c .before .control .ensures .1 some in
     omega (arith, long)
 
--- src/lib.rt:175:19
 part-print-deck-start : tie.Need-part-print-deck-start
 part-print-deck-start c =
     let k = c .before .control .result in
@@ -57,23 +51,18 @@ part-print-deck-start c =
     let long = c .before .control .ensures .1 some in
     omega (arith, long)
 
--- src/lib.rt:175:19
 part-print-deck-end : tie.Need-part-print-deck-end
 part-print-deck-end c = search needs
 
--- src/lib.rt:175:35
 slice-aggregate-print-deck : tie.Need-slice-aggregate-print-deck
 slice-aggregate-print-deck c = search needs
 
--- src/lib.rt:175:5
 print-deck-requires : tie.Need-print-deck-requires
 print-deck-requires c κs = search needs
 
--- src/lib.rt:166:1
 same-length-2 : tie.Need-same-length-2
 same-length-2 c = search needs
 
--- src/lib.rt:166:1
 returns-2 : tie.Need-returns-2
 returns-2 c =
     let s = c .before .before .before .before .before .before .before .before .before .before .before .args .input .now in

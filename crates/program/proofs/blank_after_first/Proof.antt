@@ -14,39 +14,32 @@ Inv-loop card i₀ i = Blank card i
 abbrev μ-loop : tie.MeasureT-loop
 μ-loop card i₀ i = 80 - i
 
--- src/lib.rt:27:5
 loop-holds : tie.Need-loop-holds Inv-loop μ-loop
 loop-holds c =
     let s = c .args .card .now in
     blank-start s
 
--- src/lib.rt:28:12
 shared-slice-read-if1 : tie.Need-shared-slice-read-if1 Inv-loop μ-loop
 shared-slice-read-if1 c = search needs
 
--- src/lib.rt:29:13
 returns : tie.Need-returns Inv-loop μ-loop
 returns c =
     let s = c .before .before .before .before .args .card .now in
     let lp = c .before .before .before .loop in
     blank-no s (lp .i) (lp .inv) (c .before .before .before .before .pre) (c .before .before .loop-test .taken) (c .if1 .taken)
 
--- src/lib.rt:31:9
 add-i : tie.Need-add-i Inv-loop μ-loop
 add-i c = search needs
 
--- src/lib.rt:27:5
 loop-less : tie.Need-loop-less Inv-loop μ-loop
 loop-less c = search needs
 
--- src/lib.rt:27:5
 loop-again : tie.Need-loop-again Inv-loop μ-loop
 loop-again c =
     let s = c .before .before .before .before .args .card .now in
     let lp = c .before .before .before .loop in
     blank-next s (lp .i) (lp .inv) (c .before .before .before .before .pre) (c .before .before .loop-test .taken) (c .if1 .left)
 
--- src/lib.rt:22:1
 returns-2 : tie.Need-returns-2 Inv-loop μ-loop
 returns-2 c =
     let s = c .before .before .args .card .now in

@@ -15,16 +15,13 @@ use Rattle.program.proofs.control.Lts as lts
 use Rattle.program.proofs.blank_after_first.Reads as blank-after-first-reads
 use Rattle.program.proofs.first_column.Reads as first-column-reads
 
--- src/lib.rt:56:9
 returns : tie.Need-returns
 returns c =
     (control-short (c .before .before .args .input .now) (c .if1 .taken), λ h. absurd (omega (arith, h)))
 
--- src/lib.rt:58:9
 blank-after-first-requires : tie.Need-blank-after-first-requires
 blank-after-first-requires c κs = search needs
 
--- src/lib.rt:59:9
 returns-2 : tie.Need-returns-2
 returns-2 c =
     let s = c .before .before .before .before .args .input .now in
@@ -32,15 +29,12 @@ returns-2 c =
     let is = control-is s (c .before .before .if1 .left) b (c .before .blank-after-first .ensures) in
     (is ∙ ap (λ (x : Bool). cond x (firstColumn (getD s 0 0)) none) (not-true b (c .if2 .taken)), λ h. c .before .before .if1 .left)
 
--- src/lib.rt:61:18
 shared-slice-read-first-column : tie.Need-shared-slice-read-first-column
 shared-slice-read-first-column c = search needs
 
--- src/lib.rt:61:5
 first-column-requires : tie.Need-first-column-requires
 first-column-requires c κs = search needs
 
--- src/lib.rt:52:1
 returns-3 : tie.Need-returns-3
 returns-3 c =
     let s = c .before .before .before .before .before .before .args .input .now in

@@ -6,30 +6,24 @@ use Rattle.program.proofs.first_column.Tie as tie
 use Rattle.program.proofs.first_column.Reads as reads
 use Rattle.program.proofs.first_column.Lts as lts
 
--- src/lib.rt:41:9
 returns : tie.Need-returns
 returns c =
     column-blank (c .before .args .c) (c .if1 .taken)
 
--- src/lib.rt:44:9
 returns-2 : tie.Need-returns-2
 returns-2 c =
     column-low (c .before .before .args .c) (c .before .if1 .left) (c .if2 .taken)
 
--- src/lib.rt:47:9
 returns-3 : tie.Need-returns-3
 returns-3 c =
     column-high (c .before .before .before .args .c) (c .before .before .if1 .left) (c .before .if2 .left) (c .if3 .taken)
 
--- src/lib.rt:49:6
 sub-result : tie.Need-sub-result
 sub-result c = search needs
 
--- src/lib.rt:49:5
 cast-result : tie.Need-cast-result
 cast-result c = search needs
 
--- src/lib.rt:37:1
 returns-4 : tie.Need-returns-4
 returns-4 c =
     column-digit (c .before .before .before .args .c) (c .before .before .if1 .left) (c .before .if2 .left) (c .if3 .left)

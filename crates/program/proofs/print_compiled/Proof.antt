@@ -13,40 +13,33 @@ use Rattle.program.proofs.print_compiled.Lts as lts
 use Rattle.printing.proofs.put_refused.Reads as put-refused-reads
 use Rattle.program.proofs.print_object.Reads as print-object-reads
 
--- src/lib.rt:128:9
 put-refused-requires : tie.Need-put-refused-requires
 put-refused-requires c κs =
     let a = c .before .before .before .before .args in
     record { fits = omega (arith, refused-length (a .number) (a .place) (omega (arith, c .before .before .before .before .fits .number)) (omega (arith, c .before .before .before .before .fits .place)), c .before .before .before .before .pre .1) }
 
--- src/lib.rt:128:9
 same-length : tie.Need-same-length
 same-length c = search needs
 
--- src/lib.rt:128:9
 returns : tie.Need-returns
 returns c =
     let a = c .before .before .before .before .before .before .before .args in
     let s = a .object .now in
     (puts-as (sym (compiled-refused (a .number) (a .place) (a .n) s (c .before .before .before .before .if1 .taken))) (c .before .before .put-refused .ensures), omega (arith, c .before .before .put-refused .ensures .end, refused-length (a .number) (a .place) (omega (arith, c .before .before .before .before .before .before .before .fits .number)) (omega (arith, c .before .before .before .before .before .before .before .fits .place))))
 
--- src/lib.rt:130:18
 slice-aggregate-print-object : tie.Need-slice-aggregate-print-object
 slice-aggregate-print-object c =
     let a = c .before .before .before .before .args in
     let s = a .object .now in
     sym (length-take-le (a .n) s (c .before .before .before .before .pre .0 (c .before .if1 .left) .within))
 
--- src/lib.rt:130:5
 print-object-requires : tie.Need-print-object-requires
 print-object-requires c κs =
     (c .before .before .before .before .before .pre .0 (c .before .before .if1 .left) .tidy, c .before .before .before .before .before .pre .1)
 
--- src/lib.rt:123:1
 same-length-2 : tie.Need-same-length-2
 same-length-2 c = search needs
 
--- src/lib.rt:123:1
 returns-2 : tie.Need-returns-2
 returns-2 c =
     let a = c .before .before .before .before .before .before .before .before .args in

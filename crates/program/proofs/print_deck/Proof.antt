@@ -15,15 +15,12 @@ use Rattle.program.proofs.print_deck.Lts as lts
 use Rattle.compiler.proofs.compile.Reads as compile-reads
 use Rattle.program.proofs.print_compiled.Reads as print-compiled-reads
 
--- src/lib.rt:157:9
 compile-requires : tie.Need-compile-requires
 compile-requires c κs = search needs
 
--- src/lib.rt:159:29
 enum-known-compiled : tie.Need-enum-known-compiled
 enum-known-compiled c = search needs
 
--- src/lib.rt:159:48
 print-compiled-requires : tie.Need-print-compiled-requires
 print-compiled-requires c κs =
     let k = c .before .before .before .before .before .before .before .before .before .before .before .before .args .k in
@@ -32,15 +29,12 @@ print-compiled-requires c κs =
     let e = as-written _ _ _ _ (c .before .before .before .compiled .given .1) (c .before .before .before .before .before .before .before .compile .ensures) in
     (λ z. object-written k d o _ e z, c .before .before .before .before .before .before .before .before .before .before .before .before .pre .1)
 
--- src/lib.rt:160:26
 enum-known-compiled-2 : tie.Need-enum-known-compiled-2
 enum-known-compiled-2 c = search needs
 
--- src/lib.rt:160:53
 cast-print-compiled : tie.Need-cast-print-compiled
 cast-print-compiled c = search needs
 
--- src/lib.rt:160:32
 print-compiled-requires-2 : tie.Need-print-compiled-requires-2
 print-compiled-requires-2 c κs =
     let k = c .before .before .before .before .before .before .before .before .before .before .before .before .args .k in
@@ -49,23 +43,18 @@ print-compiled-requires-2 c κs =
     let e = as-written _ _ _ _ (c .before .before .before .compiled2 .given .1) (c .before .before .before .before .before .before .before .compile .ensures) in
     (λ z. object-written k d o _ e z, c .before .before .before .before .before .before .before .before .before .before .before .before .pre .1)
 
--- src/lib.rt:161:53
 enum-told : tie.Need-enum-told
 enum-told c = search needs
 
--- src/lib.rt:161:28
 print-compiled-requires-3 : tie.Need-print-compiled-requires-3
 print-compiled-requires-3 c κs = search needs
 
--- src/lib.rt:153:1
 same-length : tie.Need-same-length
 same-length c = search needs
 
--- src/lib.rt:153:1
 same-length-2 : tie.Need-same-length-2
 same-length-2 c = search needs
 
--- src/lib.rt:153:1
 returns : tie.Need-returns
 returns c =
     let k = c .before .before .before .before .before .before .before .before .before .before .before .before .before .before .before .args .k in
@@ -73,15 +62,12 @@ returns c =
     let e = as-written _ _ _ _ (c .before .before .before .before .before .before .compiled .given .1) (c .before .before .before .before .before .before .before .before .before .before .compile .ensures) in
     (puts-as (ap compiledLines (e ∙ ap (λ (x : List ℕ). compiling k d x) (c .before .before .before .before .before .before .before .before .before .before .before .before .before .before .before .pre .0 .bytes))) (c .before .before .print-compiled .ensures .0), c .before .before .print-compiled .ensures .1)
 
--- src/lib.rt:153:1
 same-length-3 : tie.Need-same-length-3
 same-length-3 c = search needs
 
--- src/lib.rt:153:1
 same-length-4 : tie.Need-same-length-4
 same-length-4 c = search needs
 
--- src/lib.rt:153:1
 returns-2 : tie.Need-returns-2
 returns-2 c =
     let k = c .before .before .before .before .before .before .before .before .before .before .before .before .before .before .before .args .k in
@@ -89,15 +75,12 @@ returns-2 c =
     let e = as-written _ _ _ _ (c .before .before .before .before .before .before .compiled2 .given .1) (c .before .before .before .before .before .before .before .before .before .before .compile .ensures) in
     (puts-as (ap compiledLines (e ∙ ap (λ (x : List ℕ). compiling k d x) (c .before .before .before .before .before .before .before .before .before .before .before .before .before .before .before .pre .0 .bytes))) (c .before .before .print-compiled2 .ensures .0), c .before .before .print-compiled2 .ensures .1)
 
--- src/lib.rt:153:1
 same-length-5 : tie.Need-same-length-5
 same-length-5 c = search needs
 
--- src/lib.rt:153:1
 same-length-6 : tie.Need-same-length-6
 same-length-6 c = search needs
 
--- src/lib.rt:153:1
 returns-3 : tie.Need-returns-3
 returns-3 c =
     let k = c .before .before .before .before .before .before .before .before .before .before .before .before .before .before .args .k in

@@ -11,15 +11,12 @@ use Rattle.program.proofs.print_names.Lts as lts
 use Rattle.object.proofs.contents_of.Reads as contents-of-reads
 use Rattle.printing.proofs.put_names.Reads as put-names-reads
 
--- src/lib.rt:70:9
 contents-of-requires : tie.Need-contents-of-requires
 contents-of-requires c κs = search needs
 
--- src/lib.rt:72:24
 enum-known-contents : tie.Need-enum-known-contents
 enum-known-contents c = search needs
 
--- src/lib.rt:72:30
 put-names-requires : tie.Need-put-names-requires
 put-names-requires c κs =
     let s = c .before .before .before .before .before .before .before .args .object .now in
@@ -30,15 +27,12 @@ put-names-requires c κs =
     let opened = read-of s _ _ told (c .before .before .contents .given .1) in
     (names-inside s so e opened tidy (c .before .before .before .before .before .before .before .pre .1), omega (arith, names-few s e opened tidy, c .before .before .before .before .before .before .before .pre .2, c .before .before .before .before .before .before .before .pre .3))
 
--- src/lib.rt:73:28
 enum-told : tie.Need-enum-told
 enum-told c = search needs
 
--- src/lib.rt:66:1
 same-length : tie.Need-same-length
 same-length c = search needs
 
--- src/lib.rt:66:1
 returns : tie.Need-returns
 returns c =
     let s = c .before .before .before .before .before .before .before .before .before .before .args .object .now in
@@ -49,7 +43,6 @@ returns c =
     let opened = read-of s _ _ told (c .before .before .before .before .before .contents .given .1) in
     (puts-as (read-names s e so opened) (c .before .before .put-names .ensures .0), omega (arith, c .before .before .put-names .ensures .1, names-few s e opened tidy, c .before .before .before .before .before .before .before .before .before .before .pre .2))
 
--- src/lib.rt:66:1
 returns-2 : tie.Need-returns-2
 returns-2 c =
     let s = c .before .before .before .before .before .args .object .now in

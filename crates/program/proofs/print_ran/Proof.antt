@@ -18,18 +18,15 @@ use Rattle.printing.proofs.put_halt.Reads as put-halt-reads
 use Rattle.printing.proofs.put_refused.Reads as put-refused-reads
 use Rattle.program.proofs.print_names.Reads as print-names-reads
 
--- src/lib.rt:82:9
 put-refused-requires : tie.Need-put-refused-requires
 put-refused-requires c κs =
     let q = c .before .before .before .before .before .args .ran in
     let known = c .before .before .struct-known .given in
     record { fits = omega (arith, refused-length (q .number) (q .place) (omega (arith, known)) (omega (arith, known)), c .before .before .before .before .before .pre .2) }
 
--- src/lib.rt:82:9
 same-length : tie.Need-same-length
 same-length c = search needs
 
--- src/lib.rt:82:9
 returns : tie.Need-returns
 returns c =
     let s = c .before .before .before .before .before .before .before .before .args .object .now in
@@ -38,7 +35,6 @@ returns c =
     let known = c .before .before .before .before .before .struct-known .given in
     (puts-as (sym (ran-refused s q so (c .before .before .before .before .if1 .taken))) (c .before .before .put-refused .ensures), omega (arith, c .before .before .put-refused .ensures .end, refused-length (q .number) (q .place) (omega (arith, known)) (omega (arith, known))))
 
--- src/lib.rt:84:9
 put-halt-requires : tie.Need-put-halt-requires
 put-halt-requires c κs =
     let q = c .before .before .before .before .before .args .ran in
@@ -47,7 +43,6 @@ put-halt-requires c κs =
     let l = halt-length (q .halt) (q .steps) (q .sequence) (omega (arith, known)) (omega (arith, known)) (omega (arith, known)) in
     record { fits = omega (arith, l, c .before .before .before .before .before .pre .2) }
 
--- src/lib.rt:85:5
 print-names-requires : tie.Need-print-names-requires
 print-names-requires c κs =
     let q = c .before .before .before .before .before .before .before .before .before .args .ran in
@@ -56,11 +51,9 @@ print-names-requires c κs =
     let l = halt-length (q .halt) (q .steps) (q .sequence) (omega (arith, known)) (omega (arith, known)) (omega (arith, known)) in
     (c .before .before .before .before .before .before .before .before .before .pre .0, c .before .before .before .before .before .before .before .before .before .pre .1, omega (arith, l, c .before .before .before .put-halt .ensures .end), omega (arith, puts-length h (c .before .before .before .put-halt .ensures), c .before .before .before .before .before .before .before .before .before .pre .2))
 
--- src/lib.rt:77:1
 same-length-2 : tie.Need-same-length-2
 same-length-2 c = search needs
 
--- src/lib.rt:77:1
 returns-2 : tie.Need-returns-2
 returns-2 c =
     let s = c .before .before .before .before .before .before .before .before .before .before .before .before .args .object .now in

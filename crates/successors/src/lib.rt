@@ -1,0 +1,58 @@
+// Where control goes after an instruction whose operand passed 43: how many successors it has, and each of them.
+ghost use mathlib.Core.Path.{_≡_};
+ghost use mathlib.Core.Bool.{true};
+ghost use Prim.Native.Nat.{ℕ, _<_};
+ghost use lib.ListN.{length, getD};
+ghost use Rattle.rules_object.specs.Machine.{meant, noLoop};
+ghost use Rattle.rules_object.specs.Check.{successors};
+ghost use Rattle.object.specs.Layout.{Placed, objectAt};
+ghost use Rattle.operands.specs.Operands.{operandRight};
+use object::Layout;
+
+fn exit_at(o: &[u8], e: Layout, i: usize) -> usize
+    requires { ⌜ Placed e (now o) × (i < e .«exit_count») ⌝ }
+    ensures { λ r. ⌜ r ≡ getD (objectAt e (now (o .entry)) .exits) i 0 ⌝ }
+{
+    word::index(word::load(o, e.exits + 4 * i))
+}
+
+fn body_of(o: &[u8], e: Layout, i: usize) -> usize
+    requires { ⌜ Placed e (now o) × (i < e .«do_count») ⌝ }
+    ensures { λ r. ⌜ r ≡ getD (objectAt e (now (o .entry)) .dos) i noLoop .body ⌝ }
+{
+    word::index(word::load(o, e.dos + 16 * i + 12))
+}
+
+// How many successors.
+pub fn width_of(o: &[u8], e: Layout, operation: usize, x: usize) -> usize
+    requires { ⌜ Placed e (now o) × (operandRight (objectAt e (now o)) operation x ≡ true) ⌝ }
+    ensures { λ r. ⌜ ((a : ℕ) → r ≡ length (successors a (meant (objectAt e (now (o .entry))) operation x))) ⌝ }
+{
+    match operation {
+        0 => 0,
+        12 => 3,
+        13 => exit_at(o, e, x),
+        15 => 2,
+        _ => 1,
+    }
+}
+
+// One of them. A computed branch's count stands before its targets.
+pub fn next_of(o: &[u8], e: Layout, operation: usize, x: usize, a: usize, k: usize) -> usize
+    requires { ⌜ Placed e (now o) × (operandRight (objectAt e (now o)) operation x ≡ true) ⌝ }
+    requires { ⌜ (a < 4096) × (k < length (successors a (meant (objectAt e (now o)) operation x))) ⌝ }
+    ensures { λ r. ⌜ r ≡ getD (successors a (meant (objectAt e (now (o .entry))) operation x)) k 0 ⌝ }
+{
+    match operation {
+        11 => x,
+        12 => exit_at(o, e, x + k),
+        13 => exit_at(o, e, x + 1 + k),
+        15 => {
+            if k == 0 {
+                return body_of(o, e, x);
+            }
+            a + 1
+        }
+        _ => a + 1,
+    }
+}
