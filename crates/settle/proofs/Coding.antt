@@ -25,7 +25,7 @@ use Rattle.addresses.specs.Ends.{endsAt}
 use Rattle.addresses.proofs.Told.{row-kind, row-own, own-length}
 use Rattle.addresses.proofs.Lasts.{take-more}
 use Rattle.addresses.proofs.DeckEnds.{ends-are}
-use Rattle.settle.specs.Settling.{Settling, Aimed, ownWords, endWord}
+use Rattle.settle.specs.Settling.{Settling, Aimed, goWord, ownWords, endWord}
 use Rattle.settle.proofs.Filling.{piece, piece-inside, targets-get}
 use Rattle.settle.proofs.Likeness.{Alike, alike-self, Like, enter, form-likes, form-tables, emit-like, emit-append}
 use Rattle.settle.proofs.Splitting.{dosIn, number-is, plainBefore, plainHere, plainAfter, plain-split, plain-more, code-split, code-more}
@@ -135,7 +135,7 @@ module _ {k : ℕ} {deck : List Statement} {rows : List ℕ} {count : ℕ} {loop
       own-plain j h =
           let b = ne-eqb (getD rows (5 * i + 1) 0) 1 (λ z. h (sym (row-kind (told .judged .in-rows) i s e) ∙ z)) in
           let l = at-before deck i e in
-          ap (λ (t : Bool). cond t ((184549376 + getD starts (getD jumps j 0) 0) ∷ []) (take (getD rows (5 * i + 3) 0) (drop from draft))) b
+          ap (λ (t : Bool). cond t (goWord (getD starts (getD jumps j 0) 0) ∷ []) (take (getD rows (5 * i + 3) 0) (drop from draft))) b
           ∙ drafted-here
           ∙ sym (emit-like (alike-to deck i (omega arith))
           (form-likes (heldOf deck) (dimsOf deck) (addressOf deck) (λ m. m) (enterCode deck i (s .form)) (DOI (dosIn (take i deck)) noLoop) (s .form) h
@@ -152,8 +152,8 @@ module _ {k : ℕ} {deck : List Statement} {rows : List ℕ} {count : ℕ} {loop
           let zero-more : j + 0 ≡ j = omega arith in
           let t = ap (λ (p : ℕ). getD starts (getD jumps p 0) 0) (sym zero-more) ∙ targets-get jumps starts j 1 0 long (omega arith)
           ∙ ap (λ (l : List ℕ). getD l 0 0) (targets-here lead i s e j 1 at (sym one) ∙ ap (λ (f : Form). map (addressOf deck) (jumpWords f)) g ∙ ap (map (addressOf deck)) (one-jump m)) in
-          ap (λ (c : Bool). cond c ((184549376 + getD starts (getD jumps j 0) 0) ∷ []) (take (getD rows (5 * i + 3) 0) (drop from draft))) b
-          ∙ ap (λ (a : ℕ). (184549376 + a) ∷ []) t
+          ap (λ (c : Bool). cond c (goWord (getD starts (getD jumps j 0) 0) ∷ []) (take (getD rows (5 * i + 3) 0) (drop from draft))) b
+          ∙ ap (λ (a : ℕ). goWord a ∷ []) t
           ∙ ap (λ (f : Form). emit (tablesOf noTables (codeTo deck i)) (formCode (heldOf deck) (dimsOf deck) (addressOf deck) (enterCode deck i f) f)) (sym g)
 
       pub own-is : (j : ℕ) → j ≡ length (deckJumps (take i deck)) → ownWords (getD rows (5 * i + 1) 0) (getD rows (5 * i + 3) 0) draft from jumps j starts ≡ emit (tablesOf noTables (codeTo deck i)) formHere

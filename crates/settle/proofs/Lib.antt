@@ -5,4 +5,3 @@ pub mod Aiming
 pub mod Branching
 pub mod Coding
 pub mod Reaching
-pub mod KeptCode

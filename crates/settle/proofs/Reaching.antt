@@ -18,7 +18,7 @@ use Rattle.draft.specs.Sketch.{deckJumps}
 use Rattle.addresses.specs.Given.{Holds}
 use Rattle.addresses.specs.Ends.{endsAt}
 use Rattle.addresses.proofs.Holding.{holds-none, holds-more, holds-as, put-as}
-use Rattle.settle.specs.Settling.{Settling, Aimed, ownWords, endWord}
+use Rattle.settle.specs.Settling.{Settling, Aimed, goWord, ownWords, endWord}
 use Rattle.settle.proofs.Aiming.{leading, jumps-next, jumps-inside}
 use Rattle.addresses.proofs.Told.{row-jumps}
 use Rattle.settle.proofs.Coding.{codeTo, plainTo, drafted-inside, own-is, plain-next, jump-aimed, ends-here, words-next, words-fit}
@@ -76,6 +76,6 @@ pub own-size : {rows loops : List ℕ} {n : ℕ} {jumps starts draft : List ℕ}
 own-size {rows} {loops} {n} {jumps} {starts} {draft} {from} {j} {top} {i} room {a} {b} {next} p = go (eqb (getD rows (5 * i + 1) 0) 1) refl (p .top)
   where
     go : (t : Bool) → eqb (getD rows (5 * i + 1) 0) 1 ≡ t
-        → next ≡ top + length (cond t ((184549376 + getD starts (getD jumps j 0) 0) ∷ []) (take (getD rows (5 * i + 3) 0) (drop from draft))) → next ≤ top + getD rows (5 * i + 3) 0
+        → next ≡ top + length (cond t (goWord (getD starts (getD jumps j 0) 0) ∷ []) (take (getD rows (5 * i + 3) 0) (drop from draft))) → next ≤ top + getD rows (5 * i + 3) 0
     go true e h = omega (arith, room .aimed (eqb-true (getD rows (5 * i + 1) 0) 1 e) .0)
     go false e h = omega (arith, length-take (getD rows (5 * i + 3) 0) (drop from draft))

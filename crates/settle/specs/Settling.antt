@@ -1,7 +1,7 @@
 -- What settling the code of an accepted deck is given, and the words that a statement gets.
 -- Assumes nothing.
 use mathlib.Core.Path.{_≡_}
-use Prim.Native.Nat.{ℕ, _+_, _*_, _≤_, _<_}
+use Prim.Native.Nat.{ℕ, _+_, _*_, _^_, _≤_, _<_}
 use mathlib.Core.Bool.{cond}
 use mathlib.Core.List.{List, [], _∷_, map}
 use lib.Dec.{eqb}
@@ -42,15 +42,17 @@ pub record Aimed (jumps : List ℕ) (j many : ℕ) (starts : List ℕ) : Type 0 
   pub inside : (m : ℕ) → m < many → getD jumps (j + m) 0 < length starts
   pub small : (m : ℕ) → m < many → getD starts (getD jumps (j + m) 0) 0 ≤ 4096
 
--- 11 * 2 ^ 24 is JMP, 15 * 2 ^ 24 is DOE
+-- operation 11
+abbrev pub goWord : ℕ → ℕ
+goWord address = 11 * 2 ^ 24 + address
 
 -- a GO TO gets its target's address, every other statement's words are as drafted
 abbrev pub ownWords : ℕ → ℕ → List ℕ → ℕ → List ℕ → ℕ → List ℕ → List ℕ
-ownWords kind own draft from jumps j starts = cond (eqb kind 1) ((184549376 + getD starts (getD jumps j 0) 0) ∷ []) (take own (drop from draft))
+ownWords kind own draft from jumps j starts = cond (eqb kind 1) (goWord (getD starts (getD jumps j 0) 0) ∷ []) (take own (drop from draft))
 
--- the DOE of the d-th DO
+-- the DOE of the d-th DO, operation 15
 abbrev pub endWord : ℕ → ℕ
-endWord d = 251658240 + d
+endWord d = 15 * 2 ^ 24 + d
 
 abbrev pub endOf : ℕ → ℕ → ℕ → List ℕ
 endOf last i d = cond (eqb last i) (endWord d ∷ []) []

@@ -16,11 +16,9 @@ const COMPUTED: u64 = 2;
 
 const IF: u64 = 3;
 
-// operation 11
-const JMP: u32 = 184549376;
+const JMP: u32 = 11;
 
-// operation 15
-const DOE: u32 = 251658240;
+const DOE: u32 = 15;
 
 // As many words, one after the other.
 fn copy(out: &mut [u32], top: usize, words: &[u32], from: usize, count: usize) -> usize
@@ -43,7 +41,7 @@ fn put_end(out: &mut [u32], top: usize, last: usize, i: usize, d: usize) -> usiz
     if last != i {
         return top;
     }
-    addresses::put(out, top, DOE + d as u32)
+    addresses::put(out, top, word::pack(DOE, d as u32))
 }
 
 // The DOEs of the DOs that end with the statement at position i, the innermost first: the latest.
@@ -81,7 +79,7 @@ fn put_own(
     }
     let target = addresses::wide(jumps[j]);
     let address = starts[target];
-    addresses::put(out, top, JMP + address)
+    addresses::put(out, top, word::pack(JMP, address))
 }
 
 // The code of an accepted deck; how many words it is.

@@ -7,6 +7,7 @@ use Prim.Native.Nat.{ℕ, _+_}
 use lib.ListN.{getD, take, drop}
 use borrow.Author.Tests.{eq-eqb, ne-eqb}
 use Rattle.addresses.proofs.Holding.{put-as}
+use Rattle.settle.specs.Settling.{goWord}
 use Rattle.settle.proofs.Filling.{aimed-first}
 use borrow.Author.Needs.{needs}
 use Rattle.settle.proofs.put_own.Statement.{statement}
@@ -21,7 +22,7 @@ same-length c = search needs
 returns : tie.Need-returns
 returns c =
     let s = c .before .before .before .before .before .before .before .before .before .args in
-    put-as (ap (λ (b : Bool). cond b ((184549376 + getD (s .starts .now) (getD (s .jumps .now) (s .j) 0) 0) ∷ []) (take (s .own) (drop (s .from) (s .draft .now)))) (sym (ne-eqb (s .kind) 1 (c .before .before .before .before .if1 .taken)))) (c .before .before .copy .ensures)
+    put-as (ap (λ (b : Bool). cond b (goWord (getD (s .starts .now) (getD (s .jumps .now) (s .j) 0) 0) ∷ []) (take (s .own) (drop (s .from) (s .draft .now)))) (sym (ne-eqb (s .kind) 1 (c .before .before .before .before .if1 .taken)))) (c .before .before .copy .ensures)
 
 mul-wide : tie.Need-mul-wide
 mul-wide c =
@@ -46,23 +47,26 @@ shared-slice-read-address c =
     let a = aimed-first (c .before .before .before .before .before .before .before .before .pre .2 (c .before .before .before .if1 .left) .1) in
     omega (arith, a .inside, c .before .wide .ensures)
 
-add-put : tie.Need-add-put
-add-put c =
+pack-requires : tie.Need-pack-requires
+pack-requires c κs =
     let s = c .before .before .before .before .before .before .before .before .before .args in
     let a = aimed-first (c .before .before .before .before .before .before .before .before .before .pre .2 (c .before .before .before .before .if1 .left) .1) in
-    omega (arith, a .small, ap (λ (p : ℕ). getD (s .starts .now) p 0) (c .before .before .wide .ensures))
+    (omega arith, omega (arith, a .small, ap (λ (p : ℕ). getD (s .starts .now) p 0) (c .before .before .wide .ensures)))
 
 put-requires : tie.Need-put-requires
-put-requires c κs =
-    omega (arith, c .before .before .before .before .before .before .before .before .before .pre .0, c .before .before .before .before .before .before .before .before .before .pre .2 (c .before .before .before .before .if1 .left) .0)
+put-requires c κs = omega (arith, c .before .before .before .before .before .before .before .before .before .before .pre .0, c .before .before .before .before .before .before .before .before .before .before .pre .2 (c .before .before .before .before .before .if1 .left) .0)
 
 same-length-2 : tie.Need-same-length-2
 same-length-2 c = search needs
 
 returns-2 : tie.Need-returns-2
 returns-2 c =
-    let s = c .before .before .before .before .before .before .before .before .before .before .before .before .args in
-    put-as (ap (λ (p : ℕ). (184549376 + getD (s .starts .now) p 0) ∷ []) (c .before .before .before .before .before .wide .ensures) ∙ ap (λ (b : Bool). cond b ((184549376 + getD (s .starts .now) (getD (s .jumps .now) (s .j) 0) 0) ∷ []) (take (s .own) (drop (s .from) (s .draft .now)))) (sym (eq-eqb (s .kind) 1 (c .before .before .before .before .before .before .before .if1 .left)))) (c .before .before .put .ensures)
+    let s = c .before .before .before .before .before .before .before .before .before .before .before .before .before .args in
+    put-as
+    (ap (λ (w : ℕ). w ∷ []) (c .before .before .before .pack .ensures)
+    ∙ ap (λ (p : ℕ). goWord (getD (s .starts .now) p 0) ∷ []) (c .before .before .before .before .before .before .wide .ensures)
+    ∙ ap (λ (b : Bool). cond b (goWord (getD (s .starts .now) (getD (s .jumps .now) (s .j) 0) 0) ∷ []) (take (s .own) (drop (s .from) (s .draft .now)))) (sym (eq-eqb (s .kind) 1 (c .before .before .before .before .before .before .before .before .if1 .left))))
+    (c .before .before .put .ensures)
 
 pub put-own-spec : {M : Type 1} → statement M
 put-own-spec =
@@ -76,7 +80,7 @@ put-own-spec =
     wide-requires
     mul-address
     shared-slice-read-address
-    add-put
+    pack-requires
     put-requires
     same-length-2
     returns-2)
