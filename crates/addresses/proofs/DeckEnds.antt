@@ -20,7 +20,7 @@ use Rattle.rules_deck.specs.Translation.{heldOf, doNumber, words, addressAt}
 use Rattle.rules_deck.specs.Accepted.{Among}
 use Rattle.rules_deck.proofs.TestLaws.{clash, at-before}
 use Rattle.rules_deck.proofs.Addresses.{at-some, address-suc, address-most}
-use Rattle.rules_deck.proofs.Rows.{Rising, next, rising, rising-least}
+use Rattle.rules_deck.proofs.Rows.{Rising, next, rising, rising-least, number-none}
 use Rattle.rules_deck.proofs.NestedDeck.{number-at, last-number}
 use Rattle.rules_deck.proofs.FittingDeck.{fitting}
 use Rattle.draft.specs.Sketch.{deckJumps, loopsFrom}
@@ -30,10 +30,6 @@ use Rattle.addresses.proofs.Told.{begins-long, begins-at, row-own, own-
 use Rattle.addresses.proofs.Lasts.{reverse-last, take-more, among-at, map-get, DoTold, do-told, loops-length}
 
 -- ---- a DO's number
-
-number-none : {q : ℕ} (ds : List Do) (p : ℕ) → Rising q ds → p ≤ q → doNumber ds p ≡ 0
-number-none [] p h l = refl
-number-none (d ∷ ds) p (next k h) l = rw (le-ltb (d .position) p (omega arith)) (number-none ds p h (omega arith))
 
 number-of : {q : ℕ} (ds : List Do) (m : ℕ) (x : Do) → Rising q ds → getElem? ds m ≡ some x → doNumber ds (x .position) ≡ m
 number-of [] m x h e = absurd (clash (sym e))

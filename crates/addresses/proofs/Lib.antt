@@ -4,4 +4,3 @@ pub mod Lasts
 pub mod DeckEnds
 pub mod Passing
 pub mod Holding
-pub mod KeptRows

@@ -1,4 +1,4 @@
--- What is known of an accepted deck when its code is settled: its rows, its DOs, where its jumps lead, and its code as drafted.
+-- What is known of an accepted deck when its code is settled: its rows, its DOs, and where its jumps lead.
 -- Assumes nothing.
 use mathlib.Core.Path.{_≡_}
 use Prim.Native.Nat.{ℕ, _*_, _≤_}

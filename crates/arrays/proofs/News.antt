@@ -20,7 +20,7 @@ use Rattle.forms.specs.Statements.{arrayWords, allWords}
 use Rattle.draft.specs.Names.{Told}
 use Rattle.names.specs.Lookups.{Holds}
 use Rattle.names.proofs.Tests.{and-true}
-use Rattle.names.proofs.Words.{word-test}
+use Rattle.draft.proofs.NameWords.{word-test}
 use Rattle.arrays.specs.One.{brought, isNamed, someWords, IsNew}
 
 -- ---- words

@@ -1,15 +1,13 @@
 -- First the operand that stands first, then the items.
 -- Assumes nothing.
-use mathlib.Core.Path.{_≡_, refl, sym, ap, ap₂, _∙_, subst}
+use mathlib.Core.Path.{_≡_, sym, ap, _∙_, subst}
 use Prim.Native.Nat.{ℕ, _+_, _≤_, _<_}
 use native.Mathlib.Omega.{arith}
 use mathlib.Core.Bool.{Bool, true, false, _&&_}
 use mathlib.Core.List.{List, [], _∷_, _++_}
-use lib.ListN.{length}
-use Rattle.rules_deck.specs.Translation.{Held, hidden, cellCount, appear}
-use Rattle.rules_deck.proofs.Readers.{All}
-use Rattle.draft.specs.Parts.{Item, itemsWords, itemsNames, itemsPlain, rightItems}
-use Rattle.draft.specs.Names.{Lists, Told, namesFit}
+use Rattle.rules_deck.specs.Translation.{Held, hidden, appear}
+use Rattle.draft.specs.Parts.{itemsPlain, rightItems}
+use Rattle.draft.specs.Names.{Lists, namesFit}
 use Rattle.names.specs.declared.Grown.{Grown}
 use Rattle.names.specs.declared.Grown.the-variants.{Names, Full}
 use Rattle.names.specs.Lookups.{References}

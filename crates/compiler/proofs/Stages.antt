@@ -1,15 +1,14 @@
 -- What each stage's answer makes of the whole.
 -- Assumes nothing.
 use mathlib.Core.Path.{_≡_, refl, sym, ap, _∙_, subst}
-use Prim.Native.Nat.{ℕ, zero, suc, _≤_, _<_, _^_}
-use mathlib.Core.List.{List, [], _∷_, _++_, map}
+use Prim.Native.Nat.{ℕ, suc, _<_, _^_}
+use mathlib.Core.List.{List, _++_}
 use mathlib.Core.Option.{Option, none, some}
 use native.Mathlib.Omega.{arith}
-use lib.ListN.{length, take, getElem?}
+use lib.ListN.{length, getElem?}
 use Rattle.rules_object.specs.Bytes.{objectBytes}
-use Rattle.rules_object.specs.Calls.{Refusal, refusal, Written, notWritten, write}
-use Rattle.rules_deck.specs.Trees.{Name, Form, assign, goTo, computed, ifs, loop, continue, stop, end, dimension, Target, cell, element, Statement}
-use Rattle.rules_deck.specs.Deck.{positionOf}
+use Rattle.rules_object.specs.Calls.{Refusal, refusal, notWritten, write}
+use Rattle.rules_deck.specs.Trees.{Name, Form, assign, loop, Target, cell, Statement}
 use Rattle.rules_deck.specs.Cards.{Punched, Carded, cardsRefused, statements, carded}
 use Rattle.rules_deck.specs.Translation.{targetPlain, exprPlain, formPlain, heldOf, translate}
 use Rattle.rules_deck.specs.Whole.{targetSets, formSets, judgeDeck}
@@ -29,7 +28,6 @@ use Rattle.draft.specs.declared.Counts.{Counts}
 use Rattle.draft.specs.Names.{Told}
 use Rattle.draft.specs.Draft.{draftOf}
 use Rattle.draft.specs.Kept.{Room, Fit, Kept}
-use Rattle.draft.specs.Sketch.{deckJumps}
 use Rattle.draft.proofs.DraftDeck.{draft-held}
 use Rattle.draft.proofs.DeckKept.{kept-deck}
 use Rattle.draft.proofs.Knowing.{all-of}
@@ -44,7 +42,6 @@ use Rattle.writer.specs.declared.Wrote.{Wrote}
 use Rattle.writer.specs.declared.Wrote.the-variants as wrote
 use Rattle.writer.specs.Answer as written
 use Rattle.finish.specs.Finishing.{Finished}
-use Rattle.compiler.specs.declared.Compiled.{Compiled}
 use Rattle.compiler.specs.declared.Compiled.the-variants.{Refused, Object, Short}
 use Rattle.compiler.specs.Compiled.{answer, Punches, Holds}
 

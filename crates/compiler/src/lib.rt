@@ -1,5 +1,5 @@
 // A deck compiled: its cards, its statements one by one, the deck as a whole, and then its object, or the first of them that refuses.
-// All that it works with is in the frames of these functions.
+// All that it works with is on the stack.
 ghost use mathlib.Core.Path.{_≡_};
 ghost use mathlib.Core.List.{List};
 ghost use Rattle.rules_deck.specs.Trees.{Statement};
@@ -114,6 +114,6 @@ pub fn compile(k: u32, deck: &[u8], output: &mut [u8]) -> Compiled
 {
     match cards::judge(k, deck) {
         Judged::Refused { number, place } => Compiled::Refused { number, place },
-        Judged::Statements(last) => compile_statements(k, deck, output),
+        Judged::Statements(_) => compile_statements(k, deck, output),
     }
 }

@@ -6,23 +6,18 @@ use mathlib.Core.List.{List, [], _∷_, map}
 use lib.ListN.{length, length-map}
 use Rattle.rules_object.specs.Object.{Element, Loop}
 use Rattle.rules_object.specs.Bytes.{concat, elementWords, loopWords}
-use Rattle.rules_deck.specs.Trees.{Name, Target, cell, targetNames, Form, assign, loop, Statement, formNames}
+use Rattle.rules_deck.specs.Trees.{Statement}
 use Rattle.rules_deck.specs.Deck.{dosOf}
-use Rattle.rules_deck.specs.Whole.{targetSets, formSets}
 use Rattle.rules_deck.specs.Translation.{cellCount, statementCode, codeFrom, codeOf, Tables, noTables, tablesOf, translate}
 use Rattle.rules_deck.specs.Judge.{nameCount, formExitWords, Taken, nothingTaken, takes}
-use Rattle.rules_deck.specs.Accepted.{Among, here, takenFrom, Accepted}
-use Rattle.rules_deck.proofs.Readers.{All}
-use Rattle.rules_deck.proofs.TestLaws.{among-left}
+use Rattle.rules_deck.specs.Accepted.{takenFrom, Accepted}
 use Rattle.rules_deck.proofs.TableLaws.{tables-append, statement-brings}
-use Rattle.rules_deck.proofs.BodySeven.{all-here}
 use Rattle.draft.specs.declared.Counts.{Counts}
-use Rattle.draft.specs.Names.{heldWords, Told}
+use Rattle.draft.specs.Names.{heldWords}
 use Rattle.draft.specs.Draft.{draftOf}
 use Rattle.draft.specs.Sketch.{plainCode, openEntry}
 use Rattle.draft.specs.Kept.{Kept}
 use Rattle.draft.specs.KeptDeck.{KeptDeck}
-use Rattle.draft.proofs.Knowing.{all-of}
 use Rattle.draft.proofs.Matching.{emit-length, matches-deck}
 use Rattle.draft.proofs.DraftDeck.{draft-held, draft-rows, draft-jumps, draft-loops}
 use Rattle.draft.proofs.FinalDraft.{final-code}
@@ -73,14 +68,3 @@ kept-deck {k} {deck} accepted w =
     }
 
 -- ---- names set
-
-target-sets : {v : Name} (t : Target) → Among v (targetSets t) → Among v (targetNames t)
-target-sets (cell w) a = a
-
-sets-names : {v : Name} (f : Form) → Among v (formSets f) → Among v (formNames f)
-unfolding formSets formNames
-sets-names (assign t e) a = among-left _ (target-sets t a)
-sets-names (loop n w p q r) here = here
-
-pub sets-told : (f : Form) → All Told (formNames f) → All Told (formSets f)
-sets-told f h = all-of (formSets f) (λ v a. all-here h (sets-names f a))

@@ -1,15 +1,13 @@
 -- A form and its parts: words, code, names, constants and references of the form are those of its items.
 -- Assumes nothing.
 use mathlib.Core.Path.{_≡_, refl, sym, ap, _∙_}
-use Prim.Native.Nat.{ℕ, suc}
-use mathlib.Core.Bool.{cond}
+use Prim.Native.Nat.{ℕ}
 use mathlib.Core.List.{List, [], _∷_, _++_, append-nil, append-assoc}
-use lib.ListN.{length}
 use Rattle.rules_object.specs.Machine.{Instr, NEG, OP}
 use Rattle.rules_deck.specs.Trees.{Name, Digits, Expr, con, var, elm, neg, par, bin, exprNames, exprConstants, Form, assign, goTo, computed, ifs, loop, continue, stop, end, dimension}
 use Rattle.rules_deck.specs.Deck.{Dims}
 use Rattle.rules_deck.specs.Meaning.{third}
-use Rattle.rules_deck.specs.Translation.{Held, name, isName, holds, appear, exprPlain, exprCode, formCode}
+use Rattle.rules_deck.specs.Translation.{Held, exprPlain, exprCode, formCode}
 use Rattle.rules_deck.specs.Judge.{Reference, exprReferences}
 use Rattle.items.specs.Items.{flat}
 use Rattle.draft.specs.Parts.{Item, itemsOf, itemWords, itemsWords, itemPlain, itemsPlain, itemReferences, itemsReferences, itemNames, itemsNames, itemConstants, itemsConstants, itemCode, itemsCode, formItems, formEnding}
@@ -37,10 +35,6 @@ pub constants-append : (a b : List Item) → itemsConstants (a ++ b) ≡ itemsCo
 constants-append [] b = refl
 constants-append (i ∷ a) b =
     ap (λ (l : List Digits). itemConstants i ++ l) (constants-append a b) ∙ sym (append-assoc (itemConstants i) (itemsConstants a) (itemsConstants b))
-
-pub appear-append : (held : List Held) (a b : List Name) → appear held (a ++ b) ≡ appear (appear held a) b
-appear-append held [] b = refl
-appear-append held (v ∷ a) b = appear-append (cond (holds (isName v) held) held (held ++ (name v ∷ []))) a b
 
 -- ---- expressions
 
@@ -100,10 +94,6 @@ module _ (held : List Held) (dims : Name → Dims) where
   pub code-append : (a b : List Item) → itemsCode held dims (a ++ b) ≡ itemsCode held dims a ++ itemsCode held dims b
   code-append [] b = refl
   code-append (i ∷ a) b = ap (λ (l : List Instr). itemCode held dims i ∷ l) (code-append a b)
-
-  pub items-length : (is : List Item) → length (itemsCode held dims is) ≡ length is
-  items-length [] = refl
-  items-length (i ∷ is) = ap suc (items-length is)
 
   pub expr-code : (e : Expr) → exprCode held dims e ≡ itemsCode held dims (itemsOf e)
   expr-code (con c) = refl

@@ -2,6 +2,7 @@ pub mod FormParts
 pub mod FormLaws
 pub mod ReadForm
 pub mod Knowing
+pub mod NameWords
 pub mod Matching
 pub mod DraftDeck
 pub mod Steady

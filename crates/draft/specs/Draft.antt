@@ -1,12 +1,12 @@
 -- What compiling keeps of each statement: a draft of its code in which statement numbers stand for addresses and the DOEs are not yet, and what the deck as a
 -- whole is judged by.
 -- Assumes nothing.
-use Prim.Native.Nat.{ℕ, suc, _+_}
+use Prim.Native.Nat.{ℕ, suc}
 use mathlib.Core.List.{List, [], _∷_, _++_, map}
 use lib.ListN.{length}
 use Rattle.rules_object.specs.Object.{Loop}
 use Rattle.rules_object.specs.Machine.{Instr, NEG, DOI}
-use Rattle.rules_deck.specs.Trees.{Name, valueOf, Target, cell, element, Form, assign, goTo, computed, ifs, loop, continue, stop, end, dimension, Statement, formExits, formLast}
+use Rattle.rules_deck.specs.Trees.{valueOf, Target, cell, element, Form, assign, goTo, computed, ifs, loop, continue, stop, end, dimension, Statement, formExits, formLast}
 use Rattle.rules_deck.specs.Translation.{Held, cellOf, limitOf, brings, formCode, Tables, noTables, emit, tablesOf}
 use Rattle.tokens.specs.Words.{nameWord}
 use Rattle.draft.specs.Names.{dimsHeld}

@@ -14,7 +14,7 @@ use Rattle.draft.specs.declared.Counts.{Counts}
 use Rattle.draft.specs.Names.{Lists}
 use Rattle.draft.specs.Draft.{Draft}
 
--- constants, elements and code; exits are only counted
+-- constants and elements; exits are only counted
 pub record Tabled (T : Tables) (constants elements : List ℕ) (n : Counts) : Type 0 where
   pub constants-are : take (n .constants) constants ≡ T .constants
   pub constants-count : n .constants ≡ length (T .constants)

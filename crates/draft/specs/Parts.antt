@@ -1,11 +1,11 @@
--- A form in parts: the operand that stands first in its text, its other operands and operations in order of emission, and the instruction that comes last.
+-- A form in parts: the operand that stands first in its text, its other operands and operations in order of emission, and its last instructions.
 -- Assumes nothing.
 use mathlib.Core.Path.{_≡_}
-use Prim.Native.Nat.{ℕ, suc}
+use Prim.Native.Nat.{ℕ}
 use mathlib.Core.Bool.{Bool, _&&_, not}
 use mathlib.Core.List.{List, [], _∷_, _++_, map}
 use Rattle.number.specs.Number.{Op}
-use Rattle.rules_object.specs.Machine.{Instr, HLT, CON, LOD, STO, LDE, STE, OP, NEG, JMP, BR3, BRC}
+use Rattle.rules_object.specs.Machine.{Instr, HLT, CON, LOD, LDE, OP, NEG, JMP, BR3, BRC}
 use Rattle.rules_deck.specs.Trees.{Name, Digits, valueOf, Subscripts, subscriptsNames, subscriptsConstants, Expr, con, var, elm, neg, par, bin, Target, cell, element, Form, assign, goTo, computed, ifs, loop, continue, stop, end, dimension}
 use Rattle.rules_deck.specs.Deck.{Dims}
 use Rattle.rules_deck.specs.Meaning.{third}

@@ -1,24 +1,21 @@
 -- Statement after statement: what is read so far, and that one more goes on with it.
 -- Assumes nothing.
 use mathlib.Core.Path.{_≡_, refl, sym, ap, _∙_, subst}
-use Prim.Native.Nat.{ℕ, zero, suc, _+_, _≤_, _<_}
+use Prim.Native.Nat.{ℕ, suc, _+_}
 use mathlib.Core.List.{List, [], _∷_, _++_}
 use native.Mathlib.Omega.{arith}
-use lib.ListN.{length, drop, length-append}
+use lib.ListN.{length, length-append}
 use Rattle.rules_object.specs.Calls.{Refusal, refusal}
-use Rattle.rules_deck.specs.Trees.{Form, Statement}
-use Rattle.rules_deck.specs.Cards.{Punched, cardsOf, textOf}
+use Rattle.rules_deck.specs.Trees.{Statement}
+use Rattle.rules_deck.specs.Cards.{Punched, textOf}
 use Rattle.rules_deck.specs.Judge.{Taken, nothingTaken, takes}
 use Rattle.rules_deck.specs.Accepted.{takenFrom}
 use Rattle.rules_deck.specs.Compile.{Read, notRead, read, withStatement, readText, readFrom}
 use Rattle.draft.specs.declared.Counts.{Counts}
-use Rattle.draft.specs.Draft.{Draft, noDraft, drafts, draftOf}
+use Rattle.draft.specs.Draft.{Draft, drafts, draftOf}
 use Rattle.draft.specs.Kept.{Fit, Kept}
-use Rattle.draft.proofs.Matching.{matches-deck}
 use Rattle.draft.proofs.DraftDeck.{draft-next}
-use Rattle.drafting.specs.declared.Step.{Step}
-use Rattle.drafting.specs.declared.Step.the-variants as step
-use Rattle.drafting.specs.Drafted.{punchedAs, toCome, Keeps, Steps, ended, refused, taken}
+use Rattle.drafting.specs.Drafted.{punchedAs, toCome, Keeps}
 
 -- ---- the statements before what is still to be read
 

@@ -1,20 +1,20 @@
 -- One statement: of no text, of no form, refused by 11 to 18, or kept.
 -- Assumes nothing.
 use mathlib.Core.Path.{_≡_, refl, sym, ap, _∙_, subst}
-use Prim.Native.Nat.{ℕ, zero, suc, _+_, _-_, _≤_, _<_}
-use mathlib.Core.Bool.{Bool, true, false}
+use Prim.Native.Nat.{ℕ, suc, _-_, _≤_}
+use mathlib.Core.Bool.{true, false}
 use mathlib.Core.List.{List, [], _∷_}
 use mathlib.Core.Option.{Option, none, some}
 use native.Mathlib.Omega.{arith}
-use lib.ListN.{length, take, drop, length-take}
+use lib.ListN.{length, take, length-take}
 use lib.Seq.{length-sets}
 use Rattle.rules_object.specs.Calls.{refusal}
 use Rattle.rules_deck.specs.Trees.{Form, assign, goTo, computed, ifs, loop, continue, stop, end, dimension}
 use Rattle.rules_deck.specs.Trees as trees
-use Rattle.rules_deck.specs.Cards.{Punched, cardsOf, textOf}
+use Rattle.rules_deck.specs.Cards.{cardsOf, textOf}
 use Rattle.rules_deck.specs.Grammar.{formOf}
 use Rattle.rules_deck.specs.Judge.{Taken, takes, judgeForm}
-use Rattle.rules_deck.specs.Compile.{Read, notRead, withStatement, readText, afterReading, afterJudging}
+use Rattle.rules_deck.specs.Compile.{Read, notRead, readText, afterReading, afterJudging}
 use Rattle.rules_deck.proofs.CardsLaws.{Each, RightStatement}
 use Rattle.cards.specs.declared.Number.{Number}
 use Rattle.texts.specs.Taking.{Accepted, over}
@@ -29,9 +29,8 @@ use Rattle.draft.specs.Kept.{Kept, Matches}
 use Rattle.statements.specs.declared.Outcome.{Outcome}
 use Rattle.statements.specs.declared.Outcome.the-variants as outcome
 use Rattle.statements.specs.Taking.{Fresh, Reading, Took, Judged, Comes}
-use Rattle.drafting.specs.declared.Step.{Step}
 use Rattle.drafting.specs.declared.Step.the-variants as step
-use Rattle.drafting.specs.Drafted.{punchedAs, toCome, Keeps, Steps, Continues, ended, refused, taken}
+use Rattle.drafting.specs.Drafted.{punchedAs, toCome, Steps, refused, taken}
 
 form-is : (f : Form) → isForm (statementOf f) ≡ true
 unfolding isForm statementOf

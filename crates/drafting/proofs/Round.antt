@@ -1,33 +1,28 @@
 -- Around the loop over a deck's statements: where it starts, what each turn gives, and how it ends.
 -- Assumes nothing.
 use mathlib.Core.Path.{_≡_, refl, sym, ap, _∙_, subst}
-use Prim.Native.Nat.{ℕ, zero, suc, _+_, _-_, _≤_, _<_}
+use Prim.Native.Nat.{ℕ, suc, _+_, _≤_, _<_}
 use mathlib.Core.Bool.{Bool, true, false, _&&_, cond}
 use mathlib.Core.List.{List, [], _∷_}
 use native.Mathlib.Omega.{arith}
 use lib.Dec.{leb}
-use lib.ListN.{length, take, drop}
+use lib.ListN.{length}
 use borrow.Author.Tests.{leb-true}
-use Rattle.rules_object.specs.Limits.{limits}
 use Rattle.rules_object.specs.Calls.{refusal}
-use Rattle.rules_deck.specs.Trees.{Statement}
-use Rattle.rules_deck.specs.Cards.{Punched, cardsOf, textOf, rightDigits, rightLength, counted, Carded, cardsRefused, statements, carded}
+use Rattle.rules_deck.specs.Cards.{Punched, cardsOf, textOf, rightDigits, counted, Carded, cardsRefused, statements, carded}
 use Rattle.rules_deck.specs.Judge.{Taken, nothingTaken}
 use Rattle.rules_deck.specs.Compile.{Read, notRead, readText, readFrom}
 use Rattle.rules_deck.proofs.CardsLaws.{statements-few}
-use Rattle.rules_deck.proofs.Readers.{All, all-none}
-use Rattle.texts.specs.Taking.{Accepted}
+use Rattle.rules_deck.proofs.Readers.{all-none}
 use Rattle.texts.proofs.Onward.{from-start}
 use Rattle.draft.specs.declared.Counts.{Counts}
-use Rattle.draft.specs.Names.{Lists}
-use Rattle.draft.specs.Draft.{Draft, noDraft, drafts, draftFrom, draftOf}
-use Rattle.draft.specs.Kept.{Fit, Room, Tabled, Kept, Matches}
+use Rattle.draft.specs.Draft.{Draft, noDraft, draftOf}
+use Rattle.draft.specs.Kept.{Fit, Kept}
 use Rattle.draft.proofs.Matching.{matches-deck}
 use Rattle.statements.specs.Taking.{Fresh}
-use Rattle.statements.proofs.Hidden.{fresh-none, fresh-next}
+use Rattle.statements.proofs.Hidden.{fresh-deck}
 use Rattle.drafting.specs.declared.Step.{Step}
 use Rattle.drafting.specs.declared.Step.the-variants as step
-use Rattle.drafting.specs.declared.Drafted.{Drafted}
 use Rattle.drafting.specs.declared.Drafted.the-variants as drafted
 use Rattle.drafting.specs.Drafted.{toCome, Ahead, Begins, Keeps, Steps, Continues, Drafts, ended, refused, taken, kept}
 use Rattle.drafting.proofs.Going.{Going, takenBy, going-ended, going-refused, going-on}
@@ -86,16 +81,6 @@ kept-none names constants elements dos loops code rows jumps =
     }
 
 -- ---- a DO's position is not taken yet
-
-fresh-from : (q : ℕ) (more : List Statement) (D : Draft) → Fresh q D → Fresh (q + length more) (draftFrom q more D)
-fresh-from q [] D h = let z : q ≡ q + 0 = omega arith in subst (λ (i : ℕ). Fresh i D) z h
-fresh-from q (s ∷ more) D h =
-    let z : suc q + length more ≡ q + suc (length more) = omega arith in
-    subst (λ (i : ℕ). Fresh i (draftFrom (suc q) more (drafts q s D))) z (fresh-from (suc q) more (drafts q s D) (fresh-next q s D h))
-
-fresh-deck : (done : List Statement) → Fresh (length done) (draftOf done)
-unfolding draftOf
-fresh-deck done = let z : 0 + length done ≡ length done = omega arith in subst (λ (i : ℕ). Fresh i (draftFrom 0 done noDraft)) z (fresh-from 0 done noDraft fresh-none)
 
 going-fresh : {k : ℕ} {deck : List ℕ} {ps : List Punched} {card : ℕ} {names constants elements dos loops code rows jumps : List ℕ} {n : Counts}
     (g : Going k deck ps card names constants elements dos loops code rows jumps n) → Fresh (n .statements) (draftOf (g .done))

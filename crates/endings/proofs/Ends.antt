@@ -1,39 +1,34 @@
 -- What ends each form, by its number; and code after the items.
 -- Assumes nothing.
-use mathlib.Core.Path.{_≡_, refl, sym, ap, _∙_, subst}
-use Prim.Native.Nat.{ℕ, _+_, _-_, _^_, _≤_, _<_}
+use mathlib.Core.Path.{_≡_, sym, ap, _∙_, subst}
+use Prim.Native.Nat.{ℕ, _^_, _<_}
 use native.Mathlib.Omega.{arith}
-use mathlib.Core.Bool.{Bool, true, false, _&&_, cond}
-use mathlib.Core.List.{List, [], _∷_, _++_, map}
+use mathlib.Core.Bool.{true, false}
+use mathlib.Core.List.{List, [], _∷_, map}
 use lib.Dec.{leb, eqb}
-use lib.ListN.{length, take, drop, length-map}
+use lib.ListN.{length, length-map}
 use borrow.Author.Tests.{eq-eqb, ne-eqb, leb-true}
-use Rattle.rules_object.specs.Limits.{limits}
 use Rattle.rules_object.specs.Machine.{Instr, LOD, BRC, DOI}
-use Rattle.rules_deck.specs.Trees.{Name, Digits, valueOf, Form, assign, goTo, computed, ifs, loop, continue, stop, end, dimension, formExits, formLast}
+use Rattle.rules_deck.specs.Trees.{Name, Digits, valueOf, Form, goTo, computed, formExits, formLast}
 use Rattle.rules_deck.specs.Translation.{Held, isName, holds, cellOf, Tables}
 use Rattle.rules_deck.specs.Judge.{right13}
 use Rattle.rules_deck.proofs.Readers.{All, all-more, both-true}
 use Rattle.tokens.specs.Words.{capped, nameWord}
-use Rattle.elements.specs.declared.Target.{Target}
-use Rattle.elements.specs.declared.Target.the-variants.{Cell, Element}
 use Rattle.draft.specs.declared.Counts.{Counts}
-use Rattle.draft.specs.Parts.{Item, itemsWords, itemsCode, formFirst, formItems, formEnding}
-use Rattle.draft.specs.Names.{Told, Lists, Known, dimsHeld}
-use Rattle.draft.specs.Draft.{kindOf, noLoop, draftCode}
-use Rattle.draft.specs.Kept.{Tabled, tablesFit, Fit}
-use Rattle.draft.proofs.FormParts.{form-code}
+use Rattle.draft.specs.Parts.{Item, formFirst, formEnding}
+use Rattle.draft.specs.Names.{Told, Known, dimsHeld}
+use Rattle.draft.specs.Draft.{kindOf, noLoop}
 use Rattle.draft.proofs.ReadForm.{rightNumber, number-exact, right13-capped}
 use Rattle.emission.specs.declared.Emitted.{Emitted}
 use Rattle.emission.specs.declared.Emitted.the-variants as emitted
-use Rattle.emission.specs.Emits.{Beside, Grows, Wrote, EmitsWith, Emits}
-use Rattle.emission.specs.Contracts.{Lent, EmitsItems, EmitsStore, EmitsLoad, EmitsJump, EmitsHalt, EmitsThree, EmitsChoose, EmitsEnter}
-use Rattle.emission.proofs.Both.{emits-both, full-then, has-room}
+use Rattle.emission.specs.Emits.{Grows, EmitsWith}
+use Rattle.emission.specs.Contracts.{EmitsStore, EmitsLoad, EmitsJump, EmitsHalt, EmitsThree, EmitsChoose, EmitsEnter}
+use Rattle.emission.proofs.Both.{emits-both, full-then}
 use Rattle.plans.specs.declared.Plan.{Plan}
-use Rattle.plans.specs.Plans.{formPlan, Plans}
+use Rattle.plans.specs.Plans.{formPlan}
 use Rattle.plans.proofs.ByKind.{plan-kind, at-assign, at-go-to, at-computed, at-if, at-do, at-stop, at-end}
 use Rattle.marks.specs.Marks.{cellWord}
-use Rattle.endings.specs.Endings.{doesOf, Emitting, EmitsEnding, EmitsPlan}
+use Rattle.endings.specs.Endings.{doesOf, EmitsEnding}
 
 -- ---- DOEs
 

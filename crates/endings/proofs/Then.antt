@@ -3,29 +3,25 @@
 use mathlib.Core.Path.{_≡_, refl, sym, ap, _∙_, subst}
 use Prim.Native.Nat.{ℕ, _+_, _-_, _≤_}
 use native.Mathlib.Omega.{arith}
-use mathlib.Core.Bool.{true}
-use mathlib.Core.List.{List, [], _∷_, _++_, append-nil}
+use mathlib.Core.List.{List, [], _++_, append-nil}
 use lib.ListN.{length, take, drop}
 use Rattle.rules_object.specs.Limits.{limits}
 use Rattle.rules_object.specs.Machine.{Instr, DOI}
-use Rattle.rules_deck.specs.Trees.{Name, Form, assign, goTo, computed, ifs, loop, continue, stop, end, dimension, formLast}
-use Rattle.rules_deck.specs.Deck.{Dims}
+use Rattle.rules_deck.specs.Trees.{Form, assign, goTo, computed, ifs, loop, continue, stop, end, dimension, formLast}
 use Rattle.rules_deck.specs.Translation.{Held, Tables}
-use Rattle.rules_deck.specs.Judge.{right13}
 use Rattle.draft.specs.declared.Counts.{Counts}
-use Rattle.draft.specs.Parts.{Worded, itemsWords, itemsCode, formFirst, formItems, formEnding}
-use Rattle.draft.specs.Names.{Lists, Known, dimsHeld}
-use Rattle.draft.specs.Draft.{kindOf, noLoop, draftCode}
+use Rattle.draft.specs.Parts.{Worded, itemsCode, formItems, formEnding}
+use Rattle.draft.specs.Names.{Lists, dimsHeld}
+use Rattle.draft.specs.Draft.{kindOf, noLoop}
 use Rattle.draft.specs.Kept.{Tabled, Fit}
 use Rattle.draft.proofs.FormParts.{form-code}
 use Rattle.emission.specs.declared.Emitted.{Emitted}
 use Rattle.emission.specs.declared.Emitted.the-variants as emitted
-use Rattle.emission.specs.Emits.{Beside, Grows, Wrote, EmitsWith}
+use Rattle.emission.specs.Emits.{Beside, Grows, EmitsWith}
 use Rattle.emission.specs.Contracts.{EmitsItems}
 use Rattle.emission.proofs.Both.{emits-both, full-then, has-room}
 use Rattle.plans.specs.declared.Plan.{Plan}
-use Rattle.plans.specs.Plans.{formPlan, Plans}
-use Rattle.endings.specs.Endings.{doesOf, Emitting, EmitsEnding, EmitsPlan}
+use Rattle.endings.specs.Endings.{EmitsEnding, EmitsPlan}
 use Rattle.endings.proofs.Ends.{of-kind}
 
 -- ---- counts

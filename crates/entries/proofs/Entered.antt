@@ -1,7 +1,7 @@
 -- What the lookups give is what the book's entry has.
 -- Assumes nothing.
 use mathlib.Core.Path.{_≡_, refl, sym, ap, _∙_, subst}
-use Prim.Native.Nat.{ℕ, zero, suc, _+_, _*_, _%_, _^_, _<_}
+use Prim.Native.Nat.{ℕ, zero, suc, _*_, _%_, _^_, _<_}
 use native.Mathlib.Omega.{arith}
 use native.Mathlib.Nat.{mod-eq-of-lt}
 use mathlib.Core.List.{List, [], _∷_, _++_}
@@ -24,7 +24,7 @@ use Rattle.items.specs.Parsed.{Put}
 use Rattle.draft.specs.Names.{Lists, Exact, dimsHeld}
 use Rattle.names.specs.declared.Entry.{Entry}
 use Rattle.names.specs.Lookups.{CellOf, ArrayOf}
-use Rattle.names.proofs.Words.{some-word}
+use Rattle.draft.proofs.NameWords.{some-word}
 use Rattle.entries.specs.declared.Linear.{Linear}
 use Rattle.entries.specs.Places.{linearWords, entryWords, Signed, Clear, subscriptWords, LinearOf, SecondOf, PutsElement}
 

@@ -5,16 +5,11 @@ use Prim.Native.Nat.{ℕ, _+_, _*_, _≤_, _<_, _^_}
 use mathlib.Core.List.{List, [], _∷_, map}
 use native.Mathlib.Omega.{arith}
 use lib.ListN.{length, take, length-take}
-use Rattle.rules_object.specs.Limits.{limits}
-use Rattle.rules_object.specs.Object.{Object, Loop}
-use Rattle.rules_object.specs.Bytes.{bytesOf, concat, elementWords, loopWords, lineWords, nameWords, bodies, objectBytes}
+use Rattle.rules_object.specs.Bytes.{bytesOf, concat, loopWords, lineWords, nameWords, bodies, objectBytes}
 use Rattle.rules_deck.specs.Trees.{Statement}
-use Rattle.rules_deck.specs.Deck.{positionOf, dosOf}
-use Rattle.rules_deck.specs.Translation.{heldOf, cellCount, linesFrom, namesFrom, loopEntry, codeOf, translate}
-use Rattle.rules_deck.specs.Accepted.{Accepted, Fitting}
+use Rattle.rules_deck.specs.Deck.{dosOf}
+use Rattle.rules_deck.specs.Translation.{heldOf, linesFrom, namesFrom, loopEntry, translate}
 use Rattle.draft.specs.declared.Counts.{Counts}
-use Rattle.draft.specs.Kept.{Room, Fit}
-use Rattle.draft.specs.KeptDeck.{KeptDeck}
 use Rattle.addresses.specs.Given.{Judged, Starts, Holds}
 use Rattle.lines.specs.Names.{Names}
 use Rattle.settle.specs.Settling.{Settling, Leading}

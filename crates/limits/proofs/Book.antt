@@ -1,17 +1,17 @@
 -- The tests of what the reader gave back are the book's 11 to 14.
 -- Assumes nothing.
 use mathlib.Core.Path.{_≡_, refl, sym, ap, ap₂, _∙_, subst}
-use mathlib.Core.Bool.{Bool, true, false, _&&_, cond}
-use mathlib.Core.List.{List, [], _∷_, _++_, map, append-nil}
-use mathlib.Core.Option.{Option, none, some}
-use Prim.Native.Nat.{ℕ, _≤_, _<_, min}
+use mathlib.Core.Bool.{Bool, true, false, _&&_}
+use mathlib.Core.List.{List, [], _∷_, map, append-nil}
+use mathlib.Core.Option.{Option}
+use Prim.Native.Nat.{ℕ, _≤_, min}
 use native.Mathlib.Omega.{arith}
 use lib.Dec.{leb}
 use lib.ListN.{length, take, length-take, length-map}
 use borrow.Author.Tests.{leb-true, leb-false, le-leb, lt-leb}
-use Rattle.rules_object.specs.Calls.{all, orElse}
+use Rattle.rules_object.specs.Calls.{all}
 use Rattle.rules_deck.specs.Trees.{Name, Expr, Digits, valueOf, Form, assign, goTo, computed, ifs, loop, continue, stop, end, dimension, formNames, formConstants, formExits, formLast, formLevels}
-use Rattle.rules_deck.specs.Judge.{Taken, takes, wrong, right11, right12, right13, right14, right15, right16, right18, judgeForm}
+use Rattle.rules_deck.specs.Judge.{right11, right12, right13, right14}
 use Rattle.tokens.specs.Words.{capped}
 use Rattle.forms.specs.Statements.{formWords, formSizes, statementOf}
 use Rattle.reader.proofs.Limits.{sizes-11, sizes-12, sizes-14}
@@ -39,18 +39,6 @@ most-kept v = go (leb v 99999) refl
 pub capped-right : (n : Digits) → rightNumber (capped n) ≡ rightDigits n
 unfolding rightNumber capped
 capped-right n = ap₂ (λ (a b : Bool). a && b) (least-kept (valueOf n)) (most-kept (valueOf n))
-
--- a right number is what the reader gives
-pub exact : (n : Digits) → rightDigits n ≡ true → capped n ≡ valueOf n
-unfolding capped
-exact n e = let l = leb-true (valueOf n) 99999 (second (leb 1 (valueOf n)) e) in omega arith
-  where
-    second : (a : Bool) → (a && leb (valueOf n) 99999) ≡ true → leb (valueOf n) 99999 ≡ true
-    second true h = h
-    second false h = absurd (clash h)
-      where
-        clash : false ≡ true → ⊥
-        clash p = let z : _≡_ {A = ℕ} 0 1 = cc in omega arith
 
 pub all-capped : (ns : List Digits) → all rightNumber (map capped ns) ≡ all rightDigits ns
 all-capped [] = refl
@@ -81,10 +69,6 @@ three-tell e a b c = rw (capped-right a, capped-right b, capped-right c, and-tru
 list-tells : (ns : List Digits) (v : Name) → all rightNumber (map capped ns) ≡ right13 (computed ns v)
 unfolding right13 formExits formLast
 list-tells ns v = all-capped ns ∙ ap (all rightDigits) (sym (append-nil ns))
-
-no-numbers : (f : Form) → formExits f ≡ [] → formLast f ≡ [] → true ≡ right13 f
-unfolding right13
-no-numbers f a b = sym (ap₂ (λ (x y : List Digits). all rightDigits (x ++ y)) a b)
 
 go-to-alone : (k : ℕ) (n : Digits) → ofNumber (rightNumber (capped n)) ≡ lowest (right11 (goTo n)) (right12 k (goTo n)) (right13 (goTo n)) (right14 (goTo n))
 unfolding right11 right12 right14 formNames formConstants formLevels

@@ -1,6 +1,6 @@
 -- What each branch of the tests tells.
 -- Assumes nothing.
-use mathlib.Core.Path.{_≡_, refl, sym, ap, _∙_}
+use mathlib.Core.Path.{_≡_, sym, ap, _∙_}
 use mathlib.Core.Bool.{Bool, true, false, _&&_, cond}
 use mathlib.Core.List.{List}
 use Prim.Native.Nat.{ℕ, suc, _+_, _-_, _≤_, _<_}
@@ -12,7 +12,7 @@ use lib.Seq.{drop-cons}
 use borrow.Author.Tests.{le-leb, lt-leb}
 use Rattle.rules_object.specs.Calls.{all}
 use Rattle.tokens.specs.declared.Sizes.{Sizes}
-use Rattle.limits.specs.Tests.{rightNumber, ofSizes, ofNumber}
+use Rattle.limits.specs.Tests.{rightNumber, ofSizes}
 
 -- ---- a number
 

@@ -1,4 +1,3 @@
 pub mod Listing
 pub mod Entering
 pub mod Naming
-pub mod KeptNames

@@ -13,10 +13,10 @@ use Rattle.rules_object.specs.Bytes.{concat, wordsOf, nameWords}
 use Rattle.rules_object.specs.Writable.{Each, IsByte, WritableNamed}
 use Rattle.rules_deck.specs.Trees.{Statement}
 use Rattle.rules_deck.specs.Translation.{Held, name, array, hidden, arraySize, heldOf, namesFrom, translate}
-use Rattle.rules_deck.specs.Judge.{nameCount}
 use Rattle.rules_deck.proofs.TestLaws.{clash, at-before}
 use Rattle.rules_deck.proofs.Addresses.{at-some}
 use Rattle.rules_deck.proofs.Emitted.{each-at}
+use Rattle.rules_deck.proofs.FittingDeck.{names-count}
 use Rattle.rules_deck.proofs.CompiledWritable.{compiled-writable}
 use Rattle.tokens.specs.Words.{bytesFrom, nameWord}
 use Rattle.draft.specs.Names.{heldWords}
@@ -37,12 +37,6 @@ held-words at [] = refl
 held-words at (name v ∷ held) = ap (λ (l : List ℕ). nameWord v ∷ at ∷ 0 ∷ 0 ∷ l) (held-words (suc at) held)
 held-words at (array a ∷ held) = ap (λ (l : List ℕ). nameWord (a .name) ∷ at ∷ a .dims .rows ∷ a .dims .columns ∷ l) (held-words (at + arraySize (a .dims)) held)
 held-words at (hidden q ∷ held) = held-words (at + 2) held
-
-names-count : (at : ℕ) (held : List Held) → length (namesFrom at held) ≡ nameCount held
-names-count at [] = refl
-names-count at (name v ∷ held) = ap suc (names-count (suc at) held)
-names-count at (array a ∷ held) = ap suc (names-count (at + arraySize (a .dims)) held)
-names-count at (hidden q ∷ held) = names-count (at + 2) held
 
 four-length : (es : List Named) → length (concat (map fourWords es)) ≡ 4 * length es
 four-length [] = refl

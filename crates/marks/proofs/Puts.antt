@@ -4,17 +4,17 @@ use mathlib.Core.Path.{_≡_, refl, sym, ap, _∙_, subst}
 use Prim.Native.Nat.{ℕ, zero, suc, _+_, _≤_, _<_}
 use native.Mathlib.Numerals.{add-one}
 use native.Mathlib.Omega.{arith}
-use mathlib.Core.Bool.{Bool, true, false, cond}
-use mathlib.Core.List.{List, [], _∷_, _++_, append-nil}
+use mathlib.Core.Bool.{true, false}
+use mathlib.Core.List.{List, [], _∷_, append-nil}
 use lib.Dec.{eqb}
 use lib.ListN.{length, take, getD, length-take}
 use lib.Seq.{take-suc}
 use borrow.Author.Tests.{eq-eqb, ne-eqb}
-use Rattle.rules_deck.proofs.Readers.{All, all-none, all-more}
+use Rattle.rules_deck.proofs.Readers.{All, all-more}
 use Rattle.elements.specs.declared.Target.{Target}
 use Rattle.elements.specs.declared.Target.the-variants.{Cell, Element}
 use Rattle.items.specs.Parsed.{Put}
-use Rattle.items.proofs.Tables.{put-one, put-more}
+use Rattle.items.proofs.Tables.{put-more}
 use Rattle.plans.specs.declared.Plan.{Plan}
 use Rattle.marks.specs.Marks.{numbersOf, Low, Jumping, cellWord, setOf}
 

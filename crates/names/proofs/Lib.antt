@@ -1,5 +1,4 @@
 pub mod Tests
-pub mod Words
 pub mod Spots
 pub mod Leaves
 pub mod Looks

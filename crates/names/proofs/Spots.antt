@@ -19,7 +19,7 @@ use Rattle.tokens.specs.Words.{nameWord}
 use Rattle.draft.specs.Names.{heldWords, dimsHeld, Told, SomeRows}
 use Rattle.names.specs.Find.{ofKind, isEntry, firstEntry}
 use Rattle.names.proofs.Tests.{and-true, and-false}
-use Rattle.names.proofs.Words.{word-test, some-word}
+use Rattle.draft.proofs.NameWords.{word-test, some-word}
 
 -- entry i of n, if it is one of them, and what it says
 pub record Spot (words : List ℕ) (n i : ℕ) (found : Bool) (first rows columns : ℕ) : Type 0 where

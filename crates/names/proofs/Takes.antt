@@ -19,7 +19,7 @@ use Rattle.names.specs.declared.Grown.the-variants.{Names, Full}
 use Rattle.names.specs.Lookups.{Holds}
 use Rattle.names.specs.Appears.{Appeared, Within, TakesName, TakesAny, TakesItem}
 use Rattle.names.proofs.Tests.{split-all}
-use Rattle.names.proofs.Words.{some-word}
+use Rattle.draft.proofs.NameWords.{some-word}
 use Rattle.names.proofs.Rights.{no-operand, kind-is}
 use Rattle.names.proofs.Growth.{count-append, cells-append, lists-more, over-names, over-cells, over-appear, appear-append}
 

@@ -1,20 +1,20 @@
 -- The parts of the table that a plan names, and 15 and 16 of them.
 -- Assumes nothing.
-use mathlib.Core.Path.{_≡_, refl, sym, ap, ap₂, _∙_, subst}
-use Prim.Native.Nat.{ℕ, _+_, _*_, _-_, _≤_}
+use mathlib.Core.Path.{_≡_, refl, sym, ap, _∙_}
+use Prim.Native.Nat.{ℕ, _*_, _-_, _≤_}
 use native.Mathlib.Omega.{arith}
-use mathlib.Core.Bool.{Bool, true, false, _&&_}
-use mathlib.Core.List.{List, [], _∷_, _++_}
+use mathlib.Core.Bool.{Bool, true}
+use mathlib.Core.List.{List}
 use lib.ListN.{length, take, drop, length-take}
 use Rattle.rules_deck.specs.Trees.{Array, arrayNames, Form, assign, goTo, computed, ifs, loop, continue, stop, end, dimension, formNames}
 use Rattle.rules_deck.specs.Translation.{Held}
-use Rattle.rules_deck.specs.Judge.{rightArrays, right15, right16}
+use Rattle.rules_deck.specs.Judge.{rightArrays, right15}
 use Rattle.rules_deck.proofs.Readers.{All}
 use Rattle.rules_deck.proofs.BodySeven.{all-here}
 use Rattle.forms.specs.Statements.{allWords}
 use Rattle.draft.specs.Draft.{kindOf}
-use Rattle.draft.specs.Parts.{Item, itemsWords, itemsNames, formFirst, formItems, Worded}
-use Rattle.draft.specs.Names.{Lists, Told}
+use Rattle.draft.specs.Parts.{itemsNames, formFirst, formItems, Worded}
+use Rattle.draft.specs.Names.{Told}
 use Rattle.draft.proofs.FormLaws.{form-right16, first-names, items-names}
 use Rattle.draft.proofs.Knowing.{all-of}
 use Rattle.arrays.specs.Arrays.{Dimensions}

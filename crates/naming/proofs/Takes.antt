@@ -2,7 +2,7 @@
 -- Assumes nothing.
 use mathlib.Core.Path.{_≡_, refl, sym, ap, _∙_, subst}
 use Prim.Native.Nat.{ℕ, _*_, _-_, _≤_}
-use mathlib.Core.Bool.{Bool, true, false}
+use mathlib.Core.Bool.{true}
 use mathlib.Core.List.{List, [], _∷_, _++_, map, append-nil}
 use lib.ListN.{take, drop}
 use Rattle.rules_deck.specs.Trees.{Array, arrayNames, Form, assign, goTo, computed, ifs, loop, continue, stop, end, dimension, formNames}
@@ -12,8 +12,8 @@ use Rattle.rules_deck.specs.Judge.{rightArrays, right15}
 use Rattle.rules_deck.proofs.Readers.{All}
 use Rattle.forms.specs.Statements.{allWords}
 use Rattle.draft.specs.Draft.{kindOf}
-use Rattle.draft.specs.Parts.{itemsWords, itemsPlain, formFirst, formItems}
-use Rattle.draft.specs.Names.{Lists, Told, namesFit}
+use Rattle.draft.specs.Parts.{itemsWords, formFirst, formItems}
+use Rattle.draft.specs.Names.{Lists, Told}
 use Rattle.draft.proofs.FormLaws.{form-plain-both}
 use Rattle.names.specs.declared.Grown.{Grown}
 use Rattle.names.specs.declared.Grown.the-variants.{Names, Full}

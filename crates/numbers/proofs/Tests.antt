@@ -71,15 +71,3 @@ module _ (test : ℕ → Bool) (n : ℕ) where
 pub all-same : (t u : ℕ → Bool) (n i : ℕ) → ((k : ℕ) → i ≤ k → k < i + n → t k ≡ u k) → allFrom t n i ≡ allFrom u n i
 all-same t u zero i h = refl
 all-same t u (suc n) i h = rw (h i (omega arith) (omega arith), all-same t u n (suc i) (λ k l g. h k (omega arith) (omega arith)))
-
-pub first-same : (t u : ℕ → Bool) (p : ℕ → ℕ) (n i : ℕ) → ((k : ℕ) → i ≤ k → k < i + n → t k ≡ u k) → firstFrom t p n i ≡ firstFrom u p n i
-first-same t u p zero i h = refl
-first-same t u p (suc n) i h = rw (h i (omega arith) (omega arith), first-same t u p n (suc i) (λ k l g. h k (omega arith) (omega arith)))
-
-pub seek-same : (t u : ℕ → Bool) (n i : ℕ) → ((k : ℕ) → i ≤ k → k < i + n → t k ≡ u k) → seek t n i ≡ seek u n i
-seek-same t u zero i h = refl
-seek-same t u (suc n) i h = rw (h i (omega arith) (omega arith), seek-same t u n (suc i) (λ k l g. h k (omega arith) (omega arith)))
-
-pub count-same : (t u : ℕ → Bool) (n i : ℕ) → ((k : ℕ) → i ≤ k → k < i + n → t k ≡ u k) → countFrom t n i ≡ countFrom u n i
-count-same t u zero i h = refl
-count-same t u (suc n) i h = rw (h i (omega arith) (omega arith), count-same t u n (suc i) (λ k l g. h k (omega arith) (omega arith)))

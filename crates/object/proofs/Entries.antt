@@ -85,6 +85,3 @@ module _ (e : Layout) (s : List ℕ) where
 
   pub line-inside : Placed e s → (i : ℕ) → i < e .«line_count» → e .lines + 12 * i + 12 ≤ length s
   line-inside p i h = omega arith
-
-  pub name-inside : Placed e s → (i : ℕ) → i < e .«name_count» → e .names + 20 * i + 20 ≤ length s
-  name-inside p i h = omega arith

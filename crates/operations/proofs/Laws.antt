@@ -76,9 +76,6 @@ module _ (v l s : ℤ) (hv : natAbs v < 1000000000) (hs : natAbs s < 1000000000)
   pub sum-back : toZ w64 (ofZ w64 (toZ w64 (ofZ w64 v) +ℤ toZ w64 (ofZ w64 s))) ≡ v +ℤ s
   sum-back = ap (λ z. toZ w64 (ofZ w64 z)) sum-is ∙ back (v +ℤ s) sum-small
 
-  limit-is : leZ (toZ w64 (ofZ w64 (toZ w64 (ofZ w64 v) +ℤ toZ w64 (ofZ w64 s)))) (toZ w64 (ofZ w64 l)) ≡ leZ (v +ℤ s) l
-  limit-is = ap₂ leZ sum-back (back l (omega arith))
-
 module _ (s : List ℕ) (b : ℕ) (r : Regs) (so : List ℤ) (L : LoopIn s b so) (i l k : ℕ) (ei : i ≡ wordAt s b) (el : l ≡ wordAt s (b + 4)) (ek : k ≡ wordAt s (b + 8)) where
   abbrev Sum : ℤ
   Sum = toZ w64 (ofZ w64 (toZ w64 (ofZ w64 (cell so i)) +ℤ toZ w64 (ofZ w64 (cell so k))))

@@ -1,7 +1,6 @@
 -- A form by its number.
 -- Assumes nothing.
 use mathlib.Core.Path.{_≡_, refl}
-use Prim.Native.Nat.{ℕ}
 use native.Mathlib.Omega.{arith}
 use mathlib.Core.List.{List}
 use mathlib.Core.Option.{Option}
@@ -75,17 +74,6 @@ at-do P h continue z = absurd (omega arith)
 at-do P h stop z = absurd (omega arith)
 at-do P h end z = absurd (omega arith)
 at-do P h (dimension arrays) z = absurd (omega arith)
-
-pub at-continue : (P : Form → Type 0) → P continue → (f : Form) → kindOf f ≡ 5 → P f
-at-continue P h (assign t e) z = absurd (omega arith)
-at-continue P h (goTo n) z = absurd (omega arith)
-at-continue P h (computed ns v) z = absurd (omega arith)
-at-continue P h (ifs e a b c) z = absurd (omega arith)
-at-continue P h (loop n v p q r) z = absurd (omega arith)
-at-continue P h continue z = h
-at-continue P h stop z = absurd (omega arith)
-at-continue P h end z = absurd (omega arith)
-at-continue P h (dimension arrays) z = absurd (omega arith)
 
 pub at-stop : (P : Form → Type 0) → P stop → (f : Form) → kindOf f ≡ 6 → P f
 at-stop P h (assign t e) z = absurd (omega arith)

@@ -1,9 +1,9 @@
 -- The plan of a form that was read, and its words in the table.
 -- Assumes nothing.
-use mathlib.Core.Path.{_≡_, refl, sym, ap, _∙_, subst}
+use mathlib.Core.Path.{_≡_, refl, sym, ap, _∙_}
 use mathlib.Core.List.{List, [], _∷_, _++_, map, append-nil}
 use mathlib.Core.Option.{Option, none, some}
-use Prim.Native.Nat.{ℕ, _≤_, min}
+use Prim.Native.Nat.{ℕ, _≤_}
 use native.Mathlib.Omega.{arith}
 use lib.ListN.{length, take, length-take}
 use Rattle.rules_deck.specs.Trees.{Expr, Form, assign, goTo, computed, ifs, loop, continue, stop, end, dimension}
@@ -11,9 +11,8 @@ use Rattle.rules_deck.specs.Meaning.{third}
 use Rattle.rules_deck.specs.Accepted.{IsParameter, OptionalParameter, Shaped}
 use Rattle.tokens.specs.Words.{capped}
 use Rattle.items.specs.Items.{targetWords, flat}
-use Rattle.forms.specs.declared.Statement.{Statement}
 use Rattle.forms.specs.Statements.{allWords, formWords, parameterValue, statementOf}
-use Rattle.draft.specs.Parts.{itemsOf, itemWords, itemsWords, targetItem, formFirst, formItems}
+use Rattle.draft.specs.Parts.{itemsOf, itemWords, itemsWords, targetItem, formFirst}
 use Rattle.draft.proofs.FormParts.{words-append, flat-items}
 use Rattle.draft.proofs.FormLaws.{target-words, parameter-words}
 use Rattle.plans.specs.declared.Plan.{Plan}

@@ -1,16 +1,14 @@
 -- A text written part after part: what is still to come is written from where the last part ended.
 -- Assumes nothing.
-use Prim.Native.Nat.{ℕ, zero, suc, _+_, _-_, _≤_, _<_}
+use Prim.Native.Nat.{ℕ, _+_, _≤_, _<_}
 use mathlib.Core.Path.{_≡_, refl, sym, ap, _∙_, subst}
-use mathlib.Core.Bool.{Bool, true, false, cond}
 use mathlib.Core.List.{List, [], _∷_, _++_}
 use native.Mathlib.Omega.{arith}
-use lib.Dec.{eqb}
-use lib.ListN.{length, getD, set, take, drop, length-append, length-set, length-drop}
+use lib.ListN.{length, getD, set, take, drop, length-append, length-drop}
 use lib.Seq.{getD-drop}
 use borrow.Author.Tests.{ne-eqb}
 use Rattle.texts.specs.Taking.{over}
-use Rattle.texts.proofs.TextLaws.{over-none, over-more, over-append}
+use Rattle.texts.proofs.TextLaws.{over-none, over-append}
 use Rattle.cards.proofs.CardLaws.{column, columns-end}
 use Rattle.rules_deck.specs.Cards.{withoutBlanks}
 use Rattle.printing.specs.Puts.{Room, Puts}

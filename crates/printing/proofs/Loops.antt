@@ -1,8 +1,8 @@
 -- A name's values one after the other, and the names.
 -- Assumes nothing.
 use Prim.Native.Nat.{ℕ, _+_, _-_, _*_, _≤_, _<_}
-use mathlib.Core.Path.{_≡_, refl, sym, ap, _∙_, subst}
-use mathlib.Core.List.{List, [], _++_}
+use mathlib.Core.Path.{_≡_, refl, sym, ap, _∙_}
+use mathlib.Core.List.{List, _++_}
 use native.Mathlib.Omega.{arith}
 use lib.ListN.{length}
 use lib.IntN.{ℤ}
@@ -11,9 +11,9 @@ use Rattle.rules_object.specs.Check.{span}
 use Rattle.rules_program.specs.Text.{valueLine, valueLines, nameLines}
 use Rattle.rules_program.specs.Tidy.{values}
 use Rattle.object.specs.declared.Layout.{Layout}
-use Rattle.object.specs.Layout.{listFrom, namedAt, objectAt, Placed}
+use Rattle.object.specs.Layout.{listFrom, namedAt, objectAt}
 use Rattle.printing.specs.declared.Entry.{Entry}
-use Rattle.printing.specs.Puts.{Room, Puts}
+use Rattle.printing.specs.Puts.{Puts}
 use Rattle.printing.specs.Entries.{namedIn, Reads, Inside, AllInside}
 use Rattle.printing.proofs.Going.{Going, going-start, going-on, going-as, going-end}
 use Rattle.printing.proofs.ValueLaws.{lines-more, lines-end, names-more, names-end, values-more}

@@ -1,15 +1,15 @@
 -- Texts written one after the other, byte by byte, and a numeral's digits.
 -- Assumes nothing.
-use Prim.Native.Nat.{ℕ, zero, suc, _+_, _/_, _%_, _≤_, _<_}
+use Prim.Native.Nat.{ℕ, _+_, _/_, _%_, _≤_, _<_}
 use mathlib.Core.Path.{_≡_, refl, sym, ap, _∙_, subst}
 use mathlib.Core.List.{List, [], _∷_, _++_}
 use native.Mathlib.Omega.{arith}
 use native.Mathlib.Numerals.{add-one}
-use lib.ListN.{length, getD, set, take, drop, length-append, length-set, length-drop}
-use lib.Seq.{sets, length-sets, drop-cons}
+use lib.ListN.{length, getD, set, drop, length-append, length-set, length-drop}
+use lib.Seq.{length-sets, drop-cons}
 use Rattle.texts.specs.Taking.{over}
 use Rattle.texts.proofs.TextLaws.{over-none, over-more, over-append}
-use Rattle.rules_program.specs.Text.{numeral, stated}
+use Rattle.rules_program.specs.Text.{numeral}
 use Rattle.rules_program.proofs.Numerals.{numeral-one, numeral-more, numeral-more-length}
 use Rattle.printing.specs.Puts.{Room, Puts}
 

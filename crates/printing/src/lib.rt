@@ -1,6 +1,6 @@
 // What the program prints, written into a lent output from a place on. Each function answers the place after what it wrote.
 ghost use mathlib.Core.Path.{_≡_};
-ghost use Prim.Native.Nat.{_+_, _%_, _*_, _^_, _≤_, _<_};
+ghost use Prim.Native.Nat.{_+_, _%_, _*_, _≤_, _<_};
 ghost use lib.ListN.{length, take, drop};
 ghost use Rattle.rules_object.specs.Machine.{cell};
 ghost use Rattle.rules_object.specs.Check.{span};

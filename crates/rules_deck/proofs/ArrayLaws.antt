@@ -1,14 +1,13 @@
 -- The arrays and the names of a map: what a statement brings to them; the arrays of a deck's map are those that it declares.
 -- Assumes nothing.
 use mathlib.Core.Path.{_≡_, refl, sym, ap, _∙_}
-use Prim.Native.Nat.{ℕ, suc, _≤_}
-use native.Mathlib.Omega.{arith}
+use Prim.Native.Nat.{ℕ, suc}
 use mathlib.Core.Logic.{_⊎_, inl, inr}
 use mathlib.Core.Bool.{Bool, true, false, _||_, cond, false≢true}
 use mathlib.Core.List.{List, [], _∷_, _++_, map, append-nil, append-assoc}
 use Rattle.rules_deck.specs.Trees.{Name, Array, Form, assign, goTo, computed, ifs, loop, continue, stop, end, dimension, Statement}
 use Rattle.rules_deck.specs.Deck.{sameName, Declared, declare, arraysIn, arraysOf, dimsIn, dimsOf}
-use Rattle.rules_deck.specs.Translation.{Held, name, array, hidden, arraySize, cellCount, isName, isArray, holds, appear, formPlain, hiddenIn, brings, heldFrom, heldOf}
+use Rattle.rules_deck.specs.Translation.{Held, name, array, hidden, arraySize, isName, isArray, holds, appear, formPlain, hiddenIn, brings, heldFrom, heldOf}
 use Rattle.rules_deck.specs.Judge.{Reference, rightCount, rightReference}
 use Rattle.rules_deck.specs.Cells.{sizeOf}
 use Rattle.rules_deck.specs.Accepted.{Among, here, there}
@@ -86,12 +85,6 @@ pub size-held : (deck : List Statement) (v : Name) → sizeOf (heldOf deck) v �
 unfolding dimsOf
 size-held deck v = size-in (heldOf deck) v ∙ ap (λ (l : List Declared). arraySize (dimsIn l v)) (arrays-held deck)
 
-pub array-within : (held : List Held) (a : Declared) → Among a (arraysHeld held) → arraySize (a .dims) ≤ cellCount held
-array-within (name v ∷ held) a h = let r = array-within held a h in omega arith
-array-within (array x ∷ held) a here = omega arith
-array-within (array x ∷ held) a (there h) = let r = array-within held a h in omega arith
-array-within (hidden q ∷ held) a h = let r = array-within held a h in omega arith
-
 -- ---- which array a reference means
 
 -- the array of the reference's name, whose dimensions are as many as its subscripts
@@ -163,9 +156,3 @@ no-array v (name w ∷ held) e a h = no-array v held e a h
 no-array v (array x ∷ held) e a here = or-neither (sameName (a .name) v) (holds (isArray v) held) e .0
 no-array v (array x ∷ held) e a (there h) = no-array v held (or-neither (sameName (x .name) v) (holds (isArray v) held) e .1) a h
 no-array v (hidden q ∷ held) e a h = no-array v held e a h
-
-pub array-none : (v : Name) (held : List Held) → ((a : Declared) → Among a (arraysHeld held) → sameName (a .name) v ≡ false) → holds (isArray v) held ≡ false
-array-none v [] h = refl
-array-none v (name w ∷ held) h = array-none v held h
-array-none v (array x ∷ held) h = rw (h x here) (array-none v held (λ a b. h a (there b)))
-array-none v (hidden q ∷ held) h = array-none v held h

@@ -1,6 +1,6 @@
 -- Cards, computed: the examples of section A of the readings, one table, and more for 1, 2 and what is kept as punched.
 -- Assumes nothing.
-use Prim.Native.Nat.{ℕ, zero, suc, _*_}
+use Prim.Native.Nat.{ℕ, _*_}
 use Prim.Native.String.{String}
 use mathlib.Core.Path.{_≡_, refl}
 use mathlib.Core.List.{List, [], _∷_, _++_}

@@ -158,10 +158,6 @@ grow-has held more (key (elementAt v p)) h =
 grow-has held more (limit q) h = holds-left (isHidden q) held more h
 grow-has held more (step q) h = holds-left (isHidden q) held more h
 
-pub grow-cell : (held more : List Held) (s : Slot) → Has held s → slotCell (held ++ more) s ≡ slotCell held s
-grow-cell held more s h =
-    slot-cell (held ++ more) s ∙ ap (λ (c : ℕ). c + slotOffset s) (first-grows (slotTest s) held more (slotOffset s) (has-room held s h) .0) ∙ sym (slot-cell held s)
-
 -- ---- a store
 
 pub slot-same : (held : List Held) (s : Slot) (c : List ℤ) (v : ℤ) → cellCount held ≤ length c → Has held s → cell (set c (slotCell held s) v) (slotCell held s) ≡ v

@@ -56,10 +56,6 @@ tail-blank (suc i) zero b = refl
 tail-blank (suc i) (suc t) zero = refl
 tail-blank (suc i) (suc t) (suc b) = blanks-only t b
 
-tail-none : (i : ℕ) → nameTail i [] ≡ true
-tail-none zero = refl
-tail-none (suc i) = refl
-
 tail-right : (i t b : ℕ) (s : List ℕ) → length s ≤ i → All (Passes isLetterOrDigit) s → nameTail i (take t (s ++ replicate b 32)) ≡ true
 unfolding isLetterOrDigit isLetter isDigit
 tail-right i t b [] l all-none = tail-blank i t b

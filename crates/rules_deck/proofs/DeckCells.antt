@@ -18,13 +18,13 @@ use Rattle.rules_deck.specs.Deck.{Do, doOf, dosFrom, dosOf, dimsOf, widt
 use Rattle.rules_deck.specs.Meaning.{plain, elementAt, Values, placeIn}
 use Rattle.rules_deck.specs.Translation.{Held, name, hidden, isName, isHidden, holds, appear, formPlain, brings, heldFrom, heldOf}
 use Rattle.rules_deck.specs.Accepted.{Among, here, there}
-use Rattle.rules_deck.specs.Cells.{Slot, key, limit, slotCell, Has}
+use Rattle.rules_deck.specs.Cells.{Slot, key, limit, Has}
 use Rattle.rules_deck.proofs.CardsLaws.{cases}
 use Rattle.rules_deck.proofs.TestLaws.{among-append}
 pub use Rattle.rules_deck.proofs.TestLaws.{among-left, among-right}
 pub use Rattle.rules_deck.proofs.ArrayLaws.{size-held as size-dims}
 use Rattle.rules_deck.proofs.Names.{name-same}
-use Rattle.rules_deck.proofs.CellLaws.{holds-right, grow-has, grow-cell}
+use Rattle.rules_deck.proofs.CellLaws.{holds-right, grow-has}
 
 -- ---- a map only grows, at its end
 
@@ -56,9 +56,6 @@ grown-held q (s ∷ deck) held = grown-trans (grown-brings q (s .form) held) (gr
 
 pub grown-has : {held later : List Held} → Grown held later → (s : Slot) → Has held s → Has later s
 grown-has {held} g s h = subst (λ (l : List Held). Has l s) (sym (g .is)) (grow-has held (g .more) s h)
-
-pub grown-cell : {held later : List Held} → Grown held later → (s : Slot) → Has held s → slotCell later s ≡ slotCell held s
-grown-cell {held} g s h = ap (λ (l : List Held). slotCell l s) (g .is) ∙ grow-cell held (g .more) s h
 
 -- ---- plain names
 

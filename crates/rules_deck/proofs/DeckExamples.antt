@@ -5,7 +5,7 @@ use Prim.Native.Nat.{ℕ}
 use Prim.Native.String.{String}
 use mathlib.Core.List.{List, [], _∷_}
 use lib.ListN.{replicate}
-use lib.IntN.{ℤ, pos, negsuc}
+use lib.IntN.{pos}
 use Rattle.rules_deck.specs.Punch.{bytes, deck}
 use Rattle.number.specs.Number.{ceiling, fits, keep, drops, kept, divided, apply}
 use Rattle.rules_object.specs.Runs.{haltNumber}

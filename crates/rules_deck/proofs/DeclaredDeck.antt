@@ -2,7 +2,7 @@
 -- plain name is an array's.
 -- Assumes nothing.
 use mathlib.Core.Path.{_≡_, refl, sym, ap, _∙_, subst}
-use Prim.Native.Nat.{ℕ, suc, _*_, _≤_}
+use Prim.Native.Nat.{ℕ, suc, _≤_}
 use native.Mathlib.Omega.{arith}
 use mathlib.Core.Logic.{_⊎_, inl, inr}
 use mathlib.Core.Bool.{Bool, true, false, not, false≢true}
@@ -11,18 +11,16 @@ use mathlib.Core.Option.{none, some}
 use lib.Dec.{leb}
 use lib.ListN.{length, getElem?}
 use borrow.Author.Tests.{leb-true, eqb-true, not-true}
-use Rattle.rules_object.specs.Limits.{limits}
 use Rattle.rules_object.specs.Calls.{all}
 use Rattle.rules_deck.specs.Trees.{Name, valueOf, Subscripts, one, two, Array, array, Form, assign, computed, ifs, loop, Statement}
-use Rattle.rules_deck.specs.Deck.{sameName, Dims, Declared, declare, arraysIn, arraysOf, dimsOf, width}
-use Rattle.rules_deck.specs.Translation.{Held, isName, isArray, holds, formPlain, brings, heldOf}
+use Rattle.rules_deck.specs.Deck.{sameName, Dims, Declared, declare, arraysIn, arraysOf, dimsOf}
+use Rattle.rules_deck.specs.Translation.{Held, isName, isArray, holds, formPlain, brings}
 use Rattle.rules_deck.specs.Judge.{endsInF, seen, someCells, rightArrays, right15, Reference, formReferences, rightCount, rightReference, right16, Taken, takes}
 use Rattle.rules_deck.specs.Accepted.{Among, here, there, takenBefore, Accepted}
 use Rattle.rules_deck.proofs.CardsLaws.{and-both}
 use Rattle.rules_deck.proofs.TestLaws.{or-neither, among-none, same-name, all-among, among-append, among-map, at-before}
 use Rattle.rules_deck.proofs.TakenLaws.{before-next, kept, held-all}
-use Rattle.rules_deck.proofs.FittingDeck.{fitting}
-use Rattle.rules_deck.proofs.ArrayLaws.{arraysHeld, arrays-brings, arrays-held, array-within, Means, means-in, holds-left, brings-keeps, brings-names, no-array, array-none}
+use Rattle.rules_deck.proofs.ArrayLaws.{arraysHeld, arrays-brings, arrays-held, Means, means-in, holds-left, brings-keeps, brings-names, no-array}
 
 -- ---- 15, for one array of a DIMENSION
 
@@ -129,12 +127,6 @@ module _ {k : ℕ} {deck : List Statement} (accepted : Accepted k deck) where
   pub array-rows : (a : Declared) → Among a (arraysOf deck) → 1 ≤ a .dims .rows
   array-rows a h = held-rows a (subst (Among a) (sym (ap arraysHeld (held-all deck) ∙ arrays-held deck)) h)
 
-  pub array-size : (a : Declared) → Among a (arraysOf deck) → a .dims .rows * width (a .dims .columns) ≤ limits .cells
-  array-size a h =
-      let w = array-within (heldOf deck) a (subst (Among a) (sym (arrays-held deck)) h) in
-      let f = fitting accepted .cells in
-      omega arith
-
   -- ---- an element's array, by its name
 
   means-dims : (j : ℕ) (s : Statement) → getElem? deck j ≡ some s → (e : Reference) → Among e (formReferences (s .form)) →
@@ -144,12 +136,6 @@ module _ {k : ℕ} {deck : List Statement} (accepted : Accepted k deck) where
 
   pub element-rows : (j : ℕ) (s : Statement) → getElem? deck j ≡ some s → (e : Reference) → Among e (formReferences (s .form)) → 1 ≤ dimsOf deck (e .name) .rows
   element-rows j s at e h = let m = means-dims j s at e h in subst (λ (d : Dims). 1 ≤ d .rows) (sym (m .2)) (array-rows (m .0) (m .1))
-
-  pub element-size : (j : ℕ) (s : Statement) → getElem? deck j ≡ some s → (e : Reference) → Among e (formReferences (s .form)) →
-      dimsOf deck (e .name) .rows * width (dimsOf deck (e .name) .columns) ≤ limits .cells
-  element-size j s at e h =
-      let m = means-dims j s at e h in
-      subst (λ (d : Dims). d .rows * width (d .columns) ≤ limits .cells) (sym (m .2)) (array-size (m .0) (m .1))
 
   pub element-count : (j : ℕ) (s : Statement) → getElem? deck j ≡ some s → (e : Reference) → Among e (formReferences (s .form)) →
       Counted (dimsOf deck (e .name)) (e .subscripts)
@@ -195,6 +181,3 @@ module _ {k : ℕ} {deck : List Statement} (accepted : Accepted k deck) where
 
       last : Plain (takenBefore deck (length deck))
       last = kept deck Plain keeps (suc j) (length deck) (at-before deck j at) first
-
-  pub plain-holds : (j : ℕ) (s : Statement) → getElem? deck j ≡ some s → (v : Name) → Among v (formPlain (s .form)) → holds (isArray v) (heldOf deck) ≡ false
-  plain-holds j s at v p = array-none v (heldOf deck) (λ a h. plain-named j s at v p a (subst (Among a) (arrays-held deck) h))

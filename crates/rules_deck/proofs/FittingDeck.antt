@@ -81,7 +81,7 @@ dos-from q (s ∷ deck) t =
     let d = dos-of q (s .form) in
     simp length-append (omega arith)
 
-names-count : (at : ℕ) (held : List Held) → length (namesFrom at held) ≡ nameCount held
+pub names-count : (at : ℕ) (held : List Held) → length (namesFrom at held) ≡ nameCount held
 names-count at [] = refl
 names-count at (name v ∷ held) = ap suc (names-count (suc at) held)
 names-count at (array a ∷ held) = ap suc (names-count (at + arraySize (a .dims)) held)

@@ -5,7 +5,6 @@ pub mod CardsLaws
 pub mod Parse
 pub mod Readers
 pub mod ReadTrees
-pub mod Counts
 pub mod ReadForms
 pub mod Shapes
 pub mod Addresses

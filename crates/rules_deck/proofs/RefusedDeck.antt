@@ -1,7 +1,7 @@
 -- A refused deck is refused by a number, and compiling then leaves the output as it was.
 -- Assumes nothing.
-use mathlib.Core.Path.{_≡_, refl, sym, ap, _∙_, subst}
-use Prim.Native.Nat.{ℕ, zero, suc, _+_, _≤_, _<_}
+use mathlib.Core.Path.{_≡_, refl}
+use Prim.Native.Nat.{ℕ, zero, suc, _<_}
 use native.Mathlib.Omega.{arith}
 use mathlib.Core.Bool.{Bool, true, false, cond}
 use mathlib.Core.List.{List, [], _∷_}
@@ -10,16 +10,14 @@ use lib.Dec.{eqb, leb}
 use lib.ListN.{length}
 use borrow.Author.Tests.{eqb-false}
 use Rattle.rules_object.specs.Limits.{limits}
-use Rattle.rules_object.specs.Bytes.{objectBytes}
-use Rattle.rules_object.specs.Calls.{Refusal, refusal, accepted, orElse, Written, notWritten, writtenIf, write}
+use Rattle.rules_object.specs.Calls.{Refusal, orElse}
 use Rattle.rules_deck.specs.Trees.{Form, Statement}
 use Rattle.rules_deck.specs.Cards.{Punched, textOf, Reading, nothingRead, wrongCard, afterCard, Carded, cardsRefused, statements, cardByCard, rightDigits, rightLength, cardsOf, counted, carded}
 use Rattle.rules_deck.specs.Grammar.{formOf}
 use Rattle.rules_deck.specs.Judge.{Taken, nothingTaken, takes, wrong, right11, right12, right13, right14, right15, right16, right18, judgeForm}
 use Rattle.rules_deck.specs.Whole.{firstWrong, firstWrongDo, refused20, right21, right22, right24, right25, refusedAt, judgeDeck}
 use Rattle.rules_deck.specs.Deck.{dosOf}
-use Rattle.rules_deck.specs.Translation.{translate}
-use Rattle.rules_deck.specs.Compile.{Read, notRead, read, withStatement, afterJudging, afterReading, readText, readFrom, readCarded, orRefuse, judgeRead, deckOf, writeRead, compiling}
+use Rattle.rules_deck.specs.Compile.{Read, notRead, read, withStatement, afterJudging, afterReading, readText, readFrom, readCarded, orRefuse, judgeRead, deckOf}
 use Rattle.rules_deck.proofs.CardsLaws.{cases}
 
 -- where a number is given, it is not 0

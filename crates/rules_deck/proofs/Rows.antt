@@ -1,7 +1,7 @@
 -- A DO's number is the place of its entry: the DOs of a deck stand in the order of their positions.
 -- Assumes nothing.
 use mathlib.Core.Path.{_≡_, refl, sym, ap}
-use Prim.Native.Nat.{ℕ, zero, suc, _+_, _≤_}
+use Prim.Native.Nat.{ℕ, zero, suc, _≤_}
 use native.Mathlib.Omega.{arith}
 use mathlib.Core.List.{List, [], _∷_, _++_, map}
 use mathlib.Core.Option.{some}
@@ -49,7 +49,7 @@ rising-least (next k h) (there a) = omega (arith, rising-least h a)
 
 -- ---- numbers
 
-number-none : {q : ℕ} (ds : List Do) (p : ℕ) → Rising q ds → p ≤ q → doNumber ds p ≡ 0
+pub number-none : {q : ℕ} (ds : List Do) (p : ℕ) → Rising q ds → p ≤ q → doNumber ds p ≡ 0
 number-none [] p h l = refl
 number-none (d ∷ ds) p (next k h) l = rw (le-ltb (d .position) p (omega arith)) (number-none ds p h (omega arith))
 

@@ -1,28 +1,26 @@
 -- A named value's cell as a caller finds it through body 7 is the cell that the translation gave it.
 -- Assumes nothing.
 use mathlib.Core.Path.{_≡_, refl, sym, ap, ap₂, _∙_, subst}
-use mathlib.Core.Logic.{_⊎_, inl, inr}
-use Prim.Native.Nat.{ℕ, zero, suc, _+_, _*_, _≤_, _<_}
+use Prim.Native.Nat.{ℕ, zero, suc, _+_, _*_, _≤_}
 use native.Mathlib.Omega.{arith}
 use mathlib.Core.Bool.{Bool, true, false, _&&_, _||_, cond}
 use mathlib.Core.List.{List, [], _∷_, _++_}
 use mathlib.Core.Option.{Option, none, some}
-use lib.Dec.{eqb, leb, ltb}
+use lib.Dec.{leb, ltb}
 use lib.ListN.{length, take, replicate}
 use borrow.Author.Tests.{ne-eqb, ltb-true, le-leb, lt-ltb}
-use Rattle.rules_object.specs.Object.{Named}
 use Rattle.rules_object.specs.Check.{span}
 use Rattle.rules_deck.specs.Trees.{Name, Statement}
 use Rattle.rules_deck.specs.Cards.{unlessBlank, withoutBlanks}
 use Rattle.rules_deck.specs.Deck.{sameName, Declared, width}
 use Rattle.rules_deck.specs.Meaning.{Key, plain, elementAt}
-use Rattle.rules_deck.specs.Translation.{Held, name, array, hidden, arraySize, size, isName, isArray, firstCell, holds, cellOf, baseOf, heldOf, filled, namesFrom}
+use Rattle.rules_deck.specs.Translation.{Held, name, array, hidden, arraySize, isName, isArray, firstCell, holds, cellOf, baseOf, heldOf, filled, namesFrom}
 use Rattle.rules_deck.specs.Accepted.{Among, here, there, Accepted}
 use Rattle.rules_deck.specs.Cells.{key, slotCell, sizeOf, Has}
-use Rattle.rules_deck.specs.Seen.{entryCell, orNext, cellIn}
-use Rattle.rules_deck.proofs.Readers.{All, all-none, all-more}
+use Rattle.rules_deck.specs.Seen.{orNext, cellIn}
+use Rattle.rules_deck.proofs.Readers.{all-none, all-more}
 use Rattle.rules_deck.proofs.TestLaws.{same-name, clash}
-use Rattle.rules_deck.proofs.MapNames.{namesIn, Distinct, none-yet, new, Full, NoBlank, array-among}
+use Rattle.rules_deck.proofs.MapNames.{namesIn, Distinct, new, Full, NoBlank}
 use Rattle.rules_deck.proofs.MapOnce.{once-held}
 use Rattle.rules_deck.proofs.BodySeven.{held-name, name-length, solid}
 

@@ -1,12 +1,12 @@
 -- What is known of a deck that compiling accepts. These are facts that theorems use: no outcome is defined by them.
 -- Assumes nothing.
 use mathlib.Core.Path.{_≡_}
-use Prim.Native.Nat.{ℕ, zero, suc, _+_, _*_, _≤_, _<_}
-use mathlib.Core.Bool.{Bool, true, false}
+use Prim.Native.Nat.{ℕ, suc, _+_, _*_, _≤_, _<_}
+use mathlib.Core.Bool.{true}
 use mathlib.Core.List.{List, [], _∷_}
 use mathlib.Core.Option.{Option, none, some}
 use lib.ListN.{length, getElem?, take}
-use Rattle.number.specs.Number.{Op, add, sub, mul, div}
+use Rattle.number.specs.Number.{add, sub, mul, div}
 use Rattle.rules_object.specs.Limits.{limits}
 use Rattle.rules_deck.specs.Trees.{Digits, valueOf, Subscripts, Name, Expr, con, var, elm, neg, par, bin, Form, assign, goTo, computed, ifs, loop, continue, stop, end, dimension, Statement, formExits}
 use Rattle.rules_deck.specs.Cards.{textLength, characters, rightDigits}

@@ -1,8 +1,8 @@
 -- What a caller is told of a deck that is compiled and run with a zero store for 1,000,000 steps, and what its meaning comes to. Examples are said in these words.
 -- Assumes nothing.
-use Prim.Native.Nat.{ℕ, zero, suc}
-use mathlib.Core.Bool.{Bool, true, false, cond}
-use mathlib.Core.List.{List, [], _∷_, map}
+use Prim.Native.Nat.{ℕ}
+use mathlib.Core.Bool.{Bool, true, false}
+use mathlib.Core.List.{List, [], map}
 use mathlib.Core.Option.{Option, none, some}
 use lib.Dec.{eqb}
 use lib.ListN.{replicate}
@@ -10,9 +10,9 @@ use lib.IntN.{ℤ, pos}
 use Rattle.rules_object.specs.Runs.{haltNumber, Out, go, halt}
 use Rattle.rules_object.specs.Object.{Object}
 use Rattle.rules_object.specs.Bytes.{readObject}
-use Rattle.rules_object.specs.Calls.{Refusal, refusal, accepted, Ran, running, Written}
+use Rattle.rules_object.specs.Calls.{refusal, Ran, running, Written}
 use Rattle.rules_object.specs.Safe.{freshLent}
-use Rattle.rules_deck.specs.Meaning.{Key, Values, Standing}
+use Rattle.rules_deck.specs.Meaning.{Key, Standing}
 use Rattle.rules_deck.specs.Compile.{compiling}
 use Rattle.rules_deck.specs.Seen.{meaningOf, objectIn, namedValues}
 

@@ -1,8 +1,8 @@
 -- Which cell holds what: a deck's named values and its DOs' bounds in a store. Theorems speak of these.
 -- Assumes nothing.
 use mathlib.Core.Path.{_≡_}
-use Prim.Native.Nat.{ℕ, zero, suc, _+_, _≤_, _<_}
-use mathlib.Core.Bool.{Bool, true, false, cond}
+use Prim.Native.Nat.{ℕ, suc, _+_, _≤_, _<_}
+use mathlib.Core.Bool.{true, cond}
 use mathlib.Core.List.{List, [], _∷_}
 use lib.ListN.{length}
 use lib.IntN.{ℤ}
@@ -10,7 +10,7 @@ use Rattle.rules_object.specs.Machine.{cell}
 use Rattle.rules_deck.specs.Trees.{Name, Statement}
 use Rattle.rules_deck.specs.Deck.{sameName}
 use Rattle.rules_deck.specs.Meaning.{Key, plain, elementAt, Values}
-use Rattle.rules_deck.specs.Translation.{Held, name, array, hidden, arraySize, cellCount, isName, isHidden, holds, cellOf, baseOf, limitOf, heldOf, addressAt}
+use Rattle.rules_deck.specs.Translation.{Held, name, array, hidden, arraySize, cellCount, isName, isHidden, holds, cellOf, baseOf, limitOf, addressAt}
 
 -- a named value, or the limit or the step of the DO at a position
 pub data Slot : Type 0 where

@@ -1,7 +1,6 @@
 -- What compiling answers: the stages one after the other, each refusing in 01's order, then the object's bytes. 01 "Refusal numbers".
 -- Assumes nothing.
-use Prim.Native.Nat.{ℕ, zero, suc}
-use mathlib.Core.Bool.{Bool, true, false, cond}
+use Prim.Native.Nat.{ℕ, suc}
 use mathlib.Core.List.{List, [], _∷_}
 use mathlib.Core.Option.{Option, none, some}
 use Rattle.rules_object.specs.Bytes.{objectBytes}

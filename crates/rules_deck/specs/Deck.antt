@@ -1,12 +1,11 @@
 -- A deck as a list of statements: where a number stands, which DOs there are, which arrays are declared. Positions count from 0.
 -- Assumes nothing.
-use Prim.Native.Nat.{ℕ, zero, suc, _+_, _*_}
+use Prim.Native.Nat.{ℕ, zero, suc}
 use mathlib.Core.Bool.{Bool, true, false, _&&_, cond}
 use mathlib.Core.List.{List, [], _∷_, _++_, map, reverse}
 use mathlib.Core.Option.{Option, none, some}
 use lib.Dec.{eqb}
-use lib.ListN.{length}
-use Rattle.rules_deck.specs.Trees.{Name, Digits, valueOf, Expr, Array, array, Form, assign, goTo, computed, ifs, loop, continue, stop, end, dimension, Statement}
+use Rattle.rules_deck.specs.Trees.{Name, Digits, valueOf, Array, array, Form, assign, goTo, computed, ifs, loop, continue, stop, end, dimension, Statement}
 
 abbrev pub sameName : Name → Name → Bool
 sameName [] [] = true

@@ -1,15 +1,15 @@
 -- Refusals of one statement, 11 to 18: tests on what was read, and the tables that it takes room in. 01 "Refusal numbers".
 -- Assumes nothing.
-use Prim.Native.Nat.{ℕ, zero, suc, _+_, _*_}
+use Prim.Native.Nat.{ℕ, suc, _+_}
 use mathlib.Core.Bool.{Bool, true, false, _&&_, _||_, not, cond}
-use mathlib.Core.List.{List, [], _∷_, _++_, map}
+use mathlib.Core.List.{List, [], _∷_, _++_}
 use mathlib.Core.Option.{Option, none, some}
-use lib.Dec.{leb, ltb, eqb}
+use lib.Dec.{leb, eqb}
 use lib.ListN.{length}
 use Rattle.rules_object.specs.Limits.{limits}
 use Rattle.rules_object.specs.Calls.{all, orElse}
-use Rattle.rules_deck.specs.Trees.{Name, Digits, valueOf, Subscripts, one, two, Array, array, Expr, con, var, elm, neg, par, bin, Target, cell, element, written, Form, assign, goTo, computed, ifs, loop, continue, stop, end, dimension, formNames, formConstants, formExits, formLast, formLevels}
-use Rattle.rules_deck.specs.Deck.{sameName, Dims, Declared, declare, arraysIn}
+use Rattle.rules_deck.specs.Trees.{Name, valueOf, Subscripts, one, two, Array, array, Expr, con, var, elm, neg, par, bin, Target, cell, element, written, Form, assign, goTo, computed, ifs, loop, continue, stop, end, dimension, formNames, formConstants, formExits, formLast, formLevels}
+use Rattle.rules_deck.specs.Deck.{sameName, Dims, declare, arraysIn}
 use Rattle.rules_deck.specs.Meaning.{third}
 use Rattle.rules_deck.specs.Translation.{Held, name, hidden, cellCount, isName, isArray, holds, brings, formPlain, pool}
 

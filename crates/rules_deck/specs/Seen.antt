@@ -1,14 +1,12 @@
 -- How a caller sees a deck: its meaning from its bytes, its values through body 7, and runs one after the other. The promises are said in these words.
 -- Assumes nothing.
-use mathlib.Core.Path.{_≡_}
-use Prim.Native.Nat.{ℕ, zero, suc, _+_, max}
-use mathlib.Core.Bool.{Bool, true, false, _&&_, cond}
+use Prim.Native.Nat.{ℕ, _+_, max}
+use mathlib.Core.Bool.{Bool, false, _&&_, cond}
 use mathlib.Core.List.{List, [], _∷_, _++_}
 use mathlib.Core.Option.{Option, none, some}
 use lib.Dec.{ltb, eqb, leb}
-use lib.ListN.{take, replicate}
+use lib.ListN.{take}
 use lib.IntN.{ℤ, pos}
-use Rattle.rules_object.specs.Limits.{limits}
 use Rattle.rules_object.specs.Runs.{Out}
 use Rattle.rules_object.specs.Object.{Named, Object}
 use Rattle.rules_object.specs.Bytes.{readObject}

@@ -1,17 +1,15 @@
 -- The translation of a deck: its cells, its code as instructions, and the object's seven lists. 01 "Translation".
 -- Assumes nothing.
 use Prim.Native.Nat.{ℕ, zero, suc, _+_, _*_, _^_}
-use mathlib.Core.Bool.{Bool, true, false, _&&_, _||_, cond}
+use mathlib.Core.Bool.{Bool, true, false, _||_, cond}
 use mathlib.Core.List.{List, [], _∷_, _++_, map}
-use mathlib.Core.Option.{Option, none, some}
 use lib.Dec.{eqb, ltb}
 use lib.ListN.{length, take, replicate}
-use lib.IntN.{ℤ, pos, negℤ}
-use Rattle.number.specs.Number.{Op}
+use lib.IntN.{pos}
 use Rattle.rules_object.specs.Object.{Element, Loop, Line, Named, Object}
 use Rattle.rules_object.specs.Machine.{Instr, HLT, CON, LOD, STO, LDE, STE, OP, NEG, JMP, BR3, BRC, DOI, DOE}
 use Rattle.rules_object.specs.Check.{operationNumber}
-use Rattle.rules_deck.specs.Trees.{Name, Digits, valueOf, Subscript, constant, linear, Subscripts, one, two, subscriptNames, subscriptsNames, Expr, con, var, elm, neg, par, bin, Target, cell, element, written, Form, assign, goTo, computed, ifs, loop, continue, stop, end, dimension, Statement}
+use Rattle.rules_deck.specs.Trees.{Name, valueOf, Subscript, constant, linear, Subscripts, one, two, subscriptsNames, Expr, con, var, elm, neg, par, bin, Target, cell, element, written, Form, assign, goTo, computed, ifs, loop, continue, stop, end, dimension, Statement}
 use Rattle.rules_deck.specs.Deck.{sameName, positionOf, Do, dosOf, endings, Dims, Declared, declare, arraysIn, dimsOf, width}
 use Rattle.rules_deck.specs.Meaning.{times, addend, third}
 

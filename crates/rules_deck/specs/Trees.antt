@@ -1,6 +1,6 @@
 -- A deck's statements as trees. Names, constants and numbers stand in them as written. 01 "Statements".
 -- Assumes nothing.
-use Prim.Native.Nat.{ℕ, zero, suc, _+_, _-_, _*_, max}
+use Prim.Native.Nat.{ℕ, suc, _+_, _-_, _*_, max}
 use mathlib.Core.List.{List, [], _∷_, _++_}
 use mathlib.Core.Option.{Option, none, some}
 use Rattle.number.specs.Number.{Op}

@@ -2,12 +2,11 @@
 -- Assumes nothing.
 use mathlib.Core.Path.{_≡_, refl}
 use mathlib.Core.List.{List, [], _∷_, _++_, map}
-use Prim.Native.Nat.{ℕ, _+_, _*_, _^_}
-use lib.ListN.{replicate, set, take}
-use lib.IntN.{ℤ, pos, negsuc}
+use lib.ListN.{set}
+use lib.IntN.{pos, negsuc}
 use Rattle.number.specs.Number.{ceiling, fits}
-use Rattle.rules_object.specs.Object.{Element, Loop, Line, Named, Object}
-use Rattle.rules_object.specs.Small.{does, HLT, CON, LOD, STO, LDE, STE, ADD, SUB, MUL, DIV, NEG, JMP, BR3, BRC, DOI, DOE, object, plain, element, loop, line, named, withLines, withNames}
+use Rattle.rules_object.specs.Object.{Object}
+use Rattle.rules_object.specs.Small.{does, HLT, CON, ADD, JMP, BR3, BRC, DOE, object, plain, element, loop, line, named, withLines, withNames}
 use Rattle.rules_object.specs.Bytes.{signedOf, signedWord, bytesOf, objectWords, objectBytes, readObject}
 use Rattle.rules_object.specs.Machine.{operationOf, operandOf, decode}
 use Rattle.rules_object.specs.Check.{right41, rightConstant, rightElement, rightLoop, rightLine, rightNamed, right43, flowOf}

@@ -1,13 +1,13 @@
 -- An object's bytes, and any bytes read as an object. 01 "Object" and 40.
 -- Assumes nothing.
 use Prim.Native.Nat.{ℕ, zero, suc, _+_, _-_, _*_, _/_, _%_, _^_}
-use mathlib.Core.Bool.{Bool, true, false, _&&_, cond}
+use mathlib.Core.Bool.{_&&_, cond}
 use mathlib.Core.List.{List, [], _∷_, _++_, map}
 use mathlib.Core.Option.{Option, none, some}
 use lib.Dec.{ltb, leb, eqb}
 use lib.ListN.{length, getD, take, drop}
 use lib.IntN.{ℤ, pos, negsuc}
-use Rattle.rules_object.specs.Object.{Subscript, Element, Loop, Line, Named, Object}
+use Rattle.rules_object.specs.Object.{Element, Loop, Line, Named, Object}
 
 -- ---- words are u32, little-endian
 

@@ -1,14 +1,13 @@
--- What the checker judges: 41, 42, 43, and the flow of control that 44 is about. 01 "Refusal numbers".
+-- What the checker judges: 41, 42, 43, and the flow of control that 44 is about; and a step with the tests of a bench run. 01 "Refusal numbers".
 -- Assumes nothing.
 use Prim.Native.Nat.{ℕ, zero, suc, _+_, _-_, _*_}
-use mathlib.Core.Bool.{Bool, true, false, _&&_, _||_, not, cond}
+use mathlib.Core.Bool.{Bool, true, false, _&&_, _||_, cond}
 use mathlib.Core.List.{List, [], _∷_}
-use mathlib.Core.Option.{Option, none, some}
 use lib.Dec.{ltb, leb, eqb}
 use lib.ListN.{length, getD, take, drop}
 use lib.IntN.{ℤ, pos}
-use Rattle.number.specs.Number.{Rule, fits}
-use Rattle.number.specs.Number.{Op, add, sub, mul, div}
+use Rattle.number.specs.Number.{fits}
+use Rattle.number.specs.Number.{add, sub, mul, div}
 use Rattle.rules_object.specs.Limits.{limits}
 use Rattle.rules_object.specs.Runs.{badStack, badInstruction, Out, halt}
 use Rattle.rules_object.specs.Object.{Subscript, Element, Loop, Line, Named, Object}

@@ -1,15 +1,13 @@
--- The machine: what a word says, and one step of it, with no test and with the tests of a bench run. 01 "Translation", "Running".
+-- The machine: what a word says, and one step of it. 01 "Translation", "Running".
 -- Assumes nothing.
-use Prim.Native.Nat.{ℕ, zero, suc, _+_, _-_, _*_, _/_, _%_, _^_}
-use mathlib.Core.Bool.{Bool, true, false, _&&_, cond}
+use Prim.Native.Nat.{ℕ, zero, suc, _+_, _/_, _%_, _^_}
+use mathlib.Core.Bool.{Bool, true, false}
 use mathlib.Core.List.{List, [], _∷_}
 use mathlib.Core.Option.{Option, none, some}
-use lib.Dec.{ltb, leb, eqb}
-use lib.ListN.{length, getD, set, take, drop}
+use lib.ListN.{getD, set, take, drop}
 use lib.IntN.{ℤ, pos, negℤ, _+ℤ_, _*ℤ_}
 use Rattle.number.specs.Number.{Rule, Op, add, sub, mul, div, Result, value, byZero, apply}
-use Rattle.rules_object.specs.Limits.{limits}
-use Rattle.rules_object.specs.Runs.{Halt, atStop, atEnd, divideByZero, badSubscript, badExit, badParameter, badStack, badInstruction, Out, go, halt}
+use Rattle.rules_object.specs.Runs.{Halt, atStop, atEnd, divideByZero, badSubscript, badExit, badParameter, Out, go, halt}
 use Rattle.rules_object.specs.Choose.{sign3, exit, place, positive, allPositive, Turn, again, over, turn, marked}
 use Rattle.rules_object.specs.Object.{Subscript, Element, Loop, Object}
 

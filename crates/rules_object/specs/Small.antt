@@ -1,7 +1,7 @@
 -- Small objects of k = 5, written by what they have, for examples.
 -- Assumes nothing.
 use Prim.Native.Nat.{ℕ, _+_, _*_, _^_}
-use mathlib.Core.List.{List, [], _∷_, _++_}
+use mathlib.Core.List.{List, [], _++_}
 use lib.ListN.{take, replicate}
 use lib.IntN.{ℤ}
 use Rattle.rules_object.specs.Object.{Element, Loop, Line, Named, Object}

@@ -1,7 +1,6 @@
 -- How long the lines are that are printed.
 -- Assumes nothing.
-use Prim.Native.Nat.{ℕ, zero, suc, _+_, _*_, _/_, _%_, _^_, _≤_, _<_}
-use mathlib.Core.Path.{_≡_, refl, sym, ap, _∙_}
+use Prim.Native.Nat.{ℕ, zero, suc, _+_, _/_, _%_, _^_, _≤_, _<_}
 use mathlib.Core.Bool.{Bool, true, false, cond}
 use mathlib.Core.List.{List, [], _∷_, _++_}
 use native.Mathlib.Omega.{arith}
@@ -11,7 +10,6 @@ use lib.ListN.{length, length-append}
 use lib.IntN.{ℤ, pos, negsuc, natAbs}
 use Rattle.rules_object.specs.Object.{Named}
 use Rattle.rules_object.specs.Machine.{cell}
-use Rattle.rules_object.specs.Check.{span}
 use Rattle.rules_deck.specs.Cards.{withoutBlanks}
 use Rattle.rules_deck.specs.Punch.{bytes}
 use Rattle.rules_program.specs.Text.{numeral, signed, lineEnd, stated, haltLine, refusedLine, subscripts, valueLine}

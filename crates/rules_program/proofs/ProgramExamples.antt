@@ -3,8 +3,6 @@ use mathlib.Core.Path.{_≡_, refl}
 use Prim.Native.Nat.{ℕ}
 use Prim.Native.String.{String}
 use mathlib.Core.List.{List, [], _∷_}
-use lib.ListN.{replicate}
-use lib.IntN.{ℤ, pos, negsuc}
 use Rattle.rules_deck.specs.Punch.{bytes, deck}
 use Rattle.number.specs.Number.{ceiling, fits, keep, drops, kept, divided, apply}
 use Rattle.rules_object.specs.Runs.{haltNumber}
@@ -19,7 +17,7 @@ use Rattle.rules_deck.specs.Cards.{cardsOf, comment, firstCard, character, text
 use Rattle.rules_deck.specs.Tokens.{isDigit, isLetter, isLetterOrDigit, give, giveIf, ahead, follow, andThen, after, afterWord, choose, starts, startsDigit, allOf, whole, run, digitRun, nameRun, taken as bytesTaken, number, name, listedUpTo, listed}
 use Rattle.rules_deck.specs.Grammar.{addend, linearOf, subscript, subscripts, place as targetRead, operandOf as operandRead, operand, sign, signed, sumOp, productOp, joined, more, step as grammarStep, parseIn, enough, parse, expression, assignment, plainGoTo, rightExits, computedGoTo, arithmeticIf, parameter, doLoop, arrayShape, dimensions, readAssignment, readGoTo, readComputed, readIf, readDo, readContinue, readStop, readEnd, readDimension, present, readings, firstOf, formOf}
 use Rattle.rules_deck.specs.Deck.{dosOf, endings, dimsOf}
-use Rattle.rules_deck.specs.Meaning.{Key, plain, elementAt, meaningStep, meaning}
+use Rattle.rules_deck.specs.Meaning.{meaningStep, meaning}
 use Rattle.rules_deck.specs.Translation.{cellOf, baseOf, limitOf, formPlain, heldOf, words, addressAt, codeOf, wordOf, translate}
 use Rattle.rules_deck.specs.Judge.{right11, right12, right13, right14, right15, formReferences, right16, formPooled, formWords, formExitWords, takes, right18, judgeForm}
 use Rattle.rules_deck.specs.Whole.{refused20, right21, right22, right24, formSets, right25, judgeDeck}

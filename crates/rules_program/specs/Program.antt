@@ -1,10 +1,10 @@
 -- The program: from the bytes of standard input, a control card and a deck, to the bytes that it prints. 01 "Worked examples".
 -- Assumes nothing.
 use Prim.Native.Nat.{ℕ, zero, suc, _+_, _-_, _*_}
-use mathlib.Core.Bool.{Bool, true, false, _&&_, cond}
+use mathlib.Core.Bool.{Bool, _&&_, cond}
 use mathlib.Core.List.{List, [], _∷_, _++_}
 use mathlib.Core.Option.{Option, none, some}
-use lib.Dec.{ltb, leb, eqb}
+use lib.Dec.{leb, eqb}
 use lib.ListN.{length, take, drop, replicate}
 use lib.IntN.{ℤ, pos}
 use Rattle.rules_object.specs.Limits.{limits}

@@ -1,9 +1,9 @@
 -- What is so of the names of a compiled deck, and bounds what is printed of them.
 -- Assumes nothing.
-use Prim.Native.Nat.{ℕ, zero, suc, _+_, _≤_}
+use Prim.Native.Nat.{ℕ, _+_, _≤_}
 use mathlib.Core.Path.{_≡_}
 use mathlib.Core.List.{List, [], _∷_}
-use mathlib.Core.Option.{Option, none, some}
+use mathlib.Core.Option.{some}
 use lib.ListN.{getElem?}
 use Rattle.rules_object.specs.Limits.{limits}
 use Rattle.rules_object.specs.Object.{Named, Object}

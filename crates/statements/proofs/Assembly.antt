@@ -1,8 +1,7 @@
 -- The tables hold the draft with the statement.
 -- Assumes nothing.
-use mathlib.Core.Path.{_≡_, refl, sym, ap, _∙_, subst}
-use Prim.Native.Nat.{ℕ, suc, _+_, _*_, _-_, _≤_, _<_}
-use native.Mathlib.Numerals.{add-one}
+use mathlib.Core.Path.{_≡_, sym, ap, _∙_, subst}
+use Prim.Native.Nat.{ℕ, _+_, _*_, _-_, _<_}
 use native.Mathlib.Omega.{arith}
 use mathlib.Core.Bool.{true}
 use mathlib.Core.List.{List, [], _∷_, _++_, map}
@@ -10,21 +9,21 @@ use lib.ListN.{length, take, length-append}
 use Rattle.rules_object.specs.Machine.{Instr}
 use Rattle.rules_object.specs.Bytes.{concat}
 use Rattle.rules_object.specs.Bytes as object
-use Rattle.rules_deck.specs.Trees.{Form, formLast}
-use Rattle.rules_deck.specs.Translation.{Held, Tables, emit, tablesOf}
-use Rattle.rules_deck.specs.Judge.{Taken, right13, formExitWords}
+use Rattle.rules_deck.specs.Trees.{Form}
+use Rattle.rules_deck.specs.Translation.{Held, emit}
+use Rattle.rules_deck.specs.Judge.{Taken, right13}
 use Rattle.draft.specs.declared.Counts.{Counts}
 use Rattle.draft.specs.Names.{Lists}
-use Rattle.draft.specs.Draft.{kindOf, setWord, jumpWords, ownWords, loopWords, entriesOf, draftCode, Draft, drafts}
-use Rattle.draft.specs.Kept.{Tabled, Fit, Kept, Matches}
+use Rattle.draft.specs.Draft.{kindOf, setWord, jumpWords, ownWords, loopWords, entriesOf, Draft, drafts}
+use Rattle.draft.specs.Kept.{Fit, Kept, Matches}
 use Rattle.draft.proofs.Matching.{own-words, jump-count}
 use Rattle.emission.specs.declared.Emitted.{Emitted}
 use Rattle.emission.specs.declared.Emitted.the-variants as emitted
 use Rattle.plans.specs.declared.Plan.{Plan}
-use Rattle.plans.specs.Plans.{formPlan, Plans}
+use Rattle.plans.specs.Plans.{Plans}
 use Rattle.plans.proofs.ByKind.{plan-kind}
 use Rattle.marks.specs.Marks.{numbersOf, setOf}
-use Rattle.statements.specs.Steps.{Filled, Entered, marked, Marked}
+use Rattle.statements.specs.Steps.{Filled, Entered, Marked}
 use Rattle.statements.proofs.Counting.{After, book-numbers, set-word}
 use Rattle.statements.proofs.Keeping.{entries-both, tabled-as, punched, laterOf, moreOf, same-code, same-tables, dos-long, code-long, exits-grow}
 

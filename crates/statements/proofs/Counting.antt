@@ -1,18 +1,18 @@
 -- The counts after a form's cells, code and entries; and what its plan marks, in the book's words.
 -- Assumes nothing.
 use mathlib.Core.Path.{_≡_, refl, sym, ap, _∙_, subst}
-use Prim.Native.Nat.{ℕ, _+_, _≤_, _<_}
+use Prim.Native.Nat.{ℕ, _+_}
 use native.Mathlib.Omega.{arith}
-use mathlib.Core.Bool.{Bool, true, false, cond}
+use mathlib.Core.Bool.{Bool, true, false}
 use mathlib.Core.List.{List, [], _∷_, _++_, map, append-nil}
 use lib.Dec.{eqb, leb}
 use lib.ListN.{length, take, length-map}
 use borrow.Author.Tests.{eqb-true, eqb-false, leb-true}
 use Rattle.rules_object.specs.Calls.{all}
-use Rattle.rules_deck.specs.Trees.{Digits, valueOf, Target, cell, element, Form, assign, goTo, computed, ifs, loop, continue, stop, end, dimension, formExits, formLast}
+use Rattle.rules_deck.specs.Trees.{Target, cell, element, Form, assign, goTo, computed, ifs, loop, continue, stop, end, dimension, formExits, formLast}
 use Rattle.rules_deck.specs.Judge.{right13}
 use Rattle.rules_deck.proofs.Readers.{All, all-none, all-more, both-true}
-use Rattle.tokens.specs.Words.{capped, nameWord}
+use Rattle.tokens.specs.Words.{capped}
 use Rattle.elements.specs.Values.{targetValue}
 use Rattle.draft.specs.declared.Counts.{Counts}
 use Rattle.draft.specs.Draft.{kindOf, setWord, jumpWords}
@@ -21,7 +21,7 @@ use Rattle.emission.specs.declared.Emitted.{Emitted}
 use Rattle.emission.specs.declared.Emitted.the-variants as emitted
 use Rattle.plans.specs.declared.Plan.{Plan}
 use Rattle.plans.specs.Plans.{formPlan, listedWords, Plans}
-use Rattle.plans.proofs.ByKind.{plan-kind, at-do}
+use Rattle.plans.proofs.ByKind.{at-do}
 use Rattle.marks.specs.Marks.{numbersOf, Low, cellWord, setOf}
 use Rattle.endings.proofs.Ends.{of-kind}
 use Rattle.statements.specs.Steps.{withDo, Counted}

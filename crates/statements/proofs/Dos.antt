@@ -4,9 +4,9 @@ use mathlib.Core.Path.{_≡_, refl, sym, ap, _∙_, subst}
 use Prim.Native.Nat.{ℕ, suc, _+_, _*_, _-_, _≤_, _<_}
 use native.Mathlib.Numerals.{add-one}
 use native.Mathlib.Omega.{arith}
-use mathlib.Core.Bool.{Bool, true, false}
+use mathlib.Core.Bool.{true, false}
 use mathlib.Core.List.{List, [], _∷_, _++_, map, append-nil}
-use lib.ListN.{length, take}
+use lib.ListN.{take}
 use Rattle.rules_object.specs.Limits.{limits}
 use Rattle.rules_object.specs.Bytes.{concat}
 use Rattle.rules_object.specs.Bytes as object
@@ -16,13 +16,12 @@ use Rattle.rules_deck.proofs.Readers.{All, all-more}
 use Rattle.tokens.specs.Words.{nameWord}
 use Rattle.items.specs.Parsed.{Put}
 use Rattle.draft.specs.declared.Counts.{Counts}
-use Rattle.draft.specs.Parts.{Item, formFirst}
+use Rattle.draft.specs.Parts.{formFirst}
 use Rattle.draft.specs.Names.{Told, Lists, Known}
 use Rattle.draft.specs.Draft.{kindOf, loopWords, entriesOf}
 use Rattle.draft.specs.Kept.{Fit}
 use Rattle.names.specs.Lookups.{CellOf}
 use Rattle.names.proofs.Growth.{cells-append}
-use Rattle.emission.specs.declared.Emitted.{Emitted}
 use Rattle.emission.specs.declared.Emitted.the-variants as emitted
 use Rattle.plans.specs.declared.Plan.{Plan}
 use Rattle.plans.specs.Plans.{formPlan}
@@ -30,7 +29,7 @@ use Rattle.plans.proofs.ByKind.{at-do}
 use Rattle.marks.specs.Marks.{cellWord}
 use Rattle.endings.specs.Endings.{doesOf}
 use Rattle.endings.proofs.Ends.{does-do, of-kind}
-use Rattle.statements.specs.Steps.{withDo, Entering, Counted, Entered, Enters}
+use Rattle.statements.specs.Steps.{withDo, Counted, Entered, Enters}
 use Rattle.statements.proofs.Hidden.{appear-fresh, limit-last}
 
 -- ---- the counts

@@ -1,32 +1,28 @@
 -- Cells first, then code.
 -- Assumes nothing.
 use mathlib.Core.Path.{_≡_, refl, sym, ap, _∙_, subst}
-use Prim.Native.Nat.{ℕ, _+_, _≤_}
+use Prim.Native.Nat.{ℕ, _≤_}
 use native.Mathlib.Omega.{arith}
 use mathlib.Core.Bool.{Bool, true, false, _&&_}
-use mathlib.Core.List.{List, [], _∷_, _++_}
-use lib.ListN.{length, take}
-use Rattle.rules_object.specs.Limits.{limits}
-use Rattle.rules_deck.specs.Trees.{Form, formNames, formLast}
-use Rattle.rules_deck.specs.Translation.{Held, Tables, brings, emit, tablesOf}
-use Rattle.rules_deck.proofs.Readers.{All}
+use mathlib.Core.List.{List}
+use lib.ListN.{length}
+use Rattle.rules_deck.specs.Translation.{Tables, brings}
 use Rattle.draft.specs.declared.Counts.{Counts}
-use Rattle.draft.specs.Parts.{Worded, itemsWords, formFirst, formItems}
-use Rattle.draft.specs.Names.{Lists, Told, namesFit}
-use Rattle.draft.specs.Draft.{draftCode}
-use Rattle.draft.specs.Kept.{Tabled, tablesFit, Fit}
+use Rattle.draft.specs.Parts.{formItems}
+use Rattle.draft.specs.Names.{Lists, namesFit}
+use Rattle.draft.specs.Kept.{Tabled, Fit}
 use Rattle.names.specs.declared.Grown.{Grown}
 use Rattle.names.specs.declared.Grown.the-variants.{Names, Full}
 use Rattle.names.specs.Appears.{Appeared, Within}
 use Rattle.emission.specs.declared.Emitted.{Emitted}
 use Rattle.emission.specs.declared.Emitted.the-variants as emitted
-use Rattle.emission.specs.Emits.{Grows, Wrote, EmitsWith}
+use Rattle.emission.specs.Emits.{Grows}
 use Rattle.emission.specs.Contracts.{Lent}
 use Rattle.plans.specs.declared.Plan.{Plan}
-use Rattle.plans.specs.Plans.{Plans, Readied}
+use Rattle.plans.specs.Plans.{Readied}
 use Rattle.naming.specs.Naming.{TakesCells}
 use Rattle.endings.specs.Endings.{doesOf, Emitting, EmitsPlan}
-use Rattle.statements.specs.Steps.{withNames, Onward, Filled, Right, Fills}
+use Rattle.statements.specs.Steps.{withNames, Onward, Fills}
 
 pub onward-full : (p : Plan) (n : Counts) → Onward p n emitted.Full
 onward-full p n =

@@ -1,7 +1,7 @@
 -- A DO's hidden cells are the last of what its statement brings.
 -- Assumes nothing.
-use mathlib.Core.Path.{_≡_, refl, sym, ap, _∙_, subst}
-use Prim.Native.Nat.{ℕ, suc, _+_, _≤_, _<_}
+use mathlib.Core.Path.{_≡_, refl, sym, ap, _∙_}
+use Prim.Native.Nat.{ℕ, suc, _+_, _<_}
 use native.Mathlib.Omega.{arith}
 use mathlib.Core.Bool.{Bool, true, false, _||_, cond, false≢true}
 use mathlib.Core.List.{List, [], _∷_, _++_, map}
@@ -10,7 +10,7 @@ use lib.ListN.{length}
 use borrow.Author.Tests.{eq-eqb, ne-eqb}
 use Rattle.rules_deck.specs.Trees.{Name, Form, assign, goTo, computed, ifs, loop, continue, stop, end, dimension, Statement, Array}
 use Rattle.rules_deck.specs.Deck.{declare, arraysIn}
-use Rattle.rules_deck.specs.Translation.{Held, name, array, hidden, size, cellCount, isName, isHidden, firstCell, limitOf, holds, appear, formPlain, hiddenIn, brings}
+use Rattle.rules_deck.specs.Translation.{Held, name, array, hidden, size, cellCount, isName, isHidden, firstCell, limitOf, holds, appear, formPlain, hiddenIn}
 use Rattle.draft.specs.Draft.{Draft, drafts, noDraft, draftFrom, draftOf}
 use Rattle.statements.specs.Taking.{Fresh}
 

@@ -1,13 +1,13 @@
 -- 15, 16 and 18 of a form that 11 to 14 do not refuse.
 -- Assumes nothing.
-use mathlib.Core.Path.{_≡_, refl, sym, ap, _∙_, subst}
-use mathlib.Core.Bool.{Bool, true, false, _&&_}
-use mathlib.Core.Option.{Option, none, some}
+use mathlib.Core.Path.{_≡_}
+use mathlib.Core.Bool.{true, false}
+use mathlib.Core.Option.{none, some}
 use Prim.Native.Nat.{ℕ}
 use mathlib.Core.List.{List}
 use Rattle.rules_deck.specs.Trees.{Form, formNames}
 use Rattle.rules_deck.specs.Translation.{Held}
-use Rattle.rules_deck.specs.Judge.{Taken, takes, wrong, right11, right12, right13, right14, right15, right16, right18, judgeForm}
+use Rattle.rules_deck.specs.Judge.{Taken, takes, right15, right16, right18, judgeForm}
 use Rattle.rules_deck.proofs.Readers.{All}
 use Rattle.draft.specs.Names.{Told}
 use Rattle.draft.proofs.ReadForm.{read-told}

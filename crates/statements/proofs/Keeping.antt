@@ -1,35 +1,29 @@
 -- The tables hold the draft with the statement, and 18 of it.
 -- Assumes nothing.
 use mathlib.Core.Path.{_≡_, refl, sym, ap, _∙_, subst}
-use Prim.Native.Nat.{ℕ, suc, _+_, _*_, _-_, _≤_, _<_}
-use native.Mathlib.Numerals.{add-one}
+use Prim.Native.Nat.{ℕ, _+_, _*_, _≤_}
 use native.Mathlib.Omega.{arith}
 use mathlib.Core.Bool.{Bool, true, false, _&&_}
 use mathlib.Core.List.{List, [], _∷_, _++_, map, append-assoc}
 use lib.Dec.{leb}
 use lib.ListN.{length, take, length-append}
 use borrow.Author.Tests.{le-leb, lt-leb}
-use Rattle.rules_object.specs.Limits.{limits}
 use Rattle.rules_object.specs.Object.{Loop}
 use Rattle.rules_object.specs.Machine.{Instr}
 use Rattle.rules_object.specs.Bytes.{concat}
 use Rattle.rules_object.specs.Bytes as object
 use Rattle.rules_deck.specs.Trees.{Form, formLast, Statement}
-use Rattle.rules_deck.specs.Translation.{Held, isHidden, holds, brings, Tables, emit, tablesOf, cellCount}
-use Rattle.rules_deck.specs.Judge.{Taken, takes, right13, right18, formExitWords, nameCount}
+use Rattle.rules_deck.specs.Translation.{Held, brings, Tables, emit, tablesOf, cellCount}
+use Rattle.rules_deck.specs.Judge.{Taken, takes, right18, formExitWords, nameCount}
 use Rattle.draft.specs.declared.Counts.{Counts}
-use Rattle.draft.specs.Names.{Lists, namesFit}
-use Rattle.draft.specs.Draft.{kindOf, setWord, jumpWords, ownWords, rowWords, loopWords, entriesOf, draftCode, Draft, drafts}
+use Rattle.draft.specs.Names.{namesFit}
+use Rattle.draft.specs.Draft.{kindOf, loopWords, entriesOf, draftCode, Draft, drafts}
 use Rattle.draft.specs.Kept.{Tabled, tablesFit, Fit, Kept, Matches}
-use Rattle.draft.proofs.Matching.{emit-length, entries-count, own-words, jump-count, matches-next, right18-fits}
+use Rattle.draft.proofs.Matching.{emit-length, entries-count, matches-next, right18-fits}
 use Rattle.emission.specs.declared.Emitted.{Emitted}
 use Rattle.emission.specs.declared.Emitted.the-variants as emitted
-use Rattle.plans.specs.declared.Plan.{Plan}
-use Rattle.plans.specs.Plans.{formPlan, Plans}
-use Rattle.plans.proofs.ByKind.{plan-kind}
-use Rattle.marks.specs.Marks.{numbersOf, setOf}
-use Rattle.statements.specs.Steps.{Onward, Filled, Counted, Entered, marked, Marked}
-use Rattle.statements.proofs.Counting.{After, one-last, book-numbers, set-word}
+use Rattle.statements.specs.Steps.{Filled}
+use Rattle.statements.proofs.Counting.{After, one-last}
 
 pub entries-both : (a b : List Loop) → concat (map object.loopWords (a ++ b)) ≡ concat (map object.loopWords a) ++ concat (map object.loopWords b)
 entries-both [] b = refl

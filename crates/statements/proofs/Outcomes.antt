@@ -1,42 +1,37 @@
 -- Each way in which a planned statement is refused or taken.
 -- Assumes nothing.
 use mathlib.Core.Path.{_≡_, refl, sym, ap, _∙_, subst}
-use Prim.Native.Nat.{ℕ, suc, _+_, _*_, _-_, _≤_, _<_}
-use native.Mathlib.Numerals.{add-one}
+use Prim.Native.Nat.{ℕ, _+_, _≤_, _<_}
 use native.Mathlib.Omega.{arith}
 use mathlib.Core.Bool.{Bool, true, false}
-use mathlib.Core.Option.{some}
-use mathlib.Core.List.{List, [], _∷_, _++_, map}
-use lib.ListN.{length, take, length-take, length-map}
+use mathlib.Core.List.{List, [], _∷_, map}
+use lib.ListN.{length, length-take, length-map}
 use Rattle.tokens.specs.Words.{capped}
-use Rattle.rules_deck.specs.Trees.{Form, Statement}
-use Rattle.rules_deck.specs.Translation.{Held, hidden, isHidden, holds, cellCount, appear, formPlain, brings}
-use Rattle.rules_deck.specs.Judge.{Taken, takes, right15, right16, right18, judgeForm}
+use Rattle.rules_deck.specs.Trees.{Form}
+use Rattle.rules_deck.specs.Translation.{Held, hidden, appear, formPlain, brings}
+use Rattle.rules_deck.specs.Judge.{Taken, right15, right16}
 use Rattle.draft.specs.declared.Counts.{Counts}
 use Rattle.draft.specs.Parts.{itemsWords, formFirst}
 use Rattle.draft.specs.Names.{Lists, Known}
-use Rattle.draft.specs.Draft.{kindOf, jumpWords, Draft, drafts}
-use Rattle.draft.specs.Kept.{Fit, Room, Kept, Matches}
+use Rattle.draft.specs.Draft.{kindOf, Draft}
+use Rattle.draft.specs.Kept.{Fit, Kept, Matches}
 use Rattle.draft.proofs.Matching.{jump-count}
 use Rattle.names.proofs.Growth.{cells-append}
 use Rattle.emission.specs.declared.Emitted.{Emitted}
 use Rattle.emission.specs.declared.Emitted.the-variants as emitted
 use Rattle.plans.specs.declared.Plan.{Plan}
-use Rattle.plans.specs.Plans.{formPlan, listedWords, Plans, Readied}
+use Rattle.plans.specs.Plans.{formPlan, listedWords, Plans}
 use Rattle.plans.proofs.ByKind.{at-do, at-computed}
-use Rattle.marks.specs.Marks.{numbersOf, Jumping}
+use Rattle.marks.specs.Marks.{Jumping}
 use Rattle.naming.specs.Naming.{RightArrays, RightOperands}
-use Rattle.endings.specs.Endings.{doesOf}
 use Rattle.endings.proofs.Ends.{of-kind}
-use Rattle.statements.specs.declared.Outcome.{Outcome}
 use Rattle.statements.specs.declared.Outcome.the-variants as outcome
-use Rattle.statements.specs.Taking.{Fresh, Took, Judged}
-use Rattle.statements.specs.Steps.{Passed, Right, Onward, Filled, Fills, Entering, Counted, Entered, Enters, Marked}
+use Rattle.statements.specs.Taking.{Fresh, Judged}
+use Rattle.statements.specs.Steps.{Passed, Right, Onward, Filled, Fills, Entering, Counted, Entered, Enters}
 use Rattle.statements.specs.Planned.{Planning, ComesPlanned}
-use Rattle.statements.proofs.Judging.{told-of, right-of, judged-15, judged-16, judged-18, judged-none}
+use Rattle.statements.proofs.Judging.{told-of, right-of, judged-15, judged-16, judged-18}
 use Rattle.statements.proofs.Counting.{After, after, book-numbers, low-numbers}
-use Rattle.statements.proofs.Keeping.{full-18, fits-18, dos-18, exits-grow}
-use Rattle.statements.proofs.Assembly.{fit-after, kept-after}
+use Rattle.statements.proofs.Keeping.{full-18, dos-18, exits-grow}
 
 -- a form of this plan, and the draft before it
 pub record Given (p : Plan) (first items names constants elements dos loops code rows jumps : List ℕ) (n : Counts) (k : ℕ) (f : Form) (D : Draft) : Type 0 where

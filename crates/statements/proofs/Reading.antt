@@ -1,11 +1,11 @@
 -- What the reader gave, judged by 11 to 14 and planned.
 -- Assumes nothing.
 use mathlib.Core.Path.{_≡_, refl, sym, ap, _∙_, subst}
-use Prim.Native.Nat.{ℕ, _+_, _-_, _≤_, _<_}
+use Prim.Native.Nat.{ℕ, _-_, _≤_}
 use native.Mathlib.Omega.{arith}
-use mathlib.Core.Bool.{Bool, true, false, _&&_, cond}
-use mathlib.Core.Option.{Option, none, some}
-use mathlib.Core.List.{List, [], _∷_, _++_}
+use mathlib.Core.Bool.{Bool, true, false, cond}
+use mathlib.Core.Option.{Option, some}
+use mathlib.Core.List.{List, []}
 use lib.Dec.{eqb, leb}
 use lib.ListN.{length, take, drop}
 use borrow.Author.Tests.{le-leb}
@@ -14,19 +14,16 @@ use Rattle.rules_deck.specs.Trees.{Form}
 use Rattle.rules_deck.specs.Cards.{rightDigits}
 use Rattle.rules_deck.specs.Judge.{Taken, wrong, right11, right12, right13, right14, judgeForm}
 use Rattle.rules_deck.proofs.Shapes.{shaped}
-use Rattle.elements.specs.declared.Target.{Target}
 use Rattle.items.specs.Items.{targetWords}
 use Rattle.items.specs.Parsed.{Put}
 use Rattle.forms.specs.declared.Statement.{Statement}
-use Rattle.forms.specs.Statements.{formWords, statementOf}
 use Rattle.draft.specs.declared.Counts.{Counts}
 use Rattle.draft.specs.Parts.{itemsWords, formFirst}
 use Rattle.draft.specs.Draft.{Draft}
-use Rattle.draft.specs.Kept.{Kept, Matches}
 use Rattle.limits.specs.Tests.{lowest, ofStatement, exitsIn}
 use Rattle.limits.proofs.Book.{of-form, exits-fit}
 use Rattle.plans.specs.declared.Plan.{Plan}
-use Rattle.plans.specs.Plans.{Planned, formPlan, Plans, firstWords, Readied}
+use Rattle.plans.specs.Plans.{Planned, Plans, firstWords}
 use Rattle.plans.proofs.Arms.{target-room}
 use Rattle.plans.proofs.Forms.{first-form, plans-of}
 use Rattle.statements.specs.declared.Outcome.{Outcome}

@@ -1,26 +1,24 @@
 -- A planned statement that is taken.
 -- Assumes nothing.
-use mathlib.Core.Path.{_≡_, refl, sym, ap, _∙_, subst}
-use Prim.Native.Nat.{ℕ, suc, _+_, _-_, _≤_, _<_}
+use mathlib.Core.Path.{_≡_, sym, _∙_}
+use Prim.Native.Nat.{ℕ, _-_, _<_}
 use native.Mathlib.Numerals.{add-one}
-use native.Mathlib.Omega.{arith}
-use mathlib.Core.Bool.{Bool, true, false}
+use mathlib.Core.Bool.{Bool, true}
 use mathlib.Core.List.{List}
-use Rattle.rules_deck.specs.Trees.{Form}
 use Rattle.rules_deck.specs.Judge.{Taken}
 use Rattle.draft.specs.declared.Counts.{Counts}
 use Rattle.draft.specs.Draft.{Draft}
-use Rattle.draft.specs.Kept.{Fit, Kept, Matches}
+use Rattle.draft.specs.Kept.{Fit, Kept}
 use Rattle.emission.specs.declared.Emitted.{Emitted}
 use Rattle.emission.specs.declared.Emitted.the-variants as emitted
 use Rattle.plans.specs.declared.Plan.{Plan}
 use Rattle.naming.specs.Naming.{RightArrays, RightOperands}
 use Rattle.statements.specs.declared.Outcome.the-variants as outcome
-use Rattle.statements.specs.Taking.{Took, Judged}
-use Rattle.statements.specs.Steps.{Onward, Filled, Fills, Counted, Entered, Enters, Marked}
+use Rattle.statements.specs.Taking.{Judged}
+use Rattle.statements.specs.Steps.{Onward, Fills, Counted, Enters, Marked}
 use Rattle.statements.specs.Planned.{ComesPlanned}
 use Rattle.statements.proofs.Judging.{judged-none}
-use Rattle.statements.proofs.Counting.{After, after}
+use Rattle.statements.proofs.Counting.{after}
 use Rattle.statements.proofs.Keeping.{fits-18}
 use Rattle.statements.proofs.Assembly.{fit-after, kept-after, r-statements}
 use Rattle.statements.proofs.Outcomes.{Given, is-15, is-16, as-15, as-16, filled-of, entered-of}

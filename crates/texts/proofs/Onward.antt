@@ -1,6 +1,6 @@
 -- For callers: a deck that `judge` counts is accepted, and each statement taken leaves the others, so that from card 0 on all of them are taken in order.
 -- Assumes nothing.
-use Prim.Native.Nat.{ℕ, zero, suc, _+_, _-_, _≤_, _<_}
+use Prim.Native.Nat.{ℕ, suc, _+_, _≤_, _<_}
 use mathlib.Core.Path.{_≡_, refl, sym, ap, _∙_, subst}
 use mathlib.Core.Bool.{Bool, true, false, cond}
 use mathlib.Core.List.{List, [], _∷_, _++_}
@@ -8,14 +8,10 @@ use native.Mathlib.Omega.{arith}
 use native.Mathlib.Numerals.{add-one}
 use lib.ListN.{length, take, drop, length-drop}
 use lib.Seq.{drop-drop}
-use Rattle.rules_deck.specs.Cards.{cardsOf, textColumns, textOf, Punched, numberOf, Carded, cardsRefused, statements, carded}
-use Rattle.rules_deck.proofs.CardsLaws.{Each, RightStatement, textLimit}
+use Rattle.rules_deck.specs.Cards.{cardsOf, textColumns, textOf, Punched, numberOf}
+use Rattle.rules_deck.proofs.CardsLaws.{Each, RightStatement}
 use Rattle.rules_deck.proofs.CardsGroups.{following, grouped, statements-grouped}
-use Rattle.cards.specs.declared.Judged.{Judged}
-use Rattle.cards.specs.declared.Judged.the-variants.{Refused, Statements}
 use Rattle.cards.specs.declared.Number.{Number}
-use Rattle.cards.specs.declared.Sequence.{Sequence}
-use Rattle.cards.specs.Judging.{judgedOf}
 use Rattle.texts.specs.declared.Taken.{Taken}
 use Rattle.texts.specs.declared.Taken.the-variants.{Statement, End}
 use Rattle.texts.specs.Taking.{Accepted, over, begins, skipped, passed, firstOf, firstText, Takes}
@@ -23,19 +19,6 @@ use Rattle.texts.proofs.TextLaws.{over-stands}
 use Rattle.texts.proofs.StatementLaws.{group-first, group-skip, skip-stops, each-from, each-first, all-right}
 
 -- ---- what `judge` counts
-
--- a deck that is accepted, with as many statements
-pub record Counted (deck : List ℕ) (s : Sequence) : Type 0 where
-  pub accepted : Accepted deck
-  pub count : length (accepted .all) ≡ s .0
-
-pub counted-is : (k : ℕ) (deck : List ℕ) (s : Sequence) → judgedOf (carded k deck) ≡ Statements s → Counted deck s
-unfolding judgedOf
-counted-is k deck s = go (carded k deck) refl
-  where
-    go : (o : Carded) → carded k deck ≡ o → judgedOf o ≡ Statements s → Counted deck s
-    go (cardsRefused n p) e h = let z : _≡_ {A = ℕ} 0 1 = cc in absurd (omega arith)
-    go (statements ps) e h = record { accepted = record { digits = k; all = ps; is = e }; count = cc }
 
 -- all of them are to be taken from card 0 on
 pub from-start : (deck : List ℕ) (a : Accepted deck) → a .all ≡ grouped (drop 0 (cardsOf deck))

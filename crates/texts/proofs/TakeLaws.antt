@@ -1,12 +1,12 @@
 -- The laws of taking a deck's statements one after the other.
 -- Assumes nothing.
-use Prim.Native.Nat.{ℕ, suc, _+_, _-_, _/_, _≤_}
+use Prim.Native.Nat.{ℕ, suc, _+_, _/_, _≤_}
 use mathlib.Core.Path.{_≡_, refl, sym, ap, _∙_, subst}
 use mathlib.Core.Bool.{Bool, true, false, cond}
 use mathlib.Core.List.{List, [], _++_}
 use native.Mathlib.Omega.{arith}
 use lib.ListN.{length, drop, length-append}
-use Rattle.rules_deck.specs.Cards.{cardsOf, textColumns, comment, firstCard, textOf, statements}
+use Rattle.rules_deck.specs.Cards.{cardsOf, textColumns, comment, firstCard, textOf}
 use Rattle.rules_deck.proofs.CardsGroups.{following}
 use Rattle.cards.specs.Judging.{CardAt}
 use Rattle.texts.specs.Taking.{over, begins, skipped, added, Follows}

@@ -1,4 +1,3 @@
-pub mod Words
 pub mod ByIndex
 pub mod Rows
 pub mod Loops

@@ -23,7 +23,7 @@ use Rattle.numbers.specs.Rows.{allFrom, firstFrom, countFrom, kindAt, setAt, st
 use Rattle.numbers.proofs.Tests.{all-same}
 use Rattle.ranges.specs.Ranges.{doAt, lastIndex, lastAt, covers, mayEndKind, apart, doRight, doPlace, staysOut, jumpStays, jumpsRight, leaves, setRight}
 use Rattle.whole.specs.Whole.{SetsTold}
-use Rattle.whole.proofs.Words.{same-word, word-some}
+use Rattle.draft.proofs.NameWords.{word-test, some-word}
 use Rattle.whole.proofs.ByIndex.{noDo, all-by, all-zero, first-zero, dos-zero, depth-zero, all-map}
 use Rattle.whole.proofs.Rows.{statementAt, jumpsOf, kind-is, set-is, many-is, jump-is, jump-inside}
 use Rattle.whole.proofs.Loops.{DoWords, do-words, loops-length}
@@ -203,14 +203,14 @@ module _ (deck : List Statement) (rows : List ℕ) (count : ℕ) (many : count �
       unfolding free
       none-set =
           all-true (λ i. not (inRange deck (doOfDeck i) q && eqb (nameWord (doOfDeck i .variable)) 0)) dos 0
-          (λ i a b. let l : i < dos = omega arith in rw (ne-eqb (nameWord (doOfDeck i .variable)) 0 (word-some (doOfDeck i .variable) (words i l .told))) (not-and-false (inRange deck (doOfDeck i) q)))
+          (λ i a b. let l : i < dos = omega arith in rw (ne-eqb (nameWord (doOfDeck i .variable)) 0 (some-word (doOfDeck i .variable) (words i l .told))) (not-and-false (inRange deck (doOfDeck i) q)))
 
       one-set : (v : Name) → Told v → free (nameWord v) ≡ (all (λ d. not (inRange deck d q && sameName (d .variable) v)) (dosOf deck) && true)
       unfolding free
       one-set v t =
           let a : all (λ d. not (inRange deck d q && sameName (d .variable) v)) (dosOf deck) ≡ allFrom (λ i. not (inRange deck (doOfDeck i) q && eqb (nameWord (doOfDeck i .variable)) (nameWord v))) (length (dosOf deck)) 0 =
           all-zero (λ d. not (inRange deck d q && sameName (d .variable) v)) (dosOf deck) noDo (λ i. not (inRange deck (doOfDeck i) q && eqb (nameWord (doOfDeck i .variable)) (nameWord v)))
-          (λ i b. rw (same-word (doOfDeck i .variable) v (words i (below i b) .told) t)) in
+          (λ i b. rw (sym (word-test (doOfDeck i .variable) v (words i (below i b) .told) t))) in
           sym (and-true (all (λ d. not (inRange deck d q && sameName (d .variable) v)) (dosOf deck)) ∙ a
           ∙ ap (λ (n : ℕ). allFrom (λ i. not (inRange deck (doOfDeck i) q && eqb (nameWord (doOfDeck i .variable)) (nameWord v))) n 0) dos-many)
 

@@ -1,7 +1,7 @@
 -- Words at their places: in the rest of some bytes, as the book's words, and after four stores.
 -- Assumes nothing.
 use mathlib.Core.Path.{_≡_, refl, sym, ap, _∙_}
-use Prim.Native.Nat.{ℕ, zero, suc, _+_, _*_, _^_, _≤_, _<_}
+use Prim.Native.Nat.{ℕ, zero, suc, _+_, _*_, _≤_}
 use native.Mathlib.Nat.{add-assoc}
 use native.Mathlib.Numerals.{add-one, add-two, add-three}
 use native.Mathlib.Omega.{arith}
@@ -15,10 +15,6 @@ pub word-drop : (n : ℕ) (s : List ℕ) (a : ℕ) → wordAt (drop n s) a ≡ w
 unfolding wordAt
 word-drop n s a =
     rw (getD-drop n s a 0, getD-drop n s (a + 1) 0, getD-drop n s (a + 2) 0, getD-drop n s (a + 3) 0, add-assoc n a 1, add-assoc n a 2, add-assoc n a 3)
-
-pub word-lt : (s : List ℕ) → ((i : ℕ) → getD s i 0 < 256) → (a : ℕ) → wordAt s a < 2 ^ 32
-unfolding wordAt
-word-lt s h a = omega (arith, h a, h (a + 1), h (a + 2), h (a + 3))
 
 -- the word at byte 4 * i is the book's word i
 pub word-at : (s : List ℕ) (i : ℕ) → 4 * i + 4 ≤ length s → wordAt s (4 * i) ≡ getD (wordsOf s) i 0

@@ -1,6 +1,6 @@
 -- A word in bytes, and an instruction in a word. The book's `wordsOf` and `operationOf`, said for a place.
 -- Assumes nothing.
-use Prim.Native.Nat.{ℕ, _+_, _*_, _/_, _%_, _^_}
+use Prim.Native.Nat.{ℕ, _+_, _*_}
 use mathlib.Core.List.{List}
 use lib.ListN.{getD}
 

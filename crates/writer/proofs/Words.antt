@@ -2,14 +2,14 @@
 -- Assumes nothing.
 use mathlib.Core.Path.{_≡_, refl, sym, ap, _∙_}
 use mathlib.Core.List.{List, [], _∷_, _++_, append-assoc, append-nil}
-use Prim.Native.Nat.{ℕ, suc, _+_, _*_, _-_, _≤_, _<_}
+use Prim.Native.Nat.{ℕ, _+_, _*_, _-_, _≤_, _<_}
 use native.Mathlib.Omega.{arith}
 use native.Mathlib.Numerals.{add-one}
 use lib.ListN.{length, take, drop, getD, length-append, drop-of-length-le}
 use lib.Seq.{take-suc, length-take-le}
 use borrow.Rule.Slice.PartMut.{putMid}
 use Rattle.rules_object.specs.Object.{Object}
-use Rattle.rules_object.specs.Bytes.{wordBytes, bytesOf, concat, bodies, bodyTable, objectWords, objectBytes}
+use Rattle.rules_object.specs.Bytes.{wordBytes, bytesOf, bodies, objectWords, objectBytes}
 use Rattle.rules_object.proofs.Words.{length-bytes}
 use Rattle.writer.proofs.Over.{over, over-over, put-over, length-over}
 use Rattle.writer.specs.Bodies.{wordsOfBodies}

@@ -1,3 +1,4 @@
+-- `arrays::ends_in_f` meets its contract. Assumes nothing.
 use native.Mathlib.Omega.{arith}
 use Rattle.arrays.proofs.Last.{Stripping, strip-start, strip-more, strip-end}
 use Rattle.arrays.proofs.ends_in_f.Statement.{statement}

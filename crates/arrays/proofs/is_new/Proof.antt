@@ -1,3 +1,4 @@
+-- `arrays::is_new` meets its contract. Assumes nothing.
 use Rattle.arrays.proofs.News.{new-plain, new-array, new-last}
 use borrow.Author.Needs.{needs}
 use Rattle.arrays.proofs.is_new.Statement.{statement}

@@ -1,3 +1,4 @@
+-- `arrays::named` meets its contract. Assumes nothing.
 use Prim.Native.Nat.{_-_}
 use Rattle.arrays.proofs.News.{Hunting, hunt-start, hunt-found, hunt-next, hunt-end}
 use borrow.Author.Needs.{needs}

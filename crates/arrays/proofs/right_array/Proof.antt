@@ -1,3 +1,4 @@
+-- `arrays::right_array` meets its contract. Assumes nothing.
 use native.Mathlib.Omega.{arith}
 use borrow.Author.Tests.{not-true, not-false}
 use Rattle.arrays.proofs.Judging.{one-empty, one-seen, one-last}

@@ -1,3 +1,4 @@
+-- `arrays::some_cells` meets its contract. Assumes nothing.
 use Rattle.arrays.proofs.News.{some-no, some-one, some-two}
 use Rattle.arrays.proofs.some_cells.Statement.{statement}
 use Rattle.arrays.proofs.some_cells.Tie as tie

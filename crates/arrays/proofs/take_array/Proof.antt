@@ -1,3 +1,4 @@
+-- `arrays::take_array` meets its contract. Assumes nothing.
 use native.Mathlib.Omega.{arith}
 use Rattle.arrays.proofs.Cells.{size-low, over-rows, over-columns, over-size, over-count, array-takes}
 use borrow.Author.Needs.{needs}

@@ -1,3 +1,4 @@
+-- `arrays::width` meets its contract. Assumes nothing.
 use Rattle.arrays.proofs.Cells.{width-none, width-some}
 use Rattle.arrays.proofs.width.Statement.{statement}
 use Rattle.arrays.proofs.width.Tie as tie

@@ -1,3 +1,4 @@
+-- `cells::hide` meets its contract. Assumes nothing.
 use Rattle.cells.proofs.Both.{no-hiding, hiding}
 use borrow.Author.Needs.{needs}
 use Rattle.cells.proofs.hide.Statement.{statement}

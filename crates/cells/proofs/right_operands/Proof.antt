@@ -1,3 +1,4 @@
+-- `cells::right_operands` meets its contract. Assumes nothing.
 use borrow.Author.Tests.{not-true, not-false}
 use Rattle.cells.proofs.Both.{first-wrong, then-items}
 use borrow.Author.Needs.{needs}

@@ -1,3 +1,4 @@
+-- `cells::take_operands` meets its contract. Assumes nothing.
 use Rattle.cells.proofs.Both.{first-full, first-within, both-take}
 use mathlib.Core.Path.{_∙_}
 use borrow.Author.Needs.{needs}

@@ -1,5 +1,4 @@
 -- `compiler::compile` meets its contract. Assumes nothing.
-use mathlib.Core.Path.{_≡_, refl, sym, ap, _∙_}
 use Rattle.compiler.proofs.Stages.{cards-refused, cards-punched}
 use borrow.Author.Needs.{needs}
 use Rattle.compiler.proofs.compile.Statement.{statement}
@@ -15,12 +14,12 @@ judge-requires c κs = search needs
 enum-known-number : tie.Need-enum-known-number
 enum-known-number c = search needs
 
-enum-known-last : tie.Need-enum-known-last
-enum-known-last c = search needs
+enum-told : tie.Need-enum-told
+enum-told c = search needs
 
 compile-statements-requires : tie.Need-compile-statements-requires
 compile-statements-requires c κs =
-    cards-punched _ _ _ (c .before .before .before .before .judge .ensures) (c .before .before .last .given .1)
+    cards-punched _ _ _ (c .before .before .before .judge .ensures) (c .before .enum-told .given .1)
 
 returns : tie.Need-returns
 returns c =
@@ -39,7 +38,7 @@ compile-spec =
     (tie.spec
     judge-requires
     enum-known-number
-    enum-known-last
+    enum-told
     compile-statements-requires
     returns
     same-length

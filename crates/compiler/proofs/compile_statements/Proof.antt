@@ -1,5 +1,5 @@
 -- `compiler::compile_statements` meets its contract. Assumes nothing.
-use mathlib.Core.Path.{_≡_, refl, sym, ap, _∙_}
+use mathlib.Core.Path.{refl, _∙_}
 use native.Mathlib.Omega.{arith}
 use Rattle.compiler.proofs.Stages.{statements-refused, statements-kept, holds, compiled}
 use borrow.Author.Needs.{needs}

@@ -1,6 +1,5 @@
 -- `compiler::judge_whole` meets its contract. Assumes nothing.
 use native.Mathlib.Omega.{arith}
-use mathlib.Core.Path.{_≡_, refl, sym, ap, _∙_}
 use Rattle.whole.proofs.Drafted.{sketched, whole}
 use Rattle.compiler.proofs.Stages.{told, whole-refused, finished, whole-object, whole-short, low-word}
 use borrow.Author.Needs.{needs}

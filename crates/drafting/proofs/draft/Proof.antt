@@ -1,6 +1,6 @@
 -- `drafting::draft` meets its contract. Assumes nothing.
-use mathlib.Core.Path.{_≡_, refl, sym, ap, _∙_, subst}
-use Prim.Native.Nat.{_-_, _+_, _≤_}
+use mathlib.Core.Path.{_∙_}
+use Prim.Native.Nat.{_-_}
 use native.Mathlib.Omega.{arith}
 use lib.ListN.{length}
 use Rattle.rules_deck.specs.Cards.{cardsOf}

@@ -1,3 +1,4 @@
+-- `elements::read_addend` meets its contract. Assumes nothing.
 use mathlib.Core.Path.{ap, _∙_}
 use native.Mathlib.Omega.{arith}
 use Rattle.tokens.proofs.Chains.{took, refused, token-shape}

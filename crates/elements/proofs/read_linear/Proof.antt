@@ -1,3 +1,4 @@
+-- `elements::read_linear` meets its contract. Assumes nothing.
 use Rattle.tokens.proofs.Chains.{took, refused, token-shape}
 use Rattle.elements.proofs.Parts.{addend-shape, linear-no-name, linear-no-addend, linear-read}
 use borrow.Author.Needs.{needs}

@@ -1,3 +1,4 @@
+-- `elements::read_place` meets its contract. Assumes nothing.
 use mathlib.Core.Path.{sym, _∙_}
 use Rattle.tokens.proofs.Chains.{took, refused, token-shape}
 use Rattle.elements.proofs.Parts.{subscripts-shape, place-no-name, place-cell, place-bad, place-element}

@@ -1,3 +1,4 @@
+-- `elements::read_subscripts` meets its contract. Assumes nothing.
 use mathlib.Core.Path.{sym, _∙_}
 use native.Mathlib.Omega.{arith}
 use Rattle.tokens.proofs.Tokens.{inside}

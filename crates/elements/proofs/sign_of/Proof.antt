@@ -1,3 +1,4 @@
+-- `elements::sign_of` meets its contract. Assumes nothing.
 use borrow.Author.Tests.{eq-eqb, ne-eqb}
 use Rattle.elements.specs.Values.{signNumber}
 use Rattle.elements.proofs.sign_of.Statement.{statement}

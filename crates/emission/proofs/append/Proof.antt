@@ -1,3 +1,4 @@
+-- `emission::append` meets its contract. Assumes nothing.
 use mathlib.Core.Path.{_∙_, ap}
 use Prim.Native.Nat.{ℕ, _+_, _*_, _^_}
 use Rattle.emission.proofs.One.{appended, not-appended}

@@ -1,3 +1,4 @@
+-- `emission::choose` meets its contract. Assumes nothing.
 use Rattle.emission.proofs.Ends.{chosen, not-chosen}
 use borrow.Author.Needs.{needs}
 use Rattle.emission.proofs.choose.Statement.{statement}

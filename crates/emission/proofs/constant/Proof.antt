@@ -1,3 +1,4 @@
+-- `emission::constant` meets its contract. Assumes nothing.
 use native.Mathlib.Omega.{arith}
 use Rattle.emission.proofs.Operands.{pooled-fit, pooled-one, pooled-none}
 use borrow.Author.Needs.{needs}

@@ -1,3 +1,4 @@
+-- `emission::element_at` meets its contract. Assumes nothing.
 use Rattle.emission.proofs.Items.{element-is}
 use borrow.Author.Needs.{needs}
 use Rattle.emission.proofs.element_at.Statement.{statement}

@@ -1,3 +1,4 @@
+-- `emission::enter` meets its contract. Assumes nothing.
 use Rattle.emission.proofs.Ends.{entered, not-entered}
 use borrow.Author.Needs.{needs}
 use Rattle.emission.proofs.enter.Statement.{statement}

@@ -1,3 +1,4 @@
+-- `emission::halt` meets its contract. Assumes nothing.
 use Rattle.emission.proofs.Ends.{halted}
 use borrow.Author.Needs.{needs}
 use Rattle.emission.proofs.halt.Statement.{statement}

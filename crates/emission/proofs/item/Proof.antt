@@ -1,3 +1,4 @@
+-- `emission::item` meets its contract. Assumes nothing.
 use native.Mathlib.Omega.{arith}
 use Rattle.emission.proofs.One.{itself, grows}
 use Rattle.emission.proofs.Items.{words-there, kind-low, item-constant, item-name, item-place, item-operation}

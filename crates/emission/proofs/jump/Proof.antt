@@ -1,3 +1,4 @@
+-- `emission::jump` meets its contract. Assumes nothing.
 use Rattle.emission.proofs.Ends.{jumped}
 use borrow.Author.Needs.{needs}
 use Rattle.emission.proofs.jump.Statement.{statement}

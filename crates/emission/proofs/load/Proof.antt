@@ -1,3 +1,4 @@
+-- `emission::load` meets its contract. Assumes nothing.
 use Rattle.emission.proofs.Ends.{loaded}
 use borrow.Author.Needs.{needs}
 use Rattle.emission.proofs.load.Statement.{statement}

@@ -1,3 +1,4 @@
+-- `emission::refer` meets its contract. Assumes nothing.
 use Rattle.emission.proofs.Operands.{referred, not-referred}
 use borrow.Author.Needs.{needs}
 use Rattle.emission.proofs.refer.Statement.{statement}

@@ -1,3 +1,4 @@
+-- `emission::store` meets its contract. Assumes nothing.
 use Rattle.emission.proofs.Operands.{stored-cell, stored-element}
 use borrow.Author.Needs.{needs}
 use Rattle.emission.proofs.store.Statement.{statement}

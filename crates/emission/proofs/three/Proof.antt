@@ -1,3 +1,4 @@
+-- `emission::three` meets its contract. Assumes nothing.
 use Rattle.emission.proofs.Ends.{branched, not-branched}
 use borrow.Author.Needs.{needs}
 use Rattle.emission.proofs.three.Statement.{statement}

@@ -1,3 +1,4 @@
+-- `endings::choose_exit` meets its contract. Assumes nothing.
 use mathlib.Core.Path.{_∙_}
 use Rattle.endings.proofs.Ends.{choose-full, choose-then}
 use Rattle.endings.proofs.Then.{grows-full, grows-then}

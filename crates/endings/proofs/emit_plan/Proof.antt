@@ -1,3 +1,4 @@
+-- `endings::emit_plan` meets its contract. Assumes nothing.
 use mathlib.Core.Path.{_∙_}
 use Rattle.endings.proofs.Then.{grows-full, grows-then, items-worded, plan-full, plan-then}
 use borrow.Author.Needs.{needs}

@@ -1,3 +1,4 @@
+-- `endings::end` meets its contract. Assumes nothing.
 use native.Mathlib.Omega.{arith}
 use Rattle.endings.proofs.Ends.{does-do, does-not, grows-as, ends-store, ends-jump, ends-three, ends-enter, ends-stop, ends-end}
 use Rattle.endings.proofs.Then.{grows-same, ends-nothing}

@@ -1,3 +1,4 @@
+-- `entries::find` meets its contract. Assumes nothing.
 use Prim.Native.Nat.{_-_, _≤_}
 use native.Mathlib.Omega.{arith}
 use Rattle.entries.proofs.Pools.{Sought, sought-here, sought-on, sought-none}

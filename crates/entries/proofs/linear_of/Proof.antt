@@ -1,3 +1,4 @@
+-- `entries::linear_of` meets its contract. Assumes nothing.
 use Rattle.entries.proofs.Entered.{of-constant, of-name}
 use borrow.Author.Needs.{needs}
 use Rattle.entries.proofs.linear_of.Statement.{statement}

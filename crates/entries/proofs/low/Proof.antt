@@ -1,3 +1,4 @@
+-- `entries::low` meets its contract. Assumes nothing.
 use native.Mathlib.Omega.{arith}
 use lib.Bits.{and-mask, mask-lt}
 use Rattle.entries.proofs.low.Statement.{statement}

@@ -1,3 +1,4 @@
+-- `entries::pool` meets its contract. Assumes nothing.
 use native.Mathlib.Omega.{arith}
 use Rattle.entries.proofs.Pools.{was-there, one-too-many, put-new}
 use borrow.Author.Needs.{needs}

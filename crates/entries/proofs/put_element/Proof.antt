@@ -1,3 +1,4 @@
+-- `entries::put_element` meets its contract. Assumes nothing.
 use Rattle.entries.proofs.Entered.{entered}
 use borrow.Author.Needs.{needs}
 use Rattle.entries.proofs.put_element.Statement.{statement}

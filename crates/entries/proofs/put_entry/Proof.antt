@@ -1,3 +1,4 @@
+-- `entries::put_entry` meets its contract. Assumes nothing.
 use Rattle.items.proofs.Tables.{put-more}
 use borrow.Author.Needs.{needs}
 use Rattle.entries.proofs.put_entry.Statement.{statement}

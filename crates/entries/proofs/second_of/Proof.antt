@@ -1,3 +1,4 @@
+-- `entries::second_of` meets its contract. Assumes nothing.
 use Rattle.entries.proofs.Entered.{only-one, of-second}
 use borrow.Author.Needs.{needs}
 use Rattle.entries.proofs.second_of.Statement.{statement}

@@ -1,3 +1,4 @@
+-- `entries::signed` meets its contract. Assumes nothing.
 use Rattle.entries.proofs.Words.{signed-plus, signed-none, signed-less}
 use borrow.Author.Needs.{needs}
 use Rattle.entries.proofs.signed.Statement.{statement}

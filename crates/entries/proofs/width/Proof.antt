@@ -1,3 +1,4 @@
+-- `entries::width` meets its contract. Assumes nothing.
 use Rattle.entries.proofs.Entered.{width-none, width-some}
 use Rattle.entries.proofs.width.Statement.{statement}
 use Rattle.entries.proofs.width.Tie as tie

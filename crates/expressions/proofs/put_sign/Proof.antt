@@ -1,3 +1,4 @@
+-- `expressions::put_sign` meets its contract. Assumes nothing.
 use native.Mathlib.Omega.{arith}
 use borrow.Author.Needs.{needs}
 use Rattle.expressions.proofs.put_sign.Statement.{statement}

@@ -1,3 +1,4 @@
+-- `expressions::sign_len` meets its contract. Assumes nothing.
 use borrow.Author.Tests.{eq-eqb, ne-eqb}
 use Rattle.expressions.specs.Signs.{signLen}
 use Rattle.expressions.proofs.sign_len.Statement.{statement}

@@ -1,3 +1,4 @@
+-- `expressions::sum_op` meets its contract. Assumes nothing.
 use borrow.Author.Tests.{eq-eqb, ne-eqb}
 use Rattle.rules_deck.specs.Grammar.{sumOp}
 use Rattle.expressions.specs.Signs.{opNumber}

@@ -1,9 +1,8 @@
 -- `finish::finish` meets its contract. Assumes nothing.
-use mathlib.Core.Path.{_≡_, refl, sym, ap, _∙_}
+use mathlib.Core.Path.{sym, ap, _∙_}
 use mathlib.Core.List.{List}
-use Prim.Native.Nat.{ℕ, _*_, _+_, _≤_}
+use Prim.Native.Nat.{ℕ}
 use native.Mathlib.Omega.{arith}
-use lib.ListN.{length}
 use Rattle.rules_object.specs.Calls.{write}
 use Rattle.finish.proofs.Bodies.{bytes-are, judged, settling, leading, listing, fits}
 use borrow.Author.Needs.{needs}

@@ -1,3 +1,4 @@
+-- `forms::is_word` meets its contract. Assumes nothing.
 use mathlib.Core.Path.{sym, _∙_}
 use Rattle.forms.proofs.Forms.{other-length, same-length-word}
 use borrow.Author.Needs.{needs}

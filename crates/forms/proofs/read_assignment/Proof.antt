@@ -1,3 +1,4 @@
+-- `forms::read_assignment` meets its contract. Assumes nothing.
 use mathlib.Core.Path.{sym, _∙_}
 use native.Mathlib.Omega.{arith}
 use Rattle.rules_deck.specs.Grammar.{anExpression}

@@ -1,3 +1,4 @@
+-- `forms::read_exits` meets its contract. Assumes nothing.
 use Rattle.tokens.proofs.Chains.{took, refused, token-shape}
 use Rattle.forms.proofs.Forms.{exits-first, exits-second, exits-third, exits-more, exits-read}
 use borrow.Author.Needs.{needs}

@@ -1,3 +1,4 @@
+-- `forms::read_go_to` meets its contract. Assumes nothing.
 use mathlib.Core.Path.{sym, _∙_}
 use borrow.Author.Tests.{not-true, not-false}
 use Rattle.tokens.proofs.Chains.{took, refused, token-shape}

@@ -1,3 +1,4 @@
+-- `forms::read_word` meets its contract. Assumes nothing.
 use mathlib.Core.Path.{sym, _∙_}
 use Rattle.forms.proofs.Forms.{word-continue, word-stop, word-end, word-other}
 use borrow.Author.Needs.{needs}

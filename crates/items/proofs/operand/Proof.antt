@@ -1,3 +1,4 @@
+-- `items::operand` meets its contract. Assumes nothing.
 use native.Mathlib.Omega.{arith}
 use Rattle.tokens.proofs.Chains.{took, refused, token-shape}
 use Rattle.items.proofs.Given.{number-room, operand-other, operand-number}

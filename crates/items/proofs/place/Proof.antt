@@ -1,3 +1,4 @@
+-- `items::place` meets its contract. Assumes nothing.
 use native.Mathlib.Omega.{arith}
 use Rattle.tokens.proofs.Chains.{took, refused}
 use Rattle.elements.proofs.Parts.{place-shape}

@@ -1,3 +1,4 @@
+-- `items::put_count` meets its contract. Assumes nothing.
 use Rattle.items.proofs.Tables.{put-one}
 use borrow.Author.Needs.{needs}
 use Rattle.items.proofs.put_count.Statement.{statement}

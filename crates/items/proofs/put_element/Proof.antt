@@ -1,3 +1,4 @@
+-- `items::put_element` meets its contract. Assumes nothing.
 use Rattle.items.specs.Items.{targetWords}
 use Rattle.items.proofs.Tables.{put-more}
 use borrow.Author.Needs.{needs}

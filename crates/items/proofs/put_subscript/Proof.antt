@@ -1,3 +1,4 @@
+-- `items::put_subscript` meets its contract. Assumes nothing.
 use Rattle.items.proofs.Tables.{put-more}
 use borrow.Author.Needs.{needs}
 use Rattle.items.proofs.put_subscript.Statement.{statement}

@@ -1,3 +1,4 @@
+-- `items::put_target` meets its contract. Assumes nothing.
 use native.Mathlib.Omega.{arith}
 use Rattle.items.proofs.Given.{cell-room, put-cell, element-room, put-element}
 use borrow.Author.Needs.{needs}

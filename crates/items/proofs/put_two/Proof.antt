@@ -1,3 +1,4 @@
+-- `items::put_two` meets its contract. Assumes nothing.
 use native.Mathlib.Omega.{arith}
 use lib.ListN.{length-set}
 use Rattle.items.proofs.Tables.{put-both}

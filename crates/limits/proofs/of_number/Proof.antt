@@ -1,5 +1,5 @@
+-- `limits::of_number` meets its contract. Assumes nothing.
 use mathlib.Core.Path.{sym, ap, _∙_}
-use mathlib.Core.Bool.{cond}
 use Rattle.limits.specs.Tests.{ofNumber}
 use borrow.Author.Needs.{needs}
 use Rattle.limits.proofs.of_number.Statement.{statement}

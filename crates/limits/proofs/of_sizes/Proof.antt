@@ -1,6 +1,6 @@
+-- `limits::of_sizes` meets its contract. Assumes nothing.
 use borrow.Author.Tests.{not-true, not-false}
 use Rattle.limits.proofs.Tests.{long-name, other-letter, long-constant, bad-number, deep, right}
-use borrow.Author.Needs.{needs}
 use Rattle.limits.proofs.of_sizes.Statement.{statement}
 use Rattle.limits.proofs.of_sizes.Tie as tie
 

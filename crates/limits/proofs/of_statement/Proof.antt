@@ -1,3 +1,4 @@
+-- `limits::of_statement` meets its contract. Assumes nothing.
 use Rattle.limits.proofs.Arms.{of-assignment, of-go-to, exits-room, of-computed, of-if, of-do, of-dimension, of-continue, of-stop, of-end, of-bad}
 use borrow.Author.Needs.{needs}
 use Rattle.limits.proofs.of_statement.Statement.{statement}

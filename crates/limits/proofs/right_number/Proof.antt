@@ -1,5 +1,5 @@
+-- `limits::right_number` meets its contract. Assumes nothing.
 use Rattle.limits.proofs.Tests.{too-low, from-one}
-use borrow.Author.Needs.{needs}
 use Rattle.limits.proofs.right_number.Statement.{statement}
 use Rattle.limits.proofs.right_number.Tie as tie
 

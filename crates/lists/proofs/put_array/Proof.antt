@@ -1,3 +1,4 @@
+-- `lists::put_array` meets its contract. Assumes nothing.
 use native.Mathlib.Omega.{arith}
 use Prim.Native.Nat.{_+_}
 use lib.ListN.{set, length-set}

@@ -1,3 +1,4 @@
+-- `lists::read_computed` meets its contract. Assumes nothing.
 use mathlib.Core.Path.{sym, _∙_}
 use borrow.Author.Tests.{not-true, not-false}
 use Rattle.lists.proofs.Lists.{took-list, refused-list, computed-no-word, computed-not-opened, computed-inside, computed-no-list, computed-read}

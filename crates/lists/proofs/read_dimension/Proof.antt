@@ -1,3 +1,4 @@
+-- `lists::read_dimension` meets its contract. Assumes nothing.
 use mathlib.Core.Path.{sym, _∙_}
 use borrow.Author.Tests.{not-true, not-false}
 use Rattle.lists.proofs.Lists.{took-list, refused-list, dimension-no-word, dimension-fits, dimension-no-list, dimension-more, dimension-read}

@@ -1,3 +1,4 @@
+-- `loops::read_parameter` meets its contract. Assumes nothing.
 use Rattle.tokens.proofs.Chains.{took, refused, token-shape}
 use Rattle.loops.proofs.Loops.{parameter-variable, parameter-constant}
 use borrow.Author.Needs.{needs}

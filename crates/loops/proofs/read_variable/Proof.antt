@@ -1,3 +1,4 @@
+-- `loops::read_variable` meets its contract. Assumes nothing.
 use Rattle.tokens.proofs.Chains.{took, refused, token-shape}
 use Rattle.loops.proofs.Loops.{variable-none, variable-read}
 use borrow.Author.Needs.{needs}

@@ -1,3 +1,4 @@
+-- `marks::cell_word` meets its contract. Assumes nothing.
 use Rattle.marks.proofs.Puts.{cell-is, element-is}
 use borrow.Author.Needs.{needs}
 use Rattle.marks.proofs.cell_word.Statement.{statement}

@@ -1,3 +1,4 @@
+-- `marks::put` meets its contract. Assumes nothing.
 use Rattle.items.proofs.Tables.{put-one}
 use borrow.Author.Needs.{needs}
 use Rattle.marks.proofs.put.Statement.{statement}

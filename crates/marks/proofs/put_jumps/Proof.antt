@@ -1,4 +1,4 @@
-use Prim.Native.Nat.{_+_}
+-- `marks::put_jumps` meets its contract. Assumes nothing.
 use native.Mathlib.Omega.{arith}
 use Rattle.items.proofs.Tables.{put-more}
 use Rattle.marks.proofs.Puts.{numbers-2, numbers-3, numbers-1, numbers-4, numbers-none, head-low, tail-low, jumping, count-fits, as-numbers, put-none}

@@ -1,7 +1,7 @@
+-- `marks::put_numbers` meets its contract. Assumes nothing.
 use Prim.Native.Nat.{_-_}
 use native.Mathlib.Omega.{arith}
 use Rattle.marks.proofs.Puts.{low-at, Putting, nothing-put, one-put, all-put}
-use borrow.Author.Needs.{needs}
 use Rattle.marks.proofs.put_numbers.Statement.{statement}
 use Rattle.marks.proofs.put_numbers.Tie as tie
 

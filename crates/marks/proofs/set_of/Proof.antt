@@ -1,3 +1,4 @@
+-- `marks::set_of` meets its contract. Assumes nothing.
 use mathlib.Core.Path.{_∙_}
 use Rattle.marks.proofs.Puts.{set-0, set-4, set-none}
 use borrow.Author.Needs.{needs}

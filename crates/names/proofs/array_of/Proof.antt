@@ -1,3 +1,4 @@
+-- `names::array_of` meets its contract. Assumes nothing.
 use Rattle.names.proofs.Looks.{array-none, array-found}
 use borrow.Author.Needs.{needs}
 use Rattle.names.proofs.array_of.Statement.{statement}

@@ -1,3 +1,4 @@
+-- `names::cell_of` meets its contract. Assumes nothing.
 use Rattle.names.proofs.Looks.{cell-none, cell-found}
 use borrow.Author.Needs.{needs}
 use Rattle.names.proofs.cell_of.Statement.{statement}

@@ -1,3 +1,4 @@
+-- `names::find` meets its contract. Assumes nothing.
 use mathlib.Core.Path.{sym, _∙_}
 use Prim.Native.Nat.{_-_}
 use Rattle.names.proofs.Leaves.{Seeking, seek-start, seek-found, seek-next, seek-end}

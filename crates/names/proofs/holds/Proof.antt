@@ -1,3 +1,4 @@
+-- `names::holds` meets its contract. Assumes nothing.
 use Rattle.names.proofs.Looks.{holds-is}
 use borrow.Author.Needs.{needs}
 use Rattle.names.proofs.holds.Statement.{statement}

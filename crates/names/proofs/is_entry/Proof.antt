@@ -1,3 +1,4 @@
+-- `names::is_entry` meets its contract. Assumes nothing.
 use Rattle.names.proofs.Leaves.{entry-not, entry-kind}
 use borrow.Author.Needs.{needs}
 use Rattle.names.proofs.is_entry.Statement.{statement}

@@ -1,3 +1,4 @@
+-- `names::item_length` meets its contract. Assumes nothing.
 use Rattle.names.proofs.Leaves.{eleven, two, one}
 use Rattle.names.proofs.item_length.Statement.{statement}
 use Rattle.names.proofs.item_length.Tie as tie

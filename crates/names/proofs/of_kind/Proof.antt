@@ -1,3 +1,4 @@
+-- `names::of_kind` meets its contract. Assumes nothing.
 use Rattle.names.proofs.Leaves.{kind-array, kind-plain}
 use Rattle.names.proofs.of_kind.Statement.{statement}
 use Rattle.names.proofs.of_kind.Tie as tie

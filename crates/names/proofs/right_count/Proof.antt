@@ -1,3 +1,4 @@
+-- `names::right_count` meets its contract. Assumes nothing.
 use Rattle.names.proofs.Leaves.{count-one, count-two}
 use Rattle.names.proofs.right_count.Statement.{statement}
 use Rattle.names.proofs.right_count.Tie as tie

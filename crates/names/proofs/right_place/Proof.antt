@@ -1,3 +1,4 @@
+-- `names::right_place` meets its contract. Assumes nothing.
 use mathlib.Core.Path.{sym, _∙_}
 use borrow.Author.Tests.{not-true, not-false}
 use Rattle.names.proofs.Rights.{place-none, place-count, place-first, place-last}

@@ -1,3 +1,4 @@
+-- `names::take_any` meets its contract. Assumes nothing.
 use Rattle.names.proofs.Takes.{none-word, some-name}
 use borrow.Author.Needs.{needs}
 use Rattle.names.proofs.take_any.Statement.{statement}

@@ -1,3 +1,4 @@
+-- `names::take_item` meets its contract. Assumes nothing.
 use mathlib.Core.Path.{ap, _∙_}
 use native.Mathlib.Omega.{arith}
 use Rattle.names.specs.Find.{itemLength}

@@ -1,3 +1,4 @@
+-- `names::take_name` meets its contract. Assumes nothing.
 use native.Mathlib.Omega.{arith}
 use Rattle.names.proofs.Takes.{take-same, take-names, take-cells, take-new}
 use borrow.Author.Needs.{needs}

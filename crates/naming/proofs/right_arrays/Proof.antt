@@ -1,4 +1,4 @@
-use mathlib.Core.Path.{_≡_, sym}
+-- `naming::right_arrays` meets its contract. Assumes nothing.
 use native.Mathlib.Omega.{arith}
 use Rattle.naming.proofs.Operands.{no-arrays, some-arrays, arrays-room, part-long}
 use borrow.Author.Needs.{needs}

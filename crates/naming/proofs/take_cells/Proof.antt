@@ -1,3 +1,4 @@
+-- `naming::take_cells` meets its contract. Assumes nothing.
 use mathlib.Core.Path.{_∙_}
 use native.Mathlib.Omega.{arith}
 use Rattle.naming.proofs.Operands.{first-worded, items-worded, arrays-room, part-long}

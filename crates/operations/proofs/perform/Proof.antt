@@ -1,13 +1,12 @@
 -- `operations::perform` meets its contract. Assumes nothing.
 use mathlib.Core.Path.{_≡_, sym, ap, _∙_, subst}
-use Prim.Native.Nat.{_+_, _-_, _*_}
+use Prim.Native.Nat.{_-_}
 use native.Mathlib.Omega.{arith}
 use lib.IntN.{pos, _+ℤ_, _-ℤ_, _*ℤ_}
 use mir.Syntax.{w64}
 use mir.Facts.{toZ-ofZ}
 use Rattle.rules_object.specs.Machine.{cell}
 use Prim.Native.Nat.{ℕ}
-use lib.IntN.{ℤ}
 use mir.Facts.{toZ-pos}
 use Rattle.number.specs.Number.{value, keep, drops, apply, kept}
 use Rattle.rules_object.specs.Choose.{positive, allPositive}

@@ -1,6 +1,5 @@
 -- `operations::set_loop` meets its contract. Assumes nothing.
 use mathlib.Core.Path.{_∙_}
-use Prim.Native.Nat.{_-_}
 use native.Mathlib.Omega.{arith}
 use lib.ListN.{set, length-set}
 use mir.Val.{toZ, ofZ}

@@ -1,3 +1,4 @@
+-- `plans::plan_of` meets its contract. Assumes nothing.
 use Rattle.plans.proofs.Arms.{of-assignment, of-go-to, of-computed, of-if, of-do, of-dimension, of-continue, of-stop, of-end, of-bad}
 use borrow.Author.Needs.{needs}
 use Rattle.plans.proofs.plan_of.Statement.{statement}

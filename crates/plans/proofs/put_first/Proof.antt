@@ -1,3 +1,4 @@
+-- `plans::put_first` meets its contract. Assumes nothing.
 use native.Mathlib.Omega.{arith}
 use Rattle.plans.proofs.Arms.{target-room, first-0, first-2, first-4, first-none, first-put}
 use borrow.Author.Needs.{needs}

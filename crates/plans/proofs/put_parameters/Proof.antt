@@ -1,3 +1,4 @@
+-- `plans::put_parameters` meets its contract. Assumes nothing.
 use Rattle.items.proofs.Tables.{put-more}
 use borrow.Author.Needs.{needs}
 use Rattle.plans.proofs.put_parameters.Statement.{statement}

@@ -23,7 +23,6 @@ abbrev put-numeral-below : ℕ → In 1 put-numeral-kinds.ps
 put-numeral-below t =
     and 1 put-numeral-kinds.ps (falls 1 put-numeral-kinds.ps _<_ μ-put-numeral t) put-numeral.Pre
 
--- src/lib.rt:35:19
 put-numeral-digit-requires : (t : ℕ) → put-numeral-lts.Need-digit-requires (
   digit-reads.Asked,
   digit-reads.Learnt,
@@ -32,7 +31,6 @@ put-numeral-digit-requires : (t : ℕ) → put-numeral-lts.Need-digit-requires (
 ) (put-numeral-at t) put-numeral.Post
 put-numeral-digit-requires t c κs = search needs
 
--- src/lib.rt:35:9
 put-numeral-slice-write-out : (t : ℕ) → put-numeral-lts.Need-slice-write-out (
   digit-reads.Asked,
   digit-reads.Learnt,
@@ -42,7 +40,6 @@ put-numeral-slice-write-out : (t : ℕ) → put-numeral-lts.Need-slice-write-out
 put-numeral-slice-write-out t c =
     room-one (c .before .before .before .args .n) (c .before .if1 .taken) (c .before .before .before .pre .1)
 
--- src/lib.rt:36:16
 put-numeral-add-result : (t : ℕ) → put-numeral-lts.Need-add-result (
   digit-reads.Asked,
   digit-reads.Learnt,
@@ -51,7 +48,6 @@ put-numeral-add-result : (t : ℕ) → put-numeral-lts.Need-add-result (
 ) (put-numeral-at t) put-numeral.Post
 put-numeral-add-result t c = search needs
 
--- src/lib.rt:36:9
 put-numeral-same-length : (t : ℕ) → put-numeral-lts.Need-same-length (
   digit-reads.Asked,
   digit-reads.Learnt,
@@ -60,7 +56,6 @@ put-numeral-same-length : (t : ℕ) → put-numeral-lts.Need-same-length (
 ) (put-numeral-at t) put-numeral.Post
 put-numeral-same-length t c = search needs
 
--- src/lib.rt:36:9
 put-numeral-returns : (t : ℕ) → put-numeral-lts.Need-returns (
   digit-reads.Asked,
   digit-reads.Learnt,
@@ -70,7 +65,6 @@ put-numeral-returns : (t : ℕ) → put-numeral-lts.Need-returns (
 put-numeral-returns t c =
     puts-one (c .before .before .before .args .n) _ (c .before .if1 .taken) (c .digit .ensures)
 
--- src/lib.rt:38:9
 put-numeral-put-numeral-requires : (t : ℕ) → put-numeral-lts.Need-put-numeral-requires (
   digit-reads.Asked,
   digit-reads.Learnt,
@@ -80,7 +74,6 @@ put-numeral-put-numeral-requires : (t : ℕ) → put-numeral-lts.Need-put-numera
 put-numeral-put-numeral-requires t c κs =
     (omega (arith, c .before .if1 .left), room-before (c .before .before .before .args .n) (c .before .if1 .left) (c .before .before .before .pre .1))
 
--- src/lib.rt:39:16
 put-numeral-digit-requires-2 : (t : ℕ) → put-numeral-lts.Need-digit-requires-2 (
   digit-reads.Asked,
   digit-reads.Learnt,
@@ -89,7 +82,6 @@ put-numeral-digit-requires-2 : (t : ℕ) → put-numeral-lts.Need-digit-requires
 ) (put-numeral-at t) put-numeral.Post
 put-numeral-digit-requires-2 t c κs = search needs
 
--- src/lib.rt:39:5
 put-numeral-slice-write-out-2 : (t : ℕ) → put-numeral-lts.Need-slice-write-out-2 (
   digit-reads.Asked,
   digit-reads.Learnt,
@@ -99,7 +91,6 @@ put-numeral-slice-write-out-2 : (t : ℕ) → put-numeral-lts.Need-slice-write-o
 put-numeral-slice-write-out-2 t c =
     room-last (c .before .before .before .before .before .before .before .args .n) (c .before .before .before .before .before .if1 .left) (c .before .before .before .before .before .before .before .pre .1) (c .before .before .before .put-numeral .ensures)
 
--- src/lib.rt:40:5
 put-numeral-add-result-2 : (t : ℕ) → put-numeral-lts.Need-add-result-2 (
   digit-reads.Asked,
   digit-reads.Learnt,
@@ -110,7 +101,6 @@ put-numeral-add-result-2 t c =
     let m = room-last (c .before .before .before .before .before .before .before .args .n) (c .before .before .before .before .before .if1 .left) (c .before .before .before .before .before .before .before .pre .1) (c .before .before .before .put-numeral .ensures) in
     omega (arith, m)
 
--- src/lib.rt:30:1
 put-numeral-same-length-2 : (t : ℕ) → put-numeral-lts.Need-same-length-2 (
   digit-reads.Asked,
   digit-reads.Learnt,
@@ -119,7 +109,6 @@ put-numeral-same-length-2 : (t : ℕ) → put-numeral-lts.Need-same-length-2 (
 ) (put-numeral-at t) put-numeral.Post
 put-numeral-same-length-2 t c = search needs
 
--- src/lib.rt:30:1
 put-numeral-returns-2 : (t : ℕ) → put-numeral-lts.Need-returns-2 (
   digit-reads.Asked,
   digit-reads.Learnt,

@@ -11,43 +11,33 @@ use Rattle.printing.proofs.name_at.Lts as lts
 use Rattle.word.proofs.index.Reads as index-reads
 use Rattle.word.proofs.load.Reads as load-reads
 
--- src/lib.rt:101:47
 add-load : tie.Need-add-load
 add-load c = search needs
 
--- src/lib.rt:101:28
 load-requires : tie.Need-load-requires
 load-requires c κs = search needs
 
--- src/lib.rt:101:16
 index-requires : tie.Need-index-requires
 index-requires c κs = search needs
 
--- src/lib.rt:102:46
 add-load-2 : tie.Need-add-load-2
 add-load-2 c = search needs
 
--- src/lib.rt:102:27
 load-requires-2 : tie.Need-load-requires-2
 load-requires-2 c κs = search needs
 
--- src/lib.rt:102:15
 index-requires-2 : tie.Need-index-requires-2
 index-requires-2 c κs = search needs
 
--- src/lib.rt:103:49
 add-load-3 : tie.Need-add-load-3
 add-load-3 c = search needs
 
--- src/lib.rt:103:30
 load-requires-3 : tie.Need-load-requires-3
 load-requires-3 c κs = search needs
 
--- src/lib.rt:103:18
 index-requires-3 : tie.Need-index-requires-3
 index-requires-3 c κs = search needs
 
--- src/lib.rt:95:1
 returns : tie.Need-returns
 unfolding namedIn namedAt
 returns c =

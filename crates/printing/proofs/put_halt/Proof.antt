@@ -12,11 +12,9 @@ use Rattle.printing.proofs.put_halt.Lts as lts
 use Rattle.printing.proofs.put_stated.Reads as put-stated-reads
 use Rattle.printing.proofs.put_words.Reads as put-words-reads
 
--- src/lib.rt:55:33
 slice-aggregate-put-stated : tie.Need-slice-aggregate-put-stated
 slice-aggregate-put-stated c = search needs
 
--- src/lib.rt:55:9
 put-stated-requires : tie.Need-put-stated-requires
 unfolding haltLine
 put-stated-requires c κs =
@@ -26,11 +24,9 @@ put-stated-requires c κs =
     let t3 : List ℕ = lineEnd in
     room-first t0 (t1 ++ (t2 ++ t3)) (c .before .before .before .pre)
 
--- src/lib.rt:56:32
 slice-aggregate-put-stated-2 : tie.Need-slice-aggregate-put-stated-2
 slice-aggregate-put-stated-2 c = search needs
 
--- src/lib.rt:56:9
 put-stated-requires-2 : tie.Need-put-stated-requires-2
 unfolding haltLine
 put-stated-requires-2 c κs =
@@ -40,11 +36,9 @@ put-stated-requires-2 c κs =
     let t3 : List ℕ = lineEnd in
     room-first t1 (t2 ++ t3) (room-then t0 (t1 ++ (t2 ++ t3)) (c .before .before .before .before .put-stated .ensures) (c .before .before .before .before .before .before .before .before .pre))
 
--- src/lib.rt:57:32
 slice-aggregate-put-stated-3 : tie.Need-slice-aggregate-put-stated-3
 slice-aggregate-put-stated-3 c = search needs
 
--- src/lib.rt:57:9
 put-stated-requires-3 : tie.Need-put-stated-requires-3
 unfolding haltLine
 put-stated-requires-3 c κs =
@@ -54,11 +48,9 @@ put-stated-requires-3 c κs =
     let t3 : List ℕ = lineEnd in
     room-first t2 t3 (room-then t1 (t2 ++ t3) (c .before .before .before .before .put-stated2 .ensures) (room-then t0 (t1 ++ (t2 ++ t3)) (c .before .before .before .before .before .before .before .before .before .put-stated .ensures) (c .before .before .before .before .before .before .before .before .before .before .before .before .before .pre)))
 
--- src/lib.rt:58:23
 slice-aggregate-put-words : tie.Need-slice-aggregate-put-words
 slice-aggregate-put-words c = search needs
 
--- src/lib.rt:58:5
 put-words-requires : tie.Need-put-words-requires
 unfolding haltLine
 put-words-requires c κs =
@@ -68,11 +60,9 @@ put-words-requires c κs =
     let t3 : List ℕ = lineEnd in
     room-then t2 t3 (c .before .before .before .before .put-stated3 .ensures) (room-then t1 (t2 ++ t3) (c .before .before .before .before .before .before .before .before .before .put-stated2 .ensures) (room-then t0 (t1 ++ (t2 ++ t3)) (c .before .before .before .before .before .before .before .before .before .before .before .before .before .before .put-stated .ensures) (c .before .before .before .before .before .before .before .before .before .before .before .before .before .before .before .before .before .before .pre)))
 
--- src/lib.rt:51:1
 same-length : tie.Need-same-length
 same-length c = search needs
 
--- src/lib.rt:51:1
 returns : tie.Need-returns
 unfolding haltLine
 returns c =

@@ -15,7 +15,6 @@ Inv-loop out₀ at object from n₀ i₀ out n i = Naming object from at out₀ 
 abbrev μ-loop : tie.MeasureT-loop
 μ-loop out₀ at object from n₀ i₀ out n i = 8 - i
 
--- src/lib.rt:114:5
 loop-holds : tie.Need-loop-holds Inv-loop μ-loop
 loop-holds c =
     let s = c .args .object .now in
@@ -25,15 +24,12 @@ loop-holds c =
     let o = c .args .out .now in
     naming-start s f l at o
 
--- src/lib.rt:115:24
 add-c : tie.Need-add-c Inv-loop μ-loop
 add-c c = search needs
 
--- src/lib.rt:115:17
 shared-slice-read-c : tie.Need-shared-slice-read-c Inv-loop μ-loop
 shared-slice-read-c c = search needs
 
--- src/lib.rt:117:13
 slice-write-out : tie.Need-slice-write-out Inv-loop μ-loop
 slice-write-out c =
     let s = c .before .before .before .before .args .object .now in
@@ -46,7 +42,6 @@ slice-write-out c =
     let h = c .before .before .loop-test .taken in
     naming-room s f l at o (lp .out) (lp .n) (lp .i) (lp .inv) h (c .if1 .taken) r
 
--- src/lib.rt:118:13
 add-n : tie.Need-add-n Inv-loop μ-loop
 add-n c =
     let s = c .before .before .before .before .args .object .now in
@@ -60,15 +55,12 @@ add-n c =
     let m = naming-room s f l at o (lp .out) (lp .n) (lp .i) (lp .inv) h (c .if1 .taken) r in
     omega (arith, m)
 
--- src/lib.rt:120:9
 add-i : tie.Need-add-i Inv-loop μ-loop
 add-i c = search needs
 
--- src/lib.rt:114:5
 loop-less : tie.Need-loop-less Inv-loop μ-loop
 loop-less c = search needs
 
--- src/lib.rt:114:5
 loop-again : tie.Need-loop-again Inv-loop μ-loop
 loop-again c =
     let s = c .before .before .before .before .args .object .now in
@@ -83,13 +75,11 @@ loop-again c =
     (λ t. naming-blank s f l at o (lp .out) (lp .n) (lp .i) (lp .inv) h _ _ (t .0 .left) (t .1) (t .2))
     (c .if1 .came)
 
--- src/lib.rt:108:1
 same-length : tie.Need-same-length Inv-loop μ-loop
 same-length c =
     let lp = c .before .loop in
     lp .inv .going .long
 
--- src/lib.rt:108:1
 returns : tie.Need-returns Inv-loop μ-loop
 returns c =
     let s = c .before .before .args .object .now in

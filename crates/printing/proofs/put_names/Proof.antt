@@ -1,6 +1,5 @@
 -- `printing::put_names` meets its contract. Assumes nothing.
-use Prim.Native.Nat.{ℕ, _+_, _-_, _≤_, _<_}
-use mathlib.Core.Path.{_≡_, refl, sym, ap, _∙_}
+use Prim.Native.Nat.{_-_}
 use native.Mathlib.Omega.{arith}
 use Rattle.printing.proofs.Loops.{Listing, names-start, names-room, names-on, listed}
 use borrow.Author.Needs.{needs}
@@ -17,7 +16,6 @@ Inv-loop out₀ at object e store n₀ i₀ out n i = Listing e object store at 
 abbrev μ-loop : tie.MeasureT-loop
 μ-loop out₀ at object e store n₀ i₀ out n i = e .«name_count» - i
 
--- src/lib.rt:199:5
 loop-holds : tie.Need-loop-holds Inv-loop μ-loop
 loop-holds c =
     let a = c .before .before .args in
@@ -28,28 +26,24 @@ loop-holds c =
     let o = a .out .now in
     names-start e s so at o
 
--- src/lib.rt:200:46
 mul-name-at : tie.Need-mul-name-at Inv-loop μ-loop
 mul-name-at c =
     let is = c .before .before .before .before .before .pre .0 in
     let h = c .if1 .taken in
     omega (arith, h, is .placed .whole)
 
--- src/lib.rt:200:36
 add-name-at : tie.Need-add-name-at Inv-loop μ-loop
 add-name-at c =
     let is = c .before .before .before .before .before .before .pre .0 in
     let h = c .before .if1 .taken in
     omega (arith, h, is .placed .whole)
 
--- src/lib.rt:200:13
 name-at-requires : tie.Need-name-at-requires Inv-loop μ-loop
 name-at-requires c κs =
     let is = c .before .before .before .before .before .before .pre .0 in
     let h = c .before .if1 .taken in
     omega (arith, h, is .placed .whole)
 
--- src/lib.rt:201:9
 put-values-requires : tie.Need-put-values-requires Inv-loop μ-loop
 put-values-requires c κs =
     let a = c .before .before .before .before .before .before .before .before .args in
@@ -64,18 +58,15 @@ put-values-requires c κs =
     let h = c .before .before .before .if1 .taken in
     names-room e s so at o (lp .out) (lp .n) (lp .i) (lp .inv) h (c .before .name-at .result) (c .before .name-at .ensures .0) (c .before .name-at .ensures .1) is r
 
--- src/lib.rt:202:9
 add-i : tie.Need-add-i Inv-loop μ-loop
 add-i c =
     let is = c .before .before .before .before .before .before .before .before .before .before .before .pre .0 in
     let h = c .before .before .before .before .before .before .if1 .taken in
     omega (arith, h, is .placed .whole)
 
--- src/lib.rt:199:5
 loop-less : tie.Need-loop-less Inv-loop μ-loop
 loop-less c = search needs
 
--- src/lib.rt:199:5
 loop-again : tie.Need-loop-again Inv-loop μ-loop
 loop-again c =
     let a = c .before .before .before .before .before .before .before .before .before .before .before .args in
@@ -88,13 +79,11 @@ loop-again c =
     let h = c .before .before .before .before .before .before .if1 .taken in
     names-on e s so at o (lp .out) (lp .n) (lp .i) (lp .inv) h (c .before .before .before .before .name-at .result) (c .before .before .before .before .name-at .ensures .0) (c .before .before .before .before .name-at .ensures .1) (c .before .before .put-values .ensures)
 
--- src/lib.rt:193:1
 same-length : tie.Need-same-length Inv-loop μ-loop
 same-length c =
     let lp = c .before .before .loop in
     lp .inv .going .long
 
--- src/lib.rt:193:1
 returns : tie.Need-returns Inv-loop μ-loop
 returns c =
     let a = c .before .before .before .before .before .args in

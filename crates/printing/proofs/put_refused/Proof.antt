@@ -12,11 +12,9 @@ use Rattle.printing.proofs.put_refused.Lts as lts
 use Rattle.printing.proofs.put_stated.Reads as put-stated-reads
 use Rattle.printing.proofs.put_words.Reads as put-words-reads
 
--- src/lib.rt:65:33
 slice-aggregate-put-stated : tie.Need-slice-aggregate-put-stated
 slice-aggregate-put-stated c = search needs
 
--- src/lib.rt:65:9
 put-stated-requires : tie.Need-put-stated-requires
 unfolding refusedLine
 put-stated-requires c κs =
@@ -25,11 +23,9 @@ put-stated-requires c κs =
     let t2 : List ℕ = lineEnd in
     room-first t0 (t1 ++ t2) (c .before .before .before .pre)
 
--- src/lib.rt:66:32
 slice-aggregate-put-stated-2 : tie.Need-slice-aggregate-put-stated-2
 slice-aggregate-put-stated-2 c = search needs
 
--- src/lib.rt:66:9
 put-stated-requires-2 : tie.Need-put-stated-requires-2
 unfolding refusedLine
 put-stated-requires-2 c κs =
@@ -38,11 +34,9 @@ put-stated-requires-2 c κs =
     let t2 : List ℕ = lineEnd in
     room-first t1 t2 (room-then t0 (t1 ++ t2) (c .before .before .before .before .put-stated .ensures) (c .before .before .before .before .before .before .before .before .pre))
 
--- src/lib.rt:67:23
 slice-aggregate-put-words : tie.Need-slice-aggregate-put-words
 slice-aggregate-put-words c = search needs
 
--- src/lib.rt:67:5
 put-words-requires : tie.Need-put-words-requires
 unfolding refusedLine
 put-words-requires c κs =
@@ -51,11 +45,9 @@ put-words-requires c κs =
     let t2 : List ℕ = lineEnd in
     room-then t1 t2 (c .before .before .before .before .put-stated2 .ensures) (room-then t0 (t1 ++ t2) (c .before .before .before .before .before .before .before .before .before .put-stated .ensures) (c .before .before .before .before .before .before .before .before .before .before .before .before .before .pre))
 
--- src/lib.rt:61:1
 same-length : tie.Need-same-length
 same-length c = search needs
 
--- src/lib.rt:61:1
 returns : tie.Need-returns
 unfolding refusedLine
 returns c =

@@ -2,7 +2,7 @@
 use Prim.Native.Nat.{ℕ}
 use mathlib.Core.Path.{_≡_, sym, ap, _∙_}
 use mathlib.Core.Bool.{true, false}
-use mathlib.Core.List.{List, _++_}
+use mathlib.Core.List.{_++_}
 use lib.IntN.{pos, natAbs}
 use mir.Facts.{toZ-ofZ}
 use lib.Signed.{ltZ}
@@ -21,15 +21,12 @@ use Rattle.number.proofs.size.Reads as size-reads
 use Rattle.printing.proofs.put_numeral.Reads as put-numeral-reads
 use Rattle.printing.proofs.put_words.Reads as put-words-reads
 
--- src/lib.rt:77:9
 size-requires : tie.Need-size-requires
 size-requires c κs = search needs
 
--- src/lib.rt:79:38
 slice-aggregate-put-words : tie.Need-slice-aggregate-put-words
 slice-aggregate-put-words c = search needs
 
--- src/lib.rt:79:13
 put-words-requires : tie.Need-put-words-requires
 put-words-requires c κs =
     let v = c .before .before .before .before .before .args .v in
@@ -41,7 +38,6 @@ put-words-requires c κs =
     let r : Room (bytes "-" ++ numeral n) at o = room-as e (c .before .before .before .before .before .pre) in
     room-first (bytes "-") (numeral n) r
 
--- src/lib.rt:80:9
 put-numeral-requires : tie.Need-put-numeral-requires
 put-numeral-requires c κs =
     let v = c .before .before .before .before .before .before .before .before .before .args .v in
@@ -53,11 +49,9 @@ put-numeral-requires c κs =
     let r : Room (bytes "-" ++ numeral n) at o = room-as e (c .before .before .before .before .before .before .before .before .before .pre) in
     room-then (bytes "-") (numeral n) (c .before .before .before .put-words .ensures) r
 
--- src/lib.rt:80:9
 same-length : tie.Need-same-length
 same-length c = search needs
 
--- src/lib.rt:80:9
 returns : tie.Need-returns
 returns c =
     let v = c .before .before .before .before .before .before .before .before .before .before .before .before .args .v in
@@ -69,7 +63,6 @@ returns c =
     let r : Room (bytes "-" ++ numeral n) at o = room-as e (c .before .before .before .before .before .before .before .before .before .before .before .before .pre) in
     puts-as (sym e) (puts-both (bytes "-") (numeral n) (c .before .before .before .before .before .before .put-words .ensures) (c .before .before .put-numeral .ensures))
 
--- src/lib.rt:82:5
 put-numeral-requires-2 : tie.Need-put-numeral-requires-2
 put-numeral-requires-2 c κs =
     let v = c .before .before .before .before .args .v in
@@ -78,11 +71,9 @@ put-numeral-requires-2 c κs =
     let e : signed v ≡ numeral n = signed-above v (read (λ x. ltZ x (pos 0) ≡ false) v (c .before .before .before .before .fits .v) (c .before .if1 .left)) ∙ ap numeral (sym m) in
     room-as e (c .before .before .before .before .pre)
 
--- src/lib.rt:73:1
 same-length-2 : tie.Need-same-length-2
 same-length-2 c = search needs
 
--- src/lib.rt:73:1
 returns-2 : tie.Need-returns-2
 returns-2 c =
     let v = c .before .before .before .before .before .before .before .args .v in

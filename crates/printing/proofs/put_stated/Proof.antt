@@ -9,7 +9,6 @@ use Rattle.printing.proofs.put_stated.Lts as lts
 use Rattle.printing.proofs.put_numeral.Reads as put-numeral-reads
 use Rattle.printing.proofs.put_words.Reads as put-words-reads
 
--- src/lib.rt:47:9
 put-words-requires : tie.Need-put-words-requires
 unfolding stated
 put-words-requires c κs =
@@ -17,7 +16,6 @@ put-words-requires c κs =
     let n = numeral (c .before .before .before .args .n) in
     room-first w n (c .before .before .before .pre)
 
--- src/lib.rt:48:5
 put-numeral-requires : tie.Need-put-numeral-requires
 unfolding stated
 put-numeral-requires c κs =
@@ -25,11 +23,9 @@ put-numeral-requires c κs =
     let n = numeral (c .before .before .before .before .before .before .before .args .n) in
     room-then w n (c .before .before .before .put-words .ensures) (c .before .before .before .before .before .before .before .pre)
 
--- src/lib.rt:43:1
 same-length : tie.Need-same-length
 same-length c = search needs
 
--- src/lib.rt:43:1
 returns : tie.Need-returns
 unfolding stated
 returns c =

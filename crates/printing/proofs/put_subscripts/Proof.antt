@@ -1,5 +1,5 @@
 -- `printing::put_subscripts` meets its contract. Assumes nothing.
-use Prim.Native.Nat.{ℕ, _+_, _%_, _/_, _≤_}
+use Prim.Native.Nat.{ℕ, _+_, _%_, _/_}
 use mathlib.Core.Path.{_≡_, sym}
 use mathlib.Core.List.{List, _++_}
 use native.Mathlib.Omega.{arith}
@@ -17,7 +17,6 @@ use Rattle.printing.proofs.put_subscripts.Lts as lts
 use Rattle.printing.proofs.put_stated.Reads as put-stated-reads
 use Rattle.printing.proofs.put_words.Reads as put-words-reads
 
--- src/lib.rt:131:9
 returns : tie.Need-returns
 returns c =
     let a = c .before .before .args in
@@ -26,15 +25,12 @@ returns c =
     let w : List ℕ = subscripts (a .rows) (a .columns) (a .i) in
     puts-as (sym (no-subscripts (a .rows) (a .columns) (a .i) (c .if1 .taken))) (puts-none at o)
 
--- src/lib.rt:134:37
 slice-aggregate-put-stated : tie.Need-slice-aggregate-put-stated
 slice-aggregate-put-stated c = search needs
 
--- src/lib.rt:134:44
 add-put-stated : tie.Need-add-put-stated
 add-put-stated c = search needs
 
--- src/lib.rt:134:13
 put-stated-requires : tie.Need-put-stated-requires
 put-stated-requires c κs =
     let a = c .before .before .before .before .before .args in
@@ -47,11 +43,9 @@ put-stated-requires c κs =
     let r : Room (x ++ y) at o = room-as e (c .before .before .before .before .before .pre .1) in
     room-first x y r
 
--- src/lib.rt:135:34
 slice-aggregate-put-words : tie.Need-slice-aggregate-put-words
 slice-aggregate-put-words c = search needs
 
--- src/lib.rt:135:9
 put-words-requires : tie.Need-put-words-requires
 put-words-requires c κs =
     let a = c .before .before .before .before .before .before .before .before .before .before .args in
@@ -64,11 +58,9 @@ put-words-requires c κs =
     let r : Room (x ++ y) at o = room-as e (c .before .before .before .before .before .before .before .before .before .before .pre .1) in
     room-then x y (c .before .before .before .before .put-stated .ensures) r
 
--- src/lib.rt:135:9
 same-length : tie.Need-same-length
 same-length c = search needs
 
--- src/lib.rt:135:9
 returns-2 : tie.Need-returns-2
 returns-2 c =
     let a = c .before .before .before .before .before .before .before .before .before .before .before .before .before .args in
@@ -81,15 +73,12 @@ returns-2 c =
     let r : Room (x ++ y) at o = room-as e (c .before .before .before .before .before .before .before .before .before .before .before .before .before .pre .1) in
     puts-as (sym e) (puts-both x y (c .before .before .before .before .before .before .before .put-stated .ensures) (c .before .before .put-words .ensures))
 
--- src/lib.rt:137:33
 slice-aggregate-put-stated-2 : tie.Need-slice-aggregate-put-stated-2
 slice-aggregate-put-stated-2 c = search needs
 
--- src/lib.rt:137:40
 rem-put-stated : tie.Need-rem-put-stated
 rem-put-stated c = search needs
 
--- src/lib.rt:137:40
 add-put-stated-2 : tie.Need-add-put-stated-2
 add-put-stated-2 c =
     let a = c .before .before .before .before .before .args in
@@ -97,7 +86,6 @@ add-put-stated-2 c =
     let h = mod-le (a .i) (a .rows) in
     omega (arith, h, c .before .before .before .before .before .pre .0)
 
--- src/lib.rt:137:9
 put-stated-requires-2 : tie.Need-put-stated-requires-2
 put-stated-requires-2 c κs =
     let a = c .before .before .before .before .before .args in
@@ -111,15 +99,12 @@ put-stated-requires-2 c κs =
     let r : Room (x ++ (y ++ z)) at o = room-as e (c .before .before .before .before .before .pre .1) in
     room-first x (y ++ z) r
 
--- src/lib.rt:138:32
 slice-aggregate-put-stated-3 : tie.Need-slice-aggregate-put-stated-3
 slice-aggregate-put-stated-3 c = search needs
 
--- src/lib.rt:138:39
 div-put-stated : tie.Need-div-put-stated
 div-put-stated c = search needs
 
--- src/lib.rt:138:39
 add-put-stated-3 : tie.Need-add-put-stated-3
 add-put-stated-3 c =
     let a = c .before .before .before .before .before .before .before .before .before .before .args in
@@ -127,7 +112,6 @@ add-put-stated-3 c =
     let h = div-le-self (a .i) (a .rows) in
     omega (arith, h, c .before .before .before .before .before .before .before .before .before .before .pre .0)
 
--- src/lib.rt:138:9
 put-stated-requires-3 : tie.Need-put-stated-requires-3
 put-stated-requires-3 c κs =
     let a = c .before .before .before .before .before .before .before .before .before .before .args in
@@ -141,11 +125,9 @@ put-stated-requires-3 c κs =
     let r : Room (x ++ (y ++ z)) at o = room-as e (c .before .before .before .before .before .before .before .before .before .before .pre .1) in
     room-first y z (room-then x (y ++ z) (c .before .before .before .before .put-stated2 .ensures) r)
 
--- src/lib.rt:139:23
 slice-aggregate-put-words-2 : tie.Need-slice-aggregate-put-words-2
 slice-aggregate-put-words-2 c = search needs
 
--- src/lib.rt:139:5
 put-words-requires-2 : tie.Need-put-words-requires-2
 put-words-requires-2 c κs =
     let a = c .before .before .before .before .before .before .before .before .before .before .before .before .before .before .before .args in
@@ -159,11 +141,9 @@ put-words-requires-2 c κs =
     let r : Room (x ++ (y ++ z)) at o = room-as e (c .before .before .before .before .before .before .before .before .before .before .before .before .before .before .before .pre .1) in
     room-then y z (c .before .before .before .before .put-stated3 .ensures) (room-then x (y ++ z) (c .before .before .before .before .before .before .before .before .before .put-stated2 .ensures) r)
 
--- src/lib.rt:126:1
 same-length-2 : tie.Need-same-length-2
 same-length-2 c = search needs
 
--- src/lib.rt:126:1
 returns-3 : tie.Need-returns-3
 returns-3 c =
     let a = c .before .before .before .before .before .before .before .before .before .before .before .before .before .before .before .before .before .before .args in

@@ -1,6 +1,6 @@
 -- `printing::put_value` meets its contract. Assumes nothing.
-use Prim.Native.Nat.{ℕ, _+_, _<_}
-use mathlib.Core.Path.{_≡_, sym, ap, _∙_}
+use Prim.Native.Nat.{ℕ, _+_}
+use mathlib.Core.Path.{sym, ap, _∙_}
 use mir.Syntax.{w64}
 use mir.Facts.{toZ-ofZ}
 use mathlib.Core.List.{List, _++_}
@@ -25,17 +25,14 @@ use Rattle.printing.proofs.put_subscripts.Reads as put-subscripts-reads
 use Rattle.printing.proofs.put_words.Reads as put-words-reads
 use Rattle.printing.proofs.value_at.Reads as value-at-reads
 
--- src/lib.rt:162:29
 add-value-at : tie.Need-add-value-at
 add-value-at c =
     omega (arith, c .before .before .before .pre .0 .cell, c .before .before .before .pre .0 .most)
 
--- src/lib.rt:162:9
 value-at-requires : tie.Need-value-at-requires
 value-at-requires c κs =
     c .before .before .before .pre .0 .cell
 
--- src/lib.rt:163:9
 put-name-requires : tie.Need-put-name-requires
 unfolding valueLine namedIn
 put-name-requires c κs =
@@ -50,7 +47,6 @@ put-name-requires c κs =
     let t4 : List ℕ = lineEnd in
     (c .before .before .before .before .before .pre .0 .text, room-first t0 (t1 ++ (t2 ++ (t3 ++ t4))) (room))
 
--- src/lib.rt:164:9
 put-subscripts-requires : tie.Need-put-subscripts-requires
 unfolding valueLine namedIn
 put-subscripts-requires c κs =
@@ -65,11 +61,9 @@ put-subscripts-requires c κs =
     let t4 : List ℕ = lineEnd in
     (omega (arith, c .before .before .before .before .before .before .before .before .before .pre .0 .cell, c .before .before .before .before .before .before .before .before .before .pre .0 .most), room-first t1 (t2 ++ (t3 ++ t4)) (room-then t0 (t1 ++ (t2 ++ (t3 ++ t4))) (c .before .before .before .put-name .ensures) (room)))
 
--- src/lib.rt:165:31
 slice-aggregate-put-words : tie.Need-slice-aggregate-put-words
 slice-aggregate-put-words c = search needs
 
--- src/lib.rt:165:9
 put-words-requires : tie.Need-put-words-requires
 unfolding valueLine namedIn
 put-words-requires c κs =
@@ -84,7 +78,6 @@ put-words-requires c κs =
     let t4 : List ℕ = lineEnd in
     room-first t2 (t3 ++ t4) (room-then t1 (t2 ++ (t3 ++ t4)) (c .before .before .before .before .put-subscripts .ensures) (room-then t0 (t1 ++ (t2 ++ (t3 ++ t4))) (c .before .before .before .before .before .before .before .before .put-name .ensures) (room)))
 
--- src/lib.rt:166:9
 put-signed-requires : tie.Need-put-signed-requires
 unfolding valueLine namedIn
 put-signed-requires c κs =
@@ -99,11 +92,9 @@ put-signed-requires c κs =
     let t4 : List ℕ = lineEnd in
     room-as (ap signed (sym (toZ-ofZ {w = w64} {z = c .before .before .before .before .before .before .before .before .before .before .before .before .before .before .value-at .result} (record { sfits = c .before .before .before .before .before .before .before .before .before .before .before .before .before .before .value-at .ok }) ∙ c .before .before .before .before .before .before .before .before .before .before .before .before .before .before .value-at .ensures))) (room-first t3 t4 (room-then t2 (t3 ++ t4) (c .before .before .before .put-words .ensures) (room-then t1 (t2 ++ (t3 ++ t4)) (c .before .before .before .before .before .before .before .before .put-subscripts .ensures) (room-then t0 (t1 ++ (t2 ++ (t3 ++ t4))) (c .before .before .before .before .before .before .before .before .before .before .before .before .put-name .ensures) (room)))))
 
--- src/lib.rt:167:23
 slice-aggregate-put-words-2 : tie.Need-slice-aggregate-put-words-2
 slice-aggregate-put-words-2 c = search needs
 
--- src/lib.rt:167:5
 put-words-requires-2 : tie.Need-put-words-requires-2
 unfolding valueLine namedIn
 put-words-requires-2 c κs =
@@ -118,11 +109,9 @@ put-words-requires-2 c κs =
     let t4 : List ℕ = lineEnd in
     room-then t3 t4 (puts-as (ap signed (toZ-ofZ {w = w64} {z = c .before .before .before .before .before .before .before .before .before .before .before .before .before .before .before .before .before .before .before .value-at .result} (record { sfits = c .before .before .before .before .before .before .before .before .before .before .before .before .before .before .before .before .before .before .before .value-at .ok }) ∙ c .before .before .before .before .before .before .before .before .before .before .before .before .before .before .before .before .before .before .before .value-at .ensures)) (c .before .before .before .before .put-signed .ensures)) (room-then t2 (t3 ++ t4) (c .before .before .before .before .before .before .before .before .put-words .ensures) (room-then t1 (t2 ++ (t3 ++ t4)) (c .before .before .before .before .before .before .before .before .before .before .before .before .before .put-subscripts .ensures) (room-then t0 (t1 ++ (t2 ++ (t3 ++ t4))) (c .before .before .before .before .before .before .before .before .before .before .before .before .before .before .before .before .before .put-name .ensures) (room))))
 
--- src/lib.rt:151:1
 same-length : tie.Need-same-length
 same-length c = search needs
 
--- src/lib.rt:151:1
 returns : tie.Need-returns
 unfolding valueLine namedIn
 returns c =

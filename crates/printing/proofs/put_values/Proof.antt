@@ -1,11 +1,6 @@
 -- `printing::put_values` meets its contract. Assumes nothing.
-use Prim.Native.Nat.{ℕ, _+_, _-_, _≤_, _<_}
-use mathlib.Core.Path.{_≡_, refl, sym, ap, _∙_}
-use mathlib.Core.List.{List, _++_}
+use Prim.Native.Nat.{_-_}
 use native.Mathlib.Omega.{arith}
-use Rattle.rules_object.specs.Check.{span}
-use Rattle.rules_program.specs.Text.{valueLine, valueLines}
-use Rattle.printing.specs.Entries.{namedIn}
 use Rattle.printing.proofs.Loops.{Valuing, values-start, values-room, values-on, values-end}
 use borrow.Author.Needs.{needs}
 use Rattle.printing.proofs.put_values.Statement.{statement}
@@ -21,13 +16,11 @@ Inv-loop out₀ at object e store count n₀ i₀ out n i = Valuing e object sto
 abbrev μ-loop : tie.MeasureT-loop
 μ-loop out₀ at object e store count n₀ i₀ out n i = count - i
 
--- src/lib.rt:182:9
 size-requires : tie.Need-size-requires Inv-loop μ-loop
 size-requires c κs =
     let is = c .before .before .pre .0 in
     omega (arith, is .cells, is .most)
 
--- src/lib.rt:185:5
 loop-holds : tie.Need-loop-holds Inv-loop μ-loop
 loop-holds c =
     let a = c .before .before .before .args in
@@ -40,7 +33,6 @@ loop-holds c =
     let k = c .size .ensures in
     values-start e s so m k at o
 
--- src/lib.rt:186:9
 put-value-requires : tie.Need-put-value-requires Inv-loop μ-loop
 put-value-requires c κs =
     let a = c .before .before .before .before .before .before .args in
@@ -57,7 +49,6 @@ put-value-requires c κs =
     let h = c .before .loop-test .taken in
     values-room e s so m k at o (lp .out) (lp .n) (lp .i) (lp .inv) is r h
 
--- src/lib.rt:187:9
 add-i : tie.Need-add-i Inv-loop μ-loop
 add-i c =
     let is = c .before .before .before .before .before .before .before .before .before .pre .0 in
@@ -65,11 +56,9 @@ add-i c =
     let h = c .before .before .before .before .loop-test .taken in
     omega (arith, h, k, is .cells, is .most)
 
--- src/lib.rt:185:5
 loop-less : tie.Need-loop-less Inv-loop μ-loop
 loop-less c = search needs
 
--- src/lib.rt:185:5
 loop-again : tie.Need-loop-again Inv-loop μ-loop
 loop-again c =
     let a = c .before .before .before .before .before .before .before .before .before .args in
@@ -84,13 +73,11 @@ loop-again c =
     let h = c .before .before .before .before .loop-test .taken in
     values-on e s so m k at o (lp .out) (lp .n) (lp .i) (lp .inv) h (c .before .before .put-value .ensures)
 
--- src/lib.rt:178:1
 same-length : tie.Need-same-length Inv-loop μ-loop
 same-length c =
     let lp = c .before .loop in
     lp .inv .going .long
 
--- src/lib.rt:178:1
 returns : tie.Need-returns Inv-loop μ-loop
 returns c =
     let a = c .before .before .before .before .before .args in

@@ -15,7 +15,6 @@ Inv-loop out₀ at words i₀ out i = Copying words at out₀ out i
 abbrev μ-loop : tie.MeasureT-loop
 μ-loop out₀ at words i₀ out i = length words - i
 
--- src/lib.rt:16:5
 loop-holds : tie.Need-loop-holds Inv-loop μ-loop
 loop-holds c =
     let w = c .args .words .now in
@@ -23,11 +22,9 @@ loop-holds c =
     let o = c .args .out .now in
     copying-start w at o
 
--- src/lib.rt:17:23
 shared-slice-read-out : tie.Need-shared-slice-read-out Inv-loop μ-loop
 shared-slice-read-out c = search needs
 
--- src/lib.rt:17:13
 add-out : tie.Need-add-out Inv-loop μ-loop
 add-out c =
     let w = c .before .before .before .args .words .now in
@@ -37,7 +34,6 @@ add-out c =
     let h = copying-room w at o (lp .out) (lp .i) (lp .inv) (c .before .before .before .pre) (c .before .loop-test .taken) in
     omega (arith, h)
 
--- src/lib.rt:17:9
 slice-write-out : tie.Need-slice-write-out Inv-loop μ-loop
 slice-write-out c =
     let w = c .before .before .before .args .words .now in
@@ -46,15 +42,12 @@ slice-write-out c =
     let lp = c .before .before .loop in
     copying-room w at o (lp .out) (lp .i) (lp .inv) (c .before .before .before .pre) (c .before .loop-test .taken)
 
--- src/lib.rt:18:9
 add-i : tie.Need-add-i Inv-loop μ-loop
 add-i c = search needs
 
--- src/lib.rt:16:5
 loop-less : tie.Need-loop-less Inv-loop μ-loop
 loop-less c = search needs
 
--- src/lib.rt:16:5
 loop-again : tie.Need-loop-again Inv-loop μ-loop
 loop-again c =
     let w = c .before .before .before .args .words .now in
@@ -63,19 +56,16 @@ loop-again c =
     let lp = c .before .before .loop in
     copying-more w at o (lp .out) (lp .i) (lp .inv) (c .before .loop-test .taken)
 
--- src/lib.rt:20:5
 add-result : tie.Need-add-result Inv-loop μ-loop
 add-result c =
     let lp = c .before .loop in
     omega (arith, lp .inv .most, c .before .before .pre .fits)
 
--- src/lib.rt:11:1
 same-length : tie.Need-same-length Inv-loop μ-loop
 same-length c =
     let lp = c .before .loop in
     lp .inv .long
 
--- src/lib.rt:11:1
 returns : tie.Need-returns Inv-loop μ-loop
 returns c =
     let w = c .before .before .args .words .now in

@@ -8,22 +8,18 @@ use Rattle.printing.proofs.size.Tie as tie
 use Rattle.printing.proofs.size.Reads as reads
 use Rattle.printing.proofs.size.Lts as lts
 
--- src/lib.rt:173:9
 returns : tie.Need-returns
 returns c = search needs
 
--- src/lib.rt:175:37
 mul-result : tie.Need-mul-result
 mul-result c =
     let e = span-two (c .before .before .args .rows) (c .before .before .args .columns) (c .before .if1 .left) (c .if2 .left) in
     omega (arith, e, c .before .before .pre)
 
--- src/lib.rt:168:1
 returns-2 : tie.Need-returns-2
 returns-2 c =
     sym (span-one (c .before .before .args .rows) (c .before .before .args .columns) (c .before .if1 .left) (c .if2 .taken))
 
--- src/lib.rt:168:1
 returns-3 : tie.Need-returns-3
 returns-3 c =
     sym (span-two (c .before .before .args .rows) (c .before .before .args .columns) (c .before .if1 .left) (c .if2 .left))

@@ -1,3 +1,4 @@
+-- `reader::is_form` meets its contract. Assumes nothing.
 use mathlib.Core.Path.{sym, ap}
 use Rattle.reader.specs.Which.{isForm}
 use borrow.Author.Needs.{needs}

@@ -1,3 +1,4 @@
+-- `reader::read` meets its contract. Assumes nothing.
 use mathlib.Core.Path.{sym, _∙_}
 use Rattle.reader.proofs.Which.{settled, not-this, reads-as, with-words, go-to-words, do-words, word-words, is-assignment, is-go-to, is-computed, is-if, is-do, is-word, is-last}
 use borrow.Author.Needs.{needs}

@@ -1,4 +1,4 @@
-use native.Mathlib.Omega.{arith}
+-- `statements::enter_do` meets its contract. Assumes nothing.
 use Rattle.statements.proofs.Dos.{counted-other, counted-full, counted-one, enters-other, enters-full, enters-one}
 use borrow.Author.Needs.{needs}
 use Rattle.statements.proofs.enter_do.Statement.{statement}

@@ -1,3 +1,4 @@
+-- `statements::fill` meets its contract. Assumes nothing.
 use Rattle.statements.proofs.Filling.{onward-full, cells-within, emitting, cells-full, cells-then, fit-as, onward-as, plan-as}
 use borrow.Author.Needs.{needs}
 use Rattle.statements.proofs.fill.Statement.{statement}

@@ -1,3 +1,4 @@
+-- `statements::mark` meets its contract. Assumes nothing.
 use Rattle.statements.proofs.Marking.{marking}
 use borrow.Author.Needs.{needs}
 use Rattle.statements.proofs.mark.Statement.{statement}

@@ -1,3 +1,4 @@
+-- `statements::take` meets its contract. Assumes nothing.
 use mathlib.Core.Path.{sym, _∙_}
 use native.Mathlib.Omega.{arith}
 use Rattle.statements.proofs.Reading.{exits-in, first-room, comes-low, comes-planned, planning}

@@ -1,4 +1,5 @@
-use mathlib.Core.Path.{refl, sym, _∙_}
+-- `statements::take_planned` meets its contract. Assumes nothing.
+use mathlib.Core.Path.{refl, _∙_}
 use native.Mathlib.Omega.{arith}
 use borrow.Author.Tests.{not-true, not-false}
 use Rattle.statements.proofs.Outcomes.{given-of, filled-of, entering, code-grows, jumping, statements-same, refused-15, refused-16, no-room, too-many}

@@ -1,6 +1,6 @@
 -- `subscripts::element_place` meets its contract. Assumes nothing.
 use mathlib.Core.Path.{sym, ap₂, _∙_, subst}
-use Prim.Native.Nat.{_+_, _-_, _*_, _≤_}
+use Prim.Native.Nat.{_+_, _*_, _≤_}
 use mir.Syntax.{w64}
 use mir.Val.{toZ, ofZ}
 use Rattle.rules_object.specs.Choose.{place}

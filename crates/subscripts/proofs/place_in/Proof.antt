@@ -1,6 +1,5 @@
 -- `subscripts::place_in` meets its contract. Assumes nothing.
 use mathlib.Core.Path.{sym, ap, _∙_}
-use Prim.Native.Nat.{_-_}
 use native.Mathlib.Omega.{arith}
 use mir.Facts.{toZ-ofZ}
 use Rattle.rules_object.specs.Choose.{right}

@@ -1,3 +1,4 @@
+-- `tokens::is_digit` meets its contract. Assumes nothing.
 use mathlib.Core.Path.{sym}
 use Rattle.tokens.proofs.Runs.{digit-low, digit-high}
 use Rattle.tokens.proofs.is_digit.Statement.{statement}

@@ -1,3 +1,4 @@
+-- `tokens::is_letter` meets its contract. Assumes nothing.
 use mathlib.Core.Path.{sym}
 use Rattle.tokens.proofs.Runs.{letter-low, letter-high}
 use Rattle.tokens.proofs.is_letter.Statement.{statement}

@@ -1,3 +1,4 @@
+-- `tokens::is_letter_or_digit` meets its contract. Assumes nothing.
 use mathlib.Core.Path.{sym, _∙_}
 use Rattle.tokens.proofs.Runs.{either-letter, either-other}
 use borrow.Author.Needs.{needs}

@@ -1,3 +1,4 @@
+-- `tokens::none` meets its contract. Assumes nothing.
 use mathlib.Core.Path.{refl}
 use Rattle.tokens.specs.Sizes.{sizesOf, largest}
 use Rattle.tokens.proofs.none.Statement.{statement}

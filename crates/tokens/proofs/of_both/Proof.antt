@@ -1,3 +1,4 @@
+-- `tokens::of_both` meets its contract. Assumes nothing.
 use Rattle.tokens.specs.Sizes.{both}
 use Rattle.tokens.proofs.Measured.{same-sizes}
 use borrow.Author.Needs.{needs}

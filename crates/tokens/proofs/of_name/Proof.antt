@@ -1,3 +1,4 @@
+-- `tokens::of_name` meets its contract. Assumes nothing.
 use mathlib.Core.Path.{refl}
 use Rattle.tokens.proofs.Measured.{same-sizes}
 use borrow.Author.Needs.{needs}

@@ -1,3 +1,4 @@
+-- `tokens::other_letter` meets its contract. Assumes nothing.
 use borrow.Author.Tests.{le-leb, lt-leb}
 use Rattle.tokens.proofs.other_letter.Statement.{statement}
 use Rattle.tokens.proofs.other_letter.Tie as tie

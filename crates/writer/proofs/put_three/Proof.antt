@@ -1,5 +1,4 @@
 -- `writer::put_three` meets its contract: three parts fill what was lent. Assumes nothing.
-use mathlib.Core.Path.{_∙_}
 use Prim.Native.Nat.{_+_, _*_}
 use native.Mathlib.Omega.{arith}
 use lib.ListN.{take}

@@ -1,9 +1,8 @@
 -- `writer::write` meets its contract: the contents and the bodies are the object, and the answer is the book's. Assumes nothing.
-use mathlib.Core.Path.{_≡_}
 use mathlib.Core.List.{[], _∷_}
-use Prim.Native.Nat.{_+_, _*_, _<_, _≤_}
+use Prim.Native.Nat.{_+_, _*_}
 use native.Mathlib.Omega.{arith}
-use lib.ListN.{length, take}
+use lib.ListN.{take}
 use lib.Seq.{length-take-le}
 use Rattle.rules_object.specs.Bytes.{bytesOf}
 use Rattle.writer.specs.Bodies.{wordsOfBodies}

@@ -3,7 +3,7 @@
 use mathlib.Core.Path.{_≡_, refl, sym, ap, _∙_}
 use Prim.Native.Nat.{ℕ, zero, suc, _+_, _*_, _≤_, _<_}
 use native.Mathlib.Omega.{arith}
-use mathlib.Core.Bool.{Bool, true, false, false≢true}
+use mathlib.Core.Bool.{Bool, true, false}
 use mathlib.Core.List.{List, [], _∷_, _++_}
 use lib.Dec.{eqb}
 use lib.ListN.{length, take, replicate}
@@ -12,11 +12,12 @@ use Rattle.rules_deck.specs.Trees.{Name}
 use Rattle.rules_deck.specs.Deck.{sameName}
 use Rattle.rules_deck.specs.Translation.{filled}
 use Rattle.rules_deck.proofs.Readers.{All, all-none, all-more, all-append}
-use Rattle.rules_deck.proofs.TestLaws.{same-name, name-same}
+use Rattle.rules_deck.proofs.TestLaws.{same-name}
+use Rattle.rules_deck.proofs.Names.{other-name}
 use Rattle.rules_deck.proofs.MapNames.{filled-inj}
 use Rattle.tokens.specs.Words.{bytesFrom, nameWord}
 use Rattle.tokens.proofs.Values.{filled-length}
 use Rattle.draft.specs.Names.{Told}
 
 abbrev pub Byte : ℕ → Type 0
 Byte c = c < 256
@@ -56,7 +57,7 @@ word-test v w g h = go (sameName v w) refl
   where
     go : (b : Bool) → sameName v w ≡ b → eqb (nameWord v) (nameWord w) ≡ b
     go true e = eq-eqb (nameWord v) (nameWord w) (ap nameWord (same-name v w e))
-    go false e = ne-eqb (nameWord v) (nameWord w) (λ p. false≢true (sym e ∙ ap (sameName v) (sym (word-inj v w g h p)) ∙ name-same v))
+    go false e = ne-eqb (nameWord v) (nameWord w) (λ p. other-name v w e (word-inj v w g h p))
 
 -- ---- no name's word is 0
 
