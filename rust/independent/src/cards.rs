@@ -25,7 +25,7 @@ pub fn read_cards(k: u32, deck: &[u8]) -> Result<Vec<Punched>, Refusal> {
     if !digits_right(k) {
         return Err(Refusal::whole(1));
     }
-    if deck.is_empty() || !deck.len().is_multiple_of(CARD_BYTES) || deck.len() > CARDS * CARD_BYTES {
+    if deck.is_empty() || deck.len() % CARD_BYTES != 0 || deck.len() > CARDS * CARD_BYTES {
         return Err(Refusal::whole(2));
     }
     let statements = collect(deck)?;

@@ -29,6 +29,11 @@ impl Deck {
     pub fn statements(&self) -> &[Statement] {
         &self.statements
     }
+
+    /// "a compiled deck with p levels of parentheses"
+    pub fn levels(&self) -> usize {
+        self.statements.iter().map(|s| s.form.levels()).max().unwrap_or(0)
+    }
 }
 
 /// Writes the deck's object to the front of `out` and returns its length. "Output bytes past a

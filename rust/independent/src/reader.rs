@@ -109,6 +109,26 @@ pub enum Factor {
     Parenthesis(Box<Expression>),
 }
 
+impl Form {
+    /// How deep its parentheses go: "an IF's and an element's not counted".
+    pub fn levels(&self) -> usize {
+        match self {
+            Form::Assign { value, .. } | Form::If { value, .. } => levels(value),
+            _ => 0,
+        }
+    }
+}
+
+fn levels(expression: &Expression) -> usize {
+    let terms = expression.rest.iter().map(|(_, term)| term).chain([&expression.first]);
+    let factors = terms.flat_map(|term| term.rest.iter().map(|(_, factor)| factor).chain([&term.first]));
+    let level = |factor: &Factor| match factor {
+        Factor::Parenthesis(inner) => levels(inner) + 1,
+        _ => 0,
+    };
+    factors.map(level).max().unwrap_or(0)
+}
+
 /// A tree, and the lowest of 11-14 that its text breaks.
 #[derive(Clone, Debug, PartialEq, Eq)]
 pub struct Reading {

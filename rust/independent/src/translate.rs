@@ -144,7 +144,10 @@ impl Translator {
     }
 
     fn known(&self, name: &str) -> Option<&NameEntry> {
-        self.tables.names.iter().find(|entry| entry.name.trim_ascii_end() == name.as_bytes())
+        self.tables
+            .names
+            .iter()
+            .find(|entry| entry.name.trim_ascii_end() == name.as_bytes())
     }
 
     fn cell(&self, name: &str) -> u32 {

@@ -7,7 +7,7 @@ use independent::compile::{accept, Deck};
 use independent::generate::{self, Made, Rng};
 use independent::interpret::{interpret, Values};
 use independent::object::Tables;
-use independent::reader::{readings, Expression, Factor, Form};
+use independent::reader::readings;
 use independent::{bench, check, compile, run, Ran, State};
 
 const DECKS: u64 = 5_000;
@@ -180,30 +180,13 @@ fn limits_are_where_they_are() {
 fn heights_stay_below_the_bound() {
     let mut deep = 0;
     for (seed, _, deck, tables) in accepted() {
-        let levels = deck.statements().iter().map(|s| levels_in(&s.form)).max().unwrap_or(0);
+        let levels = deck.levels();
         let table = heights(&tables).unwrap();
         let highest = table.into_iter().flatten().max().unwrap_or(0);
         assert!(usize::from(highest) <= 2 * levels + 3, "seed {seed}");
         deep += u32::from(levels > 2);
     }
     assert!(deep > 20, "{deep}");
-}
-
-fn levels_in(form: &Form) -> usize {
-    match form {
-        Form::Assign { value, .. } | Form::If { value, .. } => levels(value),
-        _ => 0,
-    }
-}
-
-fn levels(expression: &Expression) -> usize {
-    let terms = expression.rest.iter().map(|(_, term)| term).chain([&expression.first]);
-    let factors = terms.flat_map(|term| term.rest.iter().map(|(_, factor)| factor).chain([&term.first]));
-    let level = |factor: &Factor| match factor {
-        Factor::Parenthesis(inner) => levels(inner) + 1,
-        _ => 0,
-    };
-    factors.map(level).max().unwrap_or(0)
 }
 
 /// A text is of one form at most, so there is no order of trying.
@@ -264,7 +247,7 @@ fn any_bytes_are_a_deck() {
             .collect();
         let mut out = [FILL; 400];
         let refusal = compile(5, &deck, &mut out).unwrap_err();
-        assert_eq!(refusal.number == 2, deck.is_empty() || !deck.len().is_multiple_of(80));
+        assert_eq!(refusal.number == 2, deck.is_empty() || deck.len() % 80 != 0);
         assert!(out.iter().all(|byte| *byte == FILL));
         cards += u32::from(refusal.number > 2);
     }

@@ -42,7 +42,10 @@ fn enough(which: &str, stack: usize) -> bool {
         }
         Err(_) => Command::new(program),
     };
-    let status = command.args(["--stack", which, &stack.to_string()]).stderr(Stdio::null()).status();
+    let status = command
+        .args(["--stack", which, &stack.to_string()])
+        .stderr(Stdio::null())
+        .status();
     status.expect("a try").success()
 }
 
@@ -62,6 +65,6 @@ fn main() {
                 least = middle;
             }
         }
-        println!("{words:<26}{:>14} KiB", most * STEP >> 10);
+        println!("{words:<26}{:>14} KiB", (most * STEP) >> 10);
     }
 }

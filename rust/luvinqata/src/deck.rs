@@ -23,16 +23,18 @@ impl fmt::Display for LongLine {
 impl std::error::Error for LongLine {}
 
 /// The deck of a plain text: a card for each line, shorter lines filled with blanks. Line ends may be of either sort, and
-/// the last line may have none.
+/// the last line may have none. A byte order mark, which some editors put first, is left out.
 ///
 /// ```
 /// let deck = luvinqata::punch(b"      I=47\n      END\n").unwrap();
 /// assert_eq!(deck.len(), 160);
 /// assert_eq!(&deck[80..91], b"      END  ");
+/// assert_eq!(luvinqata::punch("\u{feff}      I=47\r\n      END".as_bytes()).unwrap(), deck);
 /// assert_eq!(luvinqata::punch(&[b' '; 81]).unwrap_err().line, 1);
 /// ```
 pub fn punch(text: &[u8]) -> Result<Vec<u8>, LongLine> {
     let mut deck = Vec::new();
+    let text = text.strip_prefix(b"\xEF\xBB\xBF").unwrap_or(text);
     if text.is_empty() {
         return Ok(deck);
     }

@@ -58,8 +58,8 @@ impl Refusal {
             25 => "a DO's variable set, or taken by another DO, in its range",
             30 => "the output is too short",
             40 => "the object's or a body's length, the contents or the edition are wrong, or there is no code",
-            41 => "the digits are not 1 to 9, or the cells or a table are over their limit",
-            42 => "an entry out of range",
+            41 => "the object's digits are not 1 to 9, or its cells or a table are over their limit",
+            42 => self.entry_words(),
             43 => "an unknown operation, or an operand or an exit out of range",
             44 => {
                 "no table of heights: the stack runs empty, goes over 40 or differs between paths, or the code runs out"
@@ -68,6 +68,17 @@ impl Refusal {
             51 => "a cell of the store over k digits",
             52 => "the state's index, height, stack numbers or drop mark do not fit the code",
             _ => "an unknown number",
+        }
+    }
+
+    /// What is wrong in an entry of the body that 42 tells.
+    fn entry_words(&self) -> &'static str {
+        match self.kind {
+            1 => "a pooled constant over k digits",
+            2 => "an element's multiplier or addend over k digits, rows or columns 0, or a span or cell outside the cells",
+            4 => "a DO's cell outside the cells, or its address outside the code",
+            6 => "a statement's address outside the code",
+            _ => "a name not of I to N and up to five letters or digits, with columns and no rows, or outside the cells",
         }
     }
 }

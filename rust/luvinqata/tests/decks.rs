@@ -16,7 +16,7 @@ use luvinqata::{Store, LONGEST_OBJECT};
 use seen::FEATURES;
 
 const CASES: u64 = 40_000;
-/// At least so many of each reason, halt and feature.
+/// At least so many of each reason, halt and feature, if there are so many cases; of fewer, chance may leave some out.
 const LEAST: u32 = 50;
 /// A run that has not halted by then is taken not to halt.
 const STEPS: u32 = 20_000;
@@ -63,7 +63,6 @@ fn case(seed: u64, rng: &mut Rng) -> (Made, Option<Faulty>) {
             return (faulty.made.clone(), Some(faulty));
         }
         9..=12 => generate::ordinary_deck(rng),
-        13 => generate::crowded_deck(rng),
         14..=15 => generate::limit_deck(rng),
         16 => generate::slipping_deck(rng),
         17 => generate::misspelt_deck(rng),
@@ -231,6 +230,10 @@ fn decks_answer_as_the_independent_implementation_and_as_they_mean() {
     });
     show(&counts);
 
+    assert_eq!(u64::from(counts.cases), cases);
+    if cases < CASES {
+        return;
+    }
     let enough = |count: Option<&u32>| count.is_some_and(|count| *count >= LEAST);
     assert_eq!(counts.reasons.len(), generate::deck_reasons() + 3);
     if let Some((reason, _)) = counts.reasons.iter().find(|(_, count)| !enough(Some(count))) {

@@ -173,29 +173,62 @@ fn every_refusal() {
     }
 }
 
+/// Each number and kind, with words that only it has.
+const WORDS: [(u32, u32, &str); 37] = [
+    (1, 0, "the digits are not 1 to 9"),
+    (2, 0, "512 cards of 80 bytes"),
+    (3, 0, "a character that a card may not hold"),
+    (4, 0, "columns 1 to 5"),
+    (5, 0, "a tenth continuation"),
+    (6, 0, "an empty statement"),
+    (7, 0, "over 400 statements"),
+    (10, 0, "no known form"),
+    (11, 0, "a name over six characters"),
+    (12, 0, "over k digits as written"),
+    (13, 0, "not 1 to 99999"),
+    (14, 0, "parentheses over sixteen deep"),
+    (15, 0, "a dimension 0"),
+    (16, 0, "an undeclared array"),
+    (18, 0, "takes a table over its limit"),
+    (20, 0, "END is missing"),
+    (21, 0, "defined twice"),
+    (22, 0, "used and never defined"),
+    (23, 0, "a DO's last statement"),
+    (24, 0, "a jump into a DO's range"),
+    (25, 0, "a DO's variable set"),
+    (30, 0, "the output is too short"),
+    (40, 0, "the edition"),
+    (41, 0, "cells or a table are over their limit"),
+    (42, 1, "a pooled constant"),
+    (42, 2, "an element's multiplier"),
+    (42, 4, "a DO's cell"),
+    (42, 6, "a statement's address"),
+    (42, 7, "up to five letters or digits"),
+    (43, 0, "an unknown operation"),
+    (44, 0, "no table of heights"),
+    (50, 0, "the store is shorter"),
+    (51, 0, "a cell of the store over k digits"),
+    (52, 0, "the state's index"),
+    (8, 0, "an unknown number"),
+    (17, 0, "an unknown number"),
+    (53, 0, "an unknown number"),
+];
+
 #[test]
 fn a_refusal_tells_itself_in_words() {
-    let refusal = luvinqata::Refusal {
-        number: 42,
-        place: 3,
-        kind: 2,
-    };
+    let refusal = |number, kind| luvinqata::Refusal { number, place: 3, kind };
     assert_eq!(
-        refusal.to_string(),
-        "refused 42 at entry 3 of body 2: an entry out of range"
+        refusal(42, 6).to_string(),
+        "refused 42 at entry 3 of body 6: a statement's address outside the code"
     );
-    let numbers = (1..=7)
-        .chain(10..=16)
-        .chain([18])
-        .chain(20..=25)
-        .chain([30])
-        .chain(40..=44)
-        .chain(50..=52);
-    for number in numbers {
-        assert_ne!(
-            luvinqata::Refusal { number, ..refusal }.words(),
-            "an unknown number",
-            "{number}"
-        );
+    for (number, kind, phrase) in WORDS {
+        for (other, other_kind, other_phrase) in WORDS {
+            let has = refusal(other, other_kind).words().contains(phrase);
+            assert_eq!(
+                has,
+                phrase == other_phrase,
+                "{number} {kind} and {other} {other_kind}: {phrase}"
+            );
+        }
     }
 }

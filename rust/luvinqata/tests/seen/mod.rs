@@ -4,7 +4,7 @@ use independent::cards::{Sequence, StatementNumber};
 use independent::compile::{Deck, Statement};
 use independent::limits::*;
 use independent::object::Tables;
-use independent::reader::{Expression, Factor, Form};
+use independent::reader::Form;
 
 pub const SHORT_MAP: &str = "the map's 30";
 
@@ -37,7 +37,7 @@ pub fn features(bytes: &[u8], deck: &Deck, tables: &Tables) -> Vec<&'static str>
     let to_do = |from: &Sequence, to: &Sequence| ranges.iter().find(|(first, _)| first == to).map(|r| holds(r, from));
     let shared = |index: usize| ranges[..index].iter().any(|(_, last)| *last == ranges[index].1);
     let deepest = |n: &Sequence| ranges.iter().filter(|range| holds(range, n)).count();
-    let levels = deck.statements().iter().map(|s| levels_in(&s.form)).max().unwrap_or(0);
+    let levels = deck.levels();
     let has = [
         jumps.iter().any(|(from, to)| to_do(from, to) == Some(false)),
         jumps.iter().any(|(from, to)| to_do(from, to) == Some(true)),
@@ -115,21 +115,4 @@ fn comment_inside(bytes: &[u8]) -> bool {
     let cards: Vec<&[u8]> = bytes.chunks(CARD_BYTES).collect();
     let continues = |card: &[u8]| card[0] != b'C' && !matches!(card[5], b' ' | b'0');
     cards.windows(2).any(|pair| pair[0][0] == b'C' && continues(pair[1]))
-}
-
-fn levels_in(form: &Form) -> usize {
-    match form {
-        Form::Assign { value, .. } | Form::If { value, .. } => levels(value),
-        _ => 0,
-    }
-}
-
-fn levels(expression: &Expression) -> usize {
-    let terms = expression.rest.iter().map(|(_, term)| term).chain([&expression.first]);
-    let factors = terms.flat_map(|term| term.rest.iter().map(|(_, factor)| factor).chain([&term.first]));
-    let level = |factor: &Factor| match factor {
-        Factor::Parenthesis(inner) => levels(inner) + 1,
-        _ => 0,
-    };
-    factors.map(level).max().unwrap_or(0)
 }
