@@ -1,22 +1,25 @@
 //! `batch`: a request a line on standard input, its answer on the same line of standard output.
 
-use std::io::{stdin, BufRead, Write};
+use std::io::{stdin, BufRead};
 
 use luvinqata::{bench, check, compile, run, Ran, Refusal, State, Store, LONGEST_OBJECT, STACK};
 
 use crate::input::Options;
 use crate::objects::{mapped, refused};
-use crate::program;
-use crate::{Failure, Status};
+use crate::output::Output;
+use crate::{program, Outcome, Status};
 
-pub fn batch(_: &Options, out: &mut dyn Write) -> Result<Status, Failure> {
+pub fn batch(_: &Options, out: &mut Output) -> Outcome {
     for line in stdin().lock().split(b'\n') {
-        let line = line?;
+        let line = line.map_err(|error| format!("standard input: {error}"))?;
         let request = line.strip_suffix(b"\r").unwrap_or(&line);
         let answer = std::str::from_utf8(request).ok().and_then(answer);
-        writeln!(out, "{}", answer.as_deref().unwrap_or("BAD REQUEST"))?;
+        out.line(answer.as_deref().unwrap_or("BAD REQUEST"));
         // Whoever drives this through a pipe waits for the answer.
-        out.flush()?;
+        out.flush();
+        if out.failed {
+            break;
+        }
     }
     Ok(Status::default())
 }
@@ -59,7 +62,7 @@ fn shown(ran: Result<Ran, Refusal>, state: &State, store: &[i64]) -> String {
         Err(refusal) => return refused(&refusal),
     };
     let mut lines = vec![
-        format!("HALT {} STEPS {} DROP {}", ran.halt, ran.steps, ran.sequence),
+        program::ended(&ran),
         format!("{} {} {}", state.index, state.height, state.mark),
         state.places.map(|number| number.to_string()).join(" "),
     ];
@@ -117,10 +120,13 @@ fn unsigned(field: &str) -> Option<u32> {
     digits(field).then(|| field.parse().ok()).flatten()
 }
 
-/// A decimal with or without a minus sign.
 pub fn signed(field: &str) -> Option<i64> {
-    let magnitude = field.strip_prefix('-').unwrap_or(field);
-    digits(magnitude).then(|| field.parse().ok()).flatten()
+    decimal(field).then(|| field.parse().ok()).flatten()
+}
+
+/// Digits with or without a minus sign.
+pub fn decimal(field: &str) -> bool {
+    digits(field.strip_prefix('-').unwrap_or(field))
 }
 
 fn digits(field: &str) -> bool {

@@ -1,30 +1,28 @@
 //! `hours`: a deck run once for each row of a table.
 
-use std::io::{stderr, IsTerminal, Write};
+use std::iter::once;
 
-use luvinqata::{compile_to_vec, run, Ran, State, Store};
+use luvinqata::{compile_to_vec, run, Name, Ran, Refusal, State, Store};
 
-use crate::batch::signed;
+use crate::batch::{decimal, signed};
+use crate::csv;
 use crate::input::Options;
+use crate::output::Output;
 use crate::run::tell_refusal;
-use crate::{csv, told, Failure, Status};
+use crate::{Outcome, Status};
 
-/// How often progress is told.
+/// The columns that are written besides values and copies.
+const OWN: [&str; 3] = ["line", "halt", "loss"];
+/// How often progress is shown, in lines.
 const PROGRESS: usize = 500;
-
-/// What a column of the table is for.
-enum Column {
-    /// A starting value for a cell.
-    Value(usize),
-    /// No name of the deck: copied as it is.
-    Copied,
-}
 
 struct Hours<'o> {
     object: &'o [u8],
     /// Names, and the cells of a run.
     store: Store,
-    columns: Vec<Column>,
+    /// The cell that each column gives a value; None: the column is copied.
+    columns: Vec<Option<usize>>,
+    digits: u32,
     steps: u32,
 }
 
@@ -33,148 +31,159 @@ struct Counts {
     done: usize,
     lost: usize,
     unread: usize,
+    /// Neither STOP nor END.
+    stuck: usize,
 }
 
-pub fn hours(options: &Options, out: &mut dyn Write) -> Result<Status, Failure> {
+pub fn hours(options: &Options, out: &mut Output) -> Outcome {
     let (deck, table) = (options.deck()?, options.file(1)?);
     let object = match compile_to_vec(options.digits, &deck) {
         Ok(object) => object,
-        Err(refusal) => return tell_refusal(&refusal, &deck),
+        Err(refusal) => return Ok(tell_refusal(&refusal, &deck, out)),
     };
-    let lines: Vec<&[u8]> = table.split(|byte| *byte == b'\n').collect();
-    let header = text(lines[0].strip_prefix(b"\xEF\xBB\xBF").unwrap_or(lines[0]));
-    let Some(header) = header.filter(|line| !line.trim().is_empty()).and_then(csv::fields) else {
-        return told(format!(
-            "{}: line 1, which names the columns, cannot be read",
-            options.name(1)
-        ));
-    };
+    let table = table.strip_prefix(b"\xEF\xBB\xBF").unwrap_or(&table);
+    let mut rows = csv::rows(table);
+    let header = rows.next().map_or(Ok(Vec::new()), |(_, row)| csv::fields(row));
+    let header = header.map_err(|words| format!("{}: line 1: {words}", options.name(1)))?;
     let store = Store::new(&object).expect("a compiled object passes the check");
     let mut hours = Hours {
-        columns: columns(&header, &store)?,
+        columns: columns(&header, &store, out)?,
         object: &object,
         store,
+        digits: options.digits,
         steps: options.steps,
     };
-    hours.write_header(&header, out)?;
-    let mut counts = Counts::default();
-    let shown = stderr().is_terminal();
-    for (index, line) in lines.iter().enumerate().skip(1) {
-        if shown && index % PROGRESS == 0 {
-            write!(stderr(), "\r{index} of {} lines", lines.len())?;
-        }
-        if line.is_empty() || *line == b"\r" {
-            continue;
-        }
-        match hours.hour(index + 1, line, out)? {
-            Ok(ran) => {
-                counts.done += 1;
-                counts.lost += usize::from(ran.sequence > 0);
-            }
-            Err(message) => {
-                counts.unread += 1;
-                out.flush()?;
-                writeln!(
-                    stderr(),
-                    "{}line {}: {message}",
-                    if shown { "\r" } else { "" },
-                    index + 1
-                )?;
-            }
-        }
-    }
-    out.flush()?;
-    let clear = if shown { "\r" } else { "" };
-    let Counts { done, lost, unread } = counts;
-    writeln!(
-        stderr(),
-        "{clear}{done} hours done, {lost} lost digits, {unread} could not be read"
-    )?;
+    let names = hours.store.iter().map(|(name, _)| name).collect();
+    out.line(hours.row(header, names, OWN.map(str::to_string)));
+    let counts = hours.run_all(rows, table, out);
     Ok(Status {
-        lost: lost > 0,
-        failed: unread > 0,
+        lost: counts.lost > 0,
+        failed: counts.unread > 0,
     })
 }
 
-/// A line as text, without a carriage return at its end.
-fn text(line: &[u8]) -> Option<&str> {
-    std::str::from_utf8(line.strip_suffix(b"\r").unwrap_or(line)).ok()
+/// The cell that each column gives a value. A column that gives none is told.
+fn columns(header: &[String], store: &Store, out: &mut Output) -> Result<Vec<Option<usize>>, String> {
+    let cells: Vec<Option<usize>> = header.iter().map(|name| store.cell(name)).collect();
+    for (index, (name, cell)) in header.iter().zip(&cells).enumerate() {
+        if cell.is_some() && cells[..index].contains(cell) {
+            return Err(format!("two columns are named '{name}'"));
+        }
+        if OWN.contains(&&name[..]) {
+            return Err(format!(
+                "a column is named '{name}', as one that is written: give it another name"
+            ));
+        }
+        if cell.is_none() {
+            out.say(format_args!(
+                "column '{name}' is no value of the deck: it is copied as it is"
+            ));
+        }
+    }
+    if cells.iter().all(Option::is_none) {
+        let values: Vec<String> = store.names().iter().map(last_value).collect();
+        return Err(format!(
+            "line 1 names no value of the deck, which has {}",
+            values.join(", ")
+        ));
+    }
+    Ok(cells)
 }
 
-/// What each column is for; those that the deck has no name for are told.
-fn columns(header: &[String], store: &Store) -> Result<Vec<Column>, Failure> {
-    let mut columns = Vec::new();
-    for (index, name) in header.iter().enumerate() {
-        if header[..index].contains(name) {
-            return told(format!("two columns are named '{name}'"));
-        }
-        columns.push(match store.cell(name) {
-            Some(cell) => Column::Value(cell),
-            None => {
-                writeln!(
-                    stderr(),
-                    "column '{name}' is no value of the deck: it is copied as it is"
-                )?;
-                Column::Copied
-            }
-        });
+/// A name, or its last element.
+fn last_value(name: &Name) -> String {
+    match (name.rows, name.columns) {
+        (0, _) => name.text.clone(),
+        (rows, 0) => format!("{}({rows})", name.text),
+        (rows, columns) => format!("{}({rows},{columns})", name.text),
     }
-    Ok(columns)
 }
 
 impl Hours<'_> {
-    /// The line in the table, the copied columns, every named value, the halt and the first loss.
-    fn write_header(&self, header: &[String], out: &mut dyn Write) -> Result<(), Failure> {
-        let copied = self.copied(header).cloned();
-        let values = self.store.iter().map(|(name, _)| name);
-        let ends = ["halt", "loss"].map(str::to_string);
-        let names = std::iter::once("line".to_string())
-            .chain(copied)
-            .chain(values)
-            .chain(ends);
-        writeln!(out, "{}", csv::line(names))?;
-        Ok(())
+    fn run_all<'t>(&mut self, rows: impl Iterator<Item = (usize, &'t [u8])>, table: &[u8], out: &mut Output) -> Counts {
+        let lines = table.iter().filter(|byte| **byte == b'\n').count();
+        let mut counts = Counts::default();
+        for (line, row) in rows.filter(|(_, row)| !row.is_empty()) {
+            if line % PROGRESS == 0 {
+                out.show_progress(format_args!("{line} of {lines} lines"));
+            }
+            match self.run_one(row) {
+                Ok((fields, ran)) => {
+                    counts.add(&ran);
+                    let ends = [line, ran.halt as usize, ran.sequence as usize];
+                    out.line(self.row(fields, self.values(), ends.map(|end| end.to_string())));
+                }
+                Err(words) => {
+                    counts.unread += 1;
+                    out.say(format_args!("line {line}: {words}"));
+                }
+            }
+            if out.failed {
+                return counts;
+            }
+        }
+        out.say(counts.words());
+        counts
     }
 
-    fn copied<'a>(&'a self, fields: &'a [String]) -> impl Iterator<Item = &'a String> {
-        let copied = |column: &Column| matches!(column, Column::Copied);
-        fields
-            .iter()
-            .zip(&self.columns)
-            .filter(move |(_, column)| copied(column))
-            .map(|(field, _)| field)
-    }
-
-    /// One row run and written, or why it cannot be.
-    fn hour(&mut self, number: usize, line: &[u8], out: &mut dyn Write) -> Result<Result<Ran, String>, Failure> {
-        let (fields, ran) = match self.read_and_run(line) {
-            Ok(done) => done,
-            Err(message) => return Ok(Err(message)),
-        };
-        let copied = self.copied(&fields).cloned();
-        let values = self.store.iter().map(|(_, value)| value.to_string());
-        let ends = [ran.halt, ran.sequence].map(|end| end.to_string());
-        let row = std::iter::once(number.to_string())
-            .chain(copied)
-            .chain(values)
-            .chain(ends);
-        writeln!(out, "{}", csv::line(row))?;
-        Ok(Ok(ran))
-    }
-
-    fn read_and_run(&mut self, line: &[u8]) -> Result<(Vec<String>, Ran), String> {
-        let fields = text(line).and_then(csv::fields).ok_or("it is no line of a table")?;
+    /// The row's fields and how its run ended, or why it cannot be run.
+    fn run_one(&mut self, row: &[u8]) -> Result<(Vec<String>, Ran), String> {
+        let fields = csv::fields(row)?;
         if fields.len() != self.columns.len() {
             return Err(format!("it has {} fields, not {}", fields.len(), self.columns.len()));
         }
         self.store.cells_mut().fill(0);
-        for (field, column) in fields.iter().zip(&self.columns) {
-            if let Column::Value(cell) = column {
-                let value = signed(field).ok_or_else(|| format!("'{field}' is no whole number"))?;
-                self.store.cells_mut()[*cell] = value;
+        for (field, cell) in fields.iter().zip(&self.columns) {
+            if let Some(cell) = cell {
+                self.store.cells_mut()[*cell] = value(field)?;
             }
         }
         let ran = run(self.object, self.store.cells_mut(), &mut State::fresh(), self.steps);
-        ran.map(|ran| (fields, ran)).map_err(|refusal| refusal.to_string())
+        ran.map(|ran| (fields, ran)).map_err(|refusal| self.words(&refusal))
+    }
+
+    /// A refusal for a value over k digits is one for the largest.
+    fn words(&self, refusal: &Refusal) -> String {
+        match self.store.iter().max_by_key(|(_, value)| value.unsigned_abs()) {
+            Some((name, value)) if refusal.number == 51 => format!("{name} is {value}, over {} digits", self.digits),
+            _ => refusal.to_string(),
+        }
+    }
+
+    fn values(&self) -> Vec<String> {
+        let cells = |name: &Name| &self.store.cells()[name.first..][..name.size()];
+        let values = self.store.names().iter().flat_map(cells);
+        values.map(i64::to_string).collect()
+    }
+
+    /// The line, the copied fields, the values, the halt and the first loss.
+    fn row(&self, fields: Vec<String>, values: Vec<String>, [line, halt, loss]: [String; 3]) -> String {
+        let copied = fields.into_iter().zip(&self.columns).filter(|(_, cell)| cell.is_none());
+        let copied = copied.map(|(field, _)| field);
+        csv::line(once(line).chain(copied).chain(values).chain([halt, loss]))
+    }
+}
+
+fn value(field: &str) -> Result<i64, String> {
+    signed(field).ok_or_else(|| match decimal(field) {
+        true => format!("'{field}' is too large"),
+        false => format!("'{field}' is no whole number"),
+    })
+}
+
+impl Counts {
+    fn add(&mut self, ran: &Ran) {
+        self.done += 1;
+        self.lost += usize::from(ran.sequence > 0);
+        self.stuck += usize::from(ran.halt > 1);
+    }
+
+    fn words(&self) -> String {
+        let (done, lost, unread) = (self.done, self.lost, self.unread);
+        let words = format!("{done} hours done, {lost} lost digits, {unread} could not be read");
+        match self.stuck {
+            0 => words,
+            stuck => format!("{words}, {stuck} did not reach STOP or END"),
+        }
     }
 }

@@ -1,27 +1,23 @@
 //! `check` and `map`: one object.
 
-use std::io::{stderr, Write};
-
 use luvinqata::{Name, Refusal, Store};
 
 use crate::input::Options;
-use crate::{Failure, Status};
+use crate::output::Output;
+use crate::{Outcome, Status};
 
-pub fn check(options: &Options, out: &mut dyn Write) -> Result<Status, Failure> {
+pub fn check(options: &Options, out: &mut Output) -> Outcome {
     match luvinqata::check(&options.file(0)?) {
-        Ok(()) => writeln!(out, "OK")?,
-        Err(refusal) => return tell(&refusal, out),
+        Ok(()) => out.line("OK"),
+        Err(refusal) => return Ok(tell(&refusal, out)),
     }
     Ok(Status::default())
 }
 
-pub fn map(options: &Options, out: &mut dyn Write) -> Result<Status, Failure> {
-    let store = match Store::new(&options.file(0)?) {
-        Ok(store) => store,
-        Err(refusal) => return tell(&refusal, out),
-    };
-    for name in store.names() {
-        writeln!(out, "{}", mapped(name))?;
+pub fn map(options: &Options, out: &mut Output) -> Outcome {
+    match Store::new(&options.file(0)?) {
+        Ok(store) => store.names().iter().for_each(|name| out.line(mapped(name))),
+        Err(refusal) => return Ok(tell(&refusal, out)),
     }
     Ok(Status::default())
 }
@@ -36,9 +32,8 @@ pub fn refused(refusal: &Refusal) -> String {
     format!("REFUSED {} {} {}", refusal.number, refusal.place, refusal.kind)
 }
 
-fn tell(refusal: &Refusal, out: &mut dyn Write) -> Result<Status, Failure> {
-    writeln!(out, "{}", refused(refusal))?;
-    out.flush()?;
-    writeln!(stderr(), "{refusal}")?;
-    Ok(Status::FAILED)
+fn tell(refusal: &Refusal, out: &mut Output) -> Status {
+    out.line(refused(refusal));
+    out.say(refusal);
+    Status::FAILED
 }

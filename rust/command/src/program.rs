@@ -14,11 +14,15 @@ pub fn run_from_zero(object: &[u8], steps: u32) -> Result<(Ran, Store), Refusal>
     Ok((ran, store))
 }
 
-/// Halt, steps and first loss; then every name with its value, elements in storage order.
+/// Halt, steps and first loss.
+pub fn ended(ran: &Ran) -> String {
+    format!("HALT {} STEPS {} DROP {}", ran.halt, ran.steps, ran.sequence)
+}
+
+/// How it ended; then every name with its value, elements in storage order.
 pub fn printed(ran: &Ran, store: &Store) -> Vec<String> {
-    let halt = format!("HALT {} STEPS {} DROP {}", ran.halt, ran.steps, ran.sequence);
     let values = store.iter().map(|(name, value)| format!("{name} {value}"));
-    std::iter::once(halt).chain(values).collect()
+    std::iter::once(ended(ran)).chain(values).collect()
 }
 
 pub fn refused(refusal: &Refusal) -> String {

@@ -119,11 +119,10 @@ fn the_examples() {
     for (name, value) in values {
         let ended = luvinqata(&["run", path(&top(&format!("examples/{name}.txt")))], b"");
         assert_eq!((ended.status, ended.told.as_str()), (0, ""), "{name}");
-        assert!(
-            ended.out.starts_with("HALT 0 ") && ended.out.contains(value),
-            "{name}: {}",
-            ended.out
-        );
+        assert!(ended.out.starts_with("HALT 0 "), "{name}");
+        for line in value.lines() {
+            assert!(ended.out.lines().any(|shown| shown == line), "{name}: {line}");
+        }
     }
 }
 
@@ -136,13 +135,17 @@ fn help_and_wrong_use() {
         assert!(ended.out.contains("\nexample: "));
         assert!(luvinqata(&["--help"], b"").out.contains(&format!("\n  {subcommand} ")));
     }
-    let wrong: [&[&str]; 8] = [
+    let wrong: [&[&str]; 12] = [
         &[],
         &["walk"],
         &["run"],
         &["run", "a", "b"],
         &["run", "--fast", "a"],
         &["run", "--digits", "five", "a"],
+        &["run", "a", "--digits"],
+        &["compile", "--steps", "9", "a"],
+        &["check", "--text", "a"],
+        &["batch", "--cards"],
         &["run", "no/such/deck"],
         &["hours", "a"],
     ];
@@ -152,4 +155,8 @@ fn help_and_wrong_use() {
         assert!(ended.told.starts_with("luvinqata: "), "{arguments:?}");
     }
     assert!(luvinqata(&["run", "no/such/deck"], b"").told.contains("no/such/deck"));
+    assert_eq!(
+        luvinqata(&["run", "--steps", "5000000000", "a"], b"").told,
+        "luvinqata: --steps takes a whole number up to 4294967295, not '5000000000'\n"
+    );
 }

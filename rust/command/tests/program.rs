@@ -17,7 +17,9 @@ fn printed(input: &[u8]) -> String {
 }
 
 fn bytes(hex: &str) -> Vec<u8> {
-    (0..hex.len() / 2).map(|i| u8::from_str_radix(&hex[2 * i..2 * i + 2], 16).expect("hexadecimal")).collect()
+    (0..hex.len() / 2)
+        .map(|i| u8::from_str_radix(&hex[2 * i..2 * i + 2], 16).expect("hexadecimal"))
+        .collect()
 }
 
 #[test]
@@ -69,7 +71,11 @@ fn an_input_of_any_length_is_answered() {
                 input.resize(input.len() + 79, b' ');
             }
             input.resize(input.len() + more, b' ');
-            assert_eq!(printed(&input), independent::program::program(&input), "{cards} cards and {more} bytes");
+            assert_eq!(
+                printed(&input),
+                independent::program::program(&input),
+                "{cards} cards and {more} bytes"
+            );
         }
     }
 }

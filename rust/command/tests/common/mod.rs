@@ -5,8 +5,11 @@ use std::ffi::OsStr;
 use std::fs;
 use std::io::Write;
 use std::path::{Path, PathBuf};
-use std::process::{Command, Stdio};
+use std::process::{Child, Command, Stdio};
 
+pub const LUVINQATA: &str = env!("CARGO_BIN_EXE_luvinqata");
+
+#[derive(Debug, PartialEq, Eq)]
 pub struct Ended {
     pub status: i32,
     pub out: String,
@@ -15,11 +18,15 @@ pub struct Ended {
 
 /// The command with its arguments and its standard input.
 pub fn luvinqata<S: AsRef<OsStr>>(arguments: &[S], input: &[u8]) -> Ended {
-    run(Path::new(env!("CARGO_BIN_EXE_luvinqata")), arguments, input)
+    run(Path::new(LUVINQATA), arguments, input)
 }
 
 /// A program for the archive's machine, with its arguments and its standard input.
 pub fn run<S: AsRef<OsStr>>(program: &Path, arguments: &[S], input: &[u8]) -> Ended {
+    finish(start(program, arguments, Stdio::piped(), Stdio::piped()), input)
+}
+
+pub fn start<S: AsRef<OsStr>>(program: &Path, arguments: &[S], out: Stdio, told: Stdio) -> Child {
     // On a machine that is not the archive's, the emulator that runs this test runs the command too.
     let mut command = match std::env::var("CARGO_TARGET_X86_64_UNKNOWN_LINUX_GNU_RUNNER") {
         Ok(runner) => {
@@ -29,13 +36,12 @@ pub fn run<S: AsRef<OsStr>>(program: &Path, arguments: &[S], input: &[u8]) -> En
         }
         Err(_) => Command::new(program),
     };
-    let mut child = command
-        .args(arguments)
-        .stdin(Stdio::piped())
-        .stdout(Stdio::piped())
-        .stderr(Stdio::piped())
-        .spawn()
-        .expect("the command");
+    command.args(arguments).stdin(Stdio::piped()).stdout(out).stderr(told);
+    command.spawn().expect("the command")
+}
+
+/// What it prints and tells of its input, as far as these are pipes.
+pub fn finish(mut child: Child, input: &[u8]) -> Ended {
     let mut stdin = child.stdin.take().expect("its standard input");
     let input = input.to_vec();
     // A command that reads nothing closes its end.
