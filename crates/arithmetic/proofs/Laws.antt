@@ -15,7 +15,7 @@ use Rattle.number.specs.Code.{Both, numOf}
 use Rattle.number.specs.declared.Num.{Num}
 use Rattle.number.proofs.Whole.{back, abs-rem-lt, abs-quot-le, bits-some}
 use Rattle.number.proofs.Laws.{divided-some}
-use Rattle.rules_object.specs.Choose.{right, marked}
+use Rattle.rules_shared.specs.Choose.{right, marked}
 use Rattle.arithmetic.specs.declared.Regs.{Regs}
 use Rattle.arithmetic.specs.Performed.{joined}
 

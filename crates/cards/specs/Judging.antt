@@ -5,7 +5,7 @@ use mathlib.Core.Bool.{cond}
 use mathlib.Core.Path.{_≡_}
 use mathlib.Core.List.{List, _∷_}
 use lib.ListN.{length, drop}
-use Rattle.rules_object.specs.Limits.{limits}
+use Rattle.rules_shared.specs.Limits.{limits}
 use Rattle.rules_deck.specs.Cards.{cardsOf, numberColumns, comment, firstCard, allDigits, withoutBlanks, numberOf, rightNumber, Reading, Carded, cardsRefused, statements}
 use Rattle.cards.specs.declared.Judged.{Judged}
 use Rattle.cards.specs.declared.Judged.the-variants.{Refused, Statements}

@@ -10,13 +10,15 @@ use lib.Dec.{leb}
 use lib.ListN.{length, getD}
 use borrow.Author.Tests.{leb-true}
 use Rattle.number.specs.Number.{ceiling}
-use Rattle.rules_object.specs.Limits.{limits}
+use Rattle.rules_shared.specs.Limits.{limits}
 use Rattle.rules_object.specs.Object.{Object}
 use Rattle.rules_object.specs.Machine.{noElement, noLoop, ruleOf}
 use Rattle.rules_object.specs.Check.{right41, rightConstant, rightElement, rightLoop, rightLine, rightNamed, right43, flowOf}
 use Rattle.rules_object.specs.Heights.{heights}
 use Rattle.rules_object.specs.Bytes.{readObject}
-use Rattle.rules_object.specs.Calls.{Refusal, refusal, firstBad, atEntry, refused42, refused43, Checked, refused, judged44, judged, checked}
+use Rattle.rules_shared.specs.Refusals.{Refusal, refusal, atEntry}
+use Rattle.rules_shared.specs.Lists.{firstBad}
+use Rattle.rules_object.specs.Calls.{refused42, refused43, Checked, refused, judged44, judged, checked}
 use Rattle.rules_object.proofs.Passed.{some-none, both}
 use Rattle.rules_object.proofs.Accepts.{If, or-if}
 use Rattle.object.specs.declared.Layout.{Layout}

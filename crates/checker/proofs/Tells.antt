@@ -5,7 +5,8 @@ use mathlib.Core.List.{List}
 use Prim.Native.Nat.{ℕ, zero, suc}
 use native.Mathlib.Omega.{arith}
 use lib.ListN.{take}
-use Rattle.rules_object.specs.Calls.{refusal, refused, passed, checked, verdict, checking}
+use Rattle.rules_shared.specs.Refusals.{refusal}
+use Rattle.rules_object.specs.Calls.{refused, passed, checked, verdict, checking}
 use Rattle.rules_object.proofs.Passed.{Passed, check-passed}
 use Rattle.object.specs.Layout.{objectAt, Placed}
 use Rattle.checker.specs.declared.Verdict.{Verdict}

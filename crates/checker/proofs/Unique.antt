@@ -5,7 +5,8 @@ use mathlib.Core.List.{List}
 use Prim.Native.Nat.{ℕ, zero, suc}
 use native.Mathlib.Omega.{arith}
 use lib.ListN.{take}
-use Rattle.rules_object.specs.Calls.{Refusal, refusal, refused, checked}
+use Rattle.rules_shared.specs.Refusals.{Refusal, refusal}
+use Rattle.rules_object.specs.Calls.{refused, checked}
 use Rattle.rules_object.proofs.Passed.{check-passed}
 use Rattle.object.specs.declared.Layout.{Layout}
 use Rattle.object.specs.Layout.{objectAt}

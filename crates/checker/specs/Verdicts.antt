@@ -6,7 +6,8 @@ use mathlib.Core.List.{List}
 use lib.ListN.{take}
 use Rattle.rules_object.specs.Object.{Object}
 use Rattle.rules_object.specs.Check.{right41}
-use Rattle.rules_object.specs.Calls.{refusal, orElse, unless, refused42, refused43, Checked, refused, passed, judged}
+use Rattle.rules_shared.specs.Refusals.{refusal, orElse, unless}
+use Rattle.rules_object.specs.Calls.{refused42, refused43, Checked, refused, passed, judged}
 use Rattle.object.specs.declared.Layout.{Layout}
 use Rattle.object.specs.Layout.{objectAt, Placed}
 use Rattle.checker.specs.declared.Verdict.{Verdict}

@@ -4,7 +4,8 @@ use mathlib.Core.Path.{_≡_}
 use Prim.Native.Nat.{ℕ}
 use mathlib.Core.List.{List}
 use lib.ListN.{length}
-use Rattle.rules_object.specs.Calls.{Written, refusal, accepted, notWritten}
+use Rattle.rules_shared.specs.Refusals.{refusal, accepted}
+use Rattle.rules_shared.specs.Output.{Written, notWritten}
 use Rattle.rules_deck.specs.Trees.{Statement}
 use Rattle.rules_deck.specs.Cards.{Punched, statements, carded}
 use Rattle.rules_deck.specs.Compile.{read, readCarded}

@@ -5,7 +5,7 @@ use mathlib.Core.Logic.{_⊎_, inl, inr}
 use mathlib.Core.Bool.{Bool, true, false, _&&_, not}
 use mathlib.Core.List.{List, [], _∷_, _++_, append-nil}
 use mathlib.Core.Option.{Option, none, some}
-use Rattle.rules_object.specs.Calls.{all}
+use Rattle.rules_shared.specs.Lists.{all}
 use Rattle.rules_deck.specs.Trees.{Name, Digits, Expr, con, var, exprNames, exprConstants, Target, cell, element, targetNames, targetConstants, written, Form, assign, goTo, computed, ifs, loop, continue, stop, end, dimension, formNames, formConstants}
 use Rattle.rules_deck.specs.Meaning.{third}
 use Rattle.rules_deck.specs.Translation.{Held, isArray, holds, exprPlain, targetPlain, formPlain}

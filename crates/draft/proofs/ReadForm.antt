@@ -9,8 +9,8 @@ use mathlib.Core.Option.{some}
 use lib.Dec.{leb}
 use lib.ListN.{length}
 use borrow.Author.Tests.{leb-true, leb-false, le-leb, lt-leb}
-use Rattle.rules_object.specs.Limits.{limits}
-use Rattle.rules_object.specs.Calls.{all}
+use Rattle.rules_shared.specs.Limits.{limits}
+use Rattle.rules_shared.specs.Lists.{all}
 use Rattle.rules_deck.specs.Trees.{Name, Digits, valueOf, Form, formNames, formConstants, formExits, formLast}
 use Rattle.rules_deck.specs.Tokens.{isDigit, isLetter, isLetterOrDigit}
 use Rattle.rules_deck.specs.Cards.{rightDigits}

@@ -9,7 +9,7 @@ use Rattle.rules_object.specs.Machine.{Instr, HLT, CON, LOD, LDE, OP, NEG, JMP,
 use Rattle.rules_deck.specs.Trees.{Name, Digits, valueOf, Subscripts, subscriptsNames, subscriptsConstants, Expr, con, var, elm, neg, par, bin, Target, cell, element, Form, assign, goTo, computed, ifs, loop, continue, stop, end, dimension}
 use Rattle.rules_deck.specs.Deck.{Dims}
 use Rattle.rules_deck.specs.Meaning.{third}
-use Rattle.rules_object.specs.Calls.{all}
+use Rattle.rules_shared.specs.Lists.{all}
 use Rattle.rules_deck.specs.Translation.{Held, isArray, holds, cellOf, elementEntry, storeCode}
 use Rattle.rules_deck.specs.Judge.{Reference, rightReference}
 use Rattle.tokens.specs.Words.{capped, nameWord}

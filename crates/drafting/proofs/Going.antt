@@ -5,7 +5,7 @@ use Prim.Native.Nat.{ℕ, suc, _+_}
 use mathlib.Core.List.{List, [], _∷_, _++_}
 use native.Mathlib.Omega.{arith}
 use lib.ListN.{length, length-append}
-use Rattle.rules_object.specs.Calls.{Refusal, refusal}
+use Rattle.rules_shared.specs.Refusals.{Refusal, refusal}
 use Rattle.rules_deck.specs.Trees.{Statement}
 use Rattle.rules_deck.specs.Cards.{Punched, textOf}
 use Rattle.rules_deck.specs.Judge.{Taken, nothingTaken, takes}

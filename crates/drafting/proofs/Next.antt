@@ -8,7 +8,7 @@ use mathlib.Core.Option.{Option, none, some}
 use native.Mathlib.Omega.{arith}
 use lib.ListN.{length, take, length-take}
 use lib.Seq.{length-sets}
-use Rattle.rules_object.specs.Calls.{refusal}
+use Rattle.rules_shared.specs.Refusals.{refusal}
 use Rattle.rules_deck.specs.Trees.{Form, assign, goTo, computed, ifs, loop, continue, stop, end, dimension}
 use Rattle.rules_deck.specs.Trees as trees
 use Rattle.rules_deck.specs.Cards.{cardsOf, textOf}

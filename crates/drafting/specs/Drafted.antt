@@ -4,7 +4,7 @@ use mathlib.Core.Path.{_≡_}
 use Prim.Native.Nat.{ℕ, suc, _+_, _≤_, _<_}
 use mathlib.Core.List.{List, [], _∷_}
 use lib.ListN.{length, drop}
-use Rattle.rules_object.specs.Calls.{refusal}
+use Rattle.rules_shared.specs.Refusals.{refusal}
 use Rattle.rules_deck.specs.Trees.{Form, Statement}
 use Rattle.rules_deck.specs.Cards.{Punched, cardsOf, textOf, statements, carded}
 use Rattle.rules_deck.specs.Judge.{Taken, takes}

@@ -6,7 +6,7 @@ use native.Mathlib.Omega.{arith}
 use mathlib.Core.Bool.{false}
 use mathlib.Core.List.{List, [], _∷_, _++_, append-assoc}
 use lib.ListN.{length, take, length-append}
-use Rattle.rules_object.specs.Limits.{limits}
+use Rattle.rules_shared.specs.Limits.{limits}
 use Rattle.rules_object.specs.Machine.{Instr}
 use Rattle.rules_deck.specs.Translation.{Tables, emit, tablesAfter, wordOf, tablesOf}
 use Rattle.rules_deck.proofs.TableLaws.{tables-append}

@@ -8,7 +8,7 @@ use native.Mathlib.Numerals.{add-one}
 use mathlib.Core.List.{List, [], _∷_, _++_}
 use lib.ListN.{length, take, set}
 use lib.Seq.{take-suc-set}
-use Rattle.rules_object.specs.Limits.{limits}
+use Rattle.rules_shared.specs.Limits.{limits}
 use Rattle.rules_object.specs.Machine.{Instr}
 use Rattle.rules_object.specs.Check.{operationNumber}
 use Rattle.rules_deck.specs.Translation.{Tables, tablesAfter, operand, wordOf}

@@ -4,7 +4,7 @@ use mathlib.Core.Path.{_≡_}
 use Prim.Native.Nat.{ℕ, _≤_, _<_}
 use mathlib.Core.List.{List}
 use lib.ListN.{length, take}
-use Rattle.rules_object.specs.Limits.{limits}
+use Rattle.rules_shared.specs.Limits.{limits}
 use Rattle.rules_deck.specs.Translation.{pool, poolAt}
 use Rattle.entries.specs.declared.Pooled.{Pooled}
 use Rattle.entries.specs.declared.Pooled.the-variants.{Full, At}

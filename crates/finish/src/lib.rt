@@ -2,7 +2,7 @@
 ghost use mathlib.Core.Path.{_≡_};
 ghost use mathlib.Core.List.{List};
 ghost use Rattle.rules_object.specs.Bytes.{objectBytes};
-ghost use Rattle.rules_object.specs.Calls.{write};
+ghost use Rattle.rules_shared.specs.Output.{write};
 ghost use Rattle.rules_deck.specs.Trees.{Statement};
 ghost use Rattle.rules_deck.specs.Translation.{translate};
 ghost use Rattle.writer.specs.Answer.{answer, Low};

@@ -8,7 +8,7 @@ use native.Mathlib.Omega.{arith}
 use lib.Dec.{leb}
 use lib.ListN.{length, getD}
 use borrow.Author.Tests.{leb-true}
-use Rattle.rules_object.specs.Limits.{limits}
+use Rattle.rules_shared.specs.Limits.{limits}
 use Rattle.rules_object.specs.Object.{Object}
 use Rattle.rules_object.specs.Machine.{Instr, operationOf, operandOf, meant, decode}
 use Rattle.rules_object.specs.Check.{right41, right43, popsTable, pushesTable, operationNumber, successors, instruction, flowOf}

@@ -11,7 +11,9 @@ use lib.ListN.{length, getD}
 use Rattle.rules_object.specs.Object.{Object}
 use Rattle.rules_object.specs.Machine.{noElement, noLoop}
 use Rattle.rules_object.specs.Check.{rightConstant, rightElement, rightLoop, rightLine, rightNamed}
-use Rattle.rules_object.specs.Calls.{Refusal, firstBad, atEntry, orElse, refused42}
+use Rattle.rules_shared.specs.Refusals.{Refusal, atEntry, orElse}
+use Rattle.rules_shared.specs.Lists.{firstBad}
+use Rattle.rules_object.specs.Calls.{refused42}
 use Rattle.object.specs.declared.Layout.{Layout}
 use Rattle.object.specs.Layout.{objectAt}
 use Rattle.object.proofs.Entries.{constant-length, element-length, do-length, line-length, name-length}

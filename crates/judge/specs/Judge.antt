@@ -11,7 +11,7 @@ use Rattle.rules_object.specs.Object.{Line, Object}
 use Rattle.rules_object.specs.Bytes.{signedOf}
 use Rattle.rules_object.specs.Machine.{noElement, noLoop}
 use Rattle.rules_object.specs.Check.{rightConstant, rightElement, rightLoop, rightLine, rightNamed, noEntry}
-use Rattle.rules_object.specs.Calls.{Refusal, refusal}
+use Rattle.rules_shared.specs.Refusals.{Refusal, refusal}
 use Rattle.word.specs.Word.{wordAt}
 use Rattle.object.specs.declared.Layout.{Layout}
 use Rattle.named.specs.Names.{noName}

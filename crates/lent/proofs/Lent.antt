@@ -16,7 +16,9 @@ use Rattle.number.specs.Number.{Rule, ceiling, fits}
 use Rattle.rules_object.specs.Object.{Object}
 use Rattle.rules_object.specs.Machine.{cell, ruleOf}
 use Rattle.rules_object.specs.Flow.{at}
-use Rattle.rules_object.specs.Calls.{Refusal, refusal, orElse, unless, all, right50, right51, right52, Lent}
+use Rattle.rules_shared.specs.Refusals.{Refusal, refusal, orElse, unless}
+use Rattle.rules_shared.specs.Lists.{all}
+use Rattle.rules_object.specs.Calls.{right50, right51, right52, Lent}
 use Rattle.rules_object.proofs.Passed.{some-none, or-none}
 use Rattle.rules_object.proofs.Accepts.{refused5}
 use Rattle.object.specs.declared.Layout.{Layout}

@@ -8,7 +8,8 @@ use lib.ListN.{length}
 use lib.IntN.{ℤ, pos}
 use Rattle.rules_object.specs.Object.{Object}
 use Rattle.rules_object.specs.Machine.{cell}
-use Rattle.rules_object.specs.Calls.{Refusal, refusal, orElse, unless, Lent, right50, right51}
+use Rattle.rules_shared.specs.Refusals.{Refusal, refusal, orElse, unless}
+use Rattle.rules_object.specs.Calls.{Lent, right50, right51}
 
 abbrev pub lent : ℕ → ℕ → ℕ → List ℤ → Lent
 lent i h m places = record { index = i; height = h; mark = m; places = places }

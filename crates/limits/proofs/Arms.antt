@@ -6,7 +6,7 @@ use mathlib.Core.List.{List}
 use Prim.Native.Nat.{ℕ, _≤_}
 use native.Mathlib.Omega.{arith}
 use lib.ListN.{length, take}
-use Rattle.rules_object.specs.Calls.{all}
+use Rattle.rules_shared.specs.Lists.{all}
 use Rattle.forms.specs.declared.Assignment.{Assignment}
 use Rattle.forms.specs.declared.Computed.{Computed}
 use Rattle.forms.specs.declared.If.{If}

@@ -5,8 +5,8 @@ use mathlib.Core.Bool.{Bool, _&&_, cond}
 use mathlib.Core.List.{List}
 use lib.Dec.{leb}
 use lib.ListN.{take}
-use Rattle.rules_object.specs.Limits.{limits}
-use Rattle.rules_object.specs.Calls.{all}
+use Rattle.rules_shared.specs.Limits.{limits}
+use Rattle.rules_shared.specs.Lists.{all}
 use Rattle.tokens.specs.declared.Sizes.{Sizes}
 use Rattle.forms.specs.declared.Statement.{Statement}
 use Rattle.forms.specs.declared.Statement.the-variants.{Assign, GoTo, Computed, If, Do, Continue, Stop, End, Dimension, Bad}

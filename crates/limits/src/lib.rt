@@ -3,7 +3,7 @@ ghost use mathlib.Core.Path.{_≡_};
 ghost use mathlib.Core.Bool.{_&&_};
 ghost use Prim.Native.Nat.{_≤_};
 ghost use lib.ListN.{length, take};
-ghost use Rattle.rules_object.specs.Calls.{all};
+ghost use Rattle.rules_shared.specs.Lists.{all};
 ghost use Rattle.limits.specs.Tests.{rightNumber, ofNumber, ofSizes, ofStatement, exitsIn};
 use forms::Statement;
 use tokens::Sizes;

@@ -12,9 +12,9 @@ use lib.IntN.{ℤ, pos, negsuc, natAbs, negℤ, subℕ, _+ℤ_}
 use lib.Signed.{leZ}
 use Rattle.number.specs.Number.{Rule, Op, add, sub, mul, div, Result, value, byZero, ceiling, apply}
 use Rattle.number.proofs.Laws.{ResultFits, apply-fits, neg-fits, ceiling-pos}
-use Rattle.rules_object.specs.Runs.{Halt, atStop, atEnd, divideByZero, badSubscript, badExit, badParameter, haltNumber, Out, go, halt}
-use Rattle.rules_object.specs.Choose as choose
-use Rattle.rules_object.specs.Choose.{sign3, exit, positive, allPositive, again, over, turn, marked}
+use Rattle.rules_shared.specs.Runs.{Halt, atStop, atEnd, divideByZero, badSubscript, badExit, badParameter, haltNumber, Out, go, halt}
+use Rattle.rules_shared.specs.Choose as choose
+use Rattle.rules_shared.specs.Choose.{sign3, exit, positive, allPositive, again, over, turn, marked}
 use Rattle.rules_object.specs.Object.{Element, Loop}
 use Rattle.rules_object.specs.Machine.{Instr, HLT, CON, LOD, STO, LDE, STE, OP, NEG, JMP, BR3, BRC, DOI, DOE, State, state, cell, top, under, placeOf, act}
 use Rattle.rules_object.specs.Machine as book

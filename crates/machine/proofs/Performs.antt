@@ -10,7 +10,7 @@ use lib.IntN.{ℤ, pos, natAbs}
 use borrow.Author.Tests.{ltb-true, leb-true}
 use Rattle.number.specs.Number.{ceiling}
 use Rattle.number.proofs.Laws.{fits-yes}
-use Rattle.rules_object.specs.Choose as choose
+use Rattle.rules_shared.specs.Choose as choose
 use Rattle.rules_object.specs.Object.{Element, Loop, Object}
 use Rattle.rules_object.specs.Machine.{cell, act, meant, ruleOf, noElement, noLoop}
 use Rattle.rules_object.specs.Machine as book

@@ -3,7 +3,8 @@
 use mathlib.Core.List.{List}
 use lib.IntN.{ℤ}
 use Rattle.rules_object.specs.Object.{Object}
-use Rattle.rules_object.specs.Calls.{accepted, sequenceOf}
+use Rattle.rules_shared.specs.Refusals.{accepted}
+use Rattle.rules_object.specs.Calls.{sequenceOf}
 use Rattle.rules_object.specs.Calls as book
 use Rattle.arithmetic.specs.Performed.{lentOf}
 use Rattle.machine.specs.declared.Ran.{Ran}

@@ -9,7 +9,7 @@ use lib.Dec.{eqb, leb, ltb}
 use lib.ListN.{length, getD, drop, length-drop}
 use borrow.Author.Tests.{le-ltb, lt-ltb}
 use Rattle.number.specs.Number.{Op, add, sub, mul, div}
-use Rattle.rules_object.specs.Calls.{all}
+use Rattle.rules_shared.specs.Lists.{all}
 use Rattle.rules_deck.specs.Trees.{Name, Subscript, constant, linear, Subscripts, one, two, subscriptNames, subscriptsNames}
 use Rattle.rules_deck.specs.Translation.{Held, isArray, holds}
 use Rattle.rules_deck.specs.Judge.{rightCount, rightReference}

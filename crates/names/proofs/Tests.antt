@@ -7,7 +7,7 @@ use mathlib.Core.Bool.{Bool, true, false, _&&_}
 use mathlib.Core.List.{List, [], _∷_, _++_}
 use lib.ListN.{getD, drop}
 use lib.Seq.{getD-drop}
-use Rattle.rules_object.specs.Calls.{all}
+use Rattle.rules_shared.specs.Lists.{all}
 use Rattle.rules_deck.proofs.Readers.{All, all-none, all-more}
 
 pub and-true : (a b : Bool) → b ≡ true → (a && b) ≡ a

@@ -4,7 +4,7 @@ use mathlib.Core.Path.{_≡_}
 use Prim.Native.Nat.{ℕ, _≤_, _<_}
 use mathlib.Core.Bool.{Bool, true, false, _&&_, not}
 use mathlib.Core.List.{List, _++_}
-use Rattle.rules_object.specs.Calls.{all}
+use Rattle.rules_shared.specs.Lists.{all}
 use Rattle.rules_deck.specs.Trees.{Name, Subscripts}
 use Rattle.rules_deck.specs.Translation.{Held, isName, isArray, holds, cellOf, baseOf}
 use Rattle.rules_deck.specs.Judge.{Reference, rightReference}

@@ -8,7 +8,7 @@ use mathlib.Core.List.{List}
 use mathlib.Core.Option.{Option, none, some}
 use lib.Dec.{eqb}
 use lib.ListN.{getD}
-use Rattle.rules_object.specs.Calls.{orElse}
+use Rattle.rules_shared.specs.Refusals.{orElse}
 use Rattle.numbers.specs.Rows.{foundOf, lastEnds, firstFrom, endRight, misplacedEnd}
 use Rattle.numbers.specs.declared.Found.{Found}
 use Rattle.numbers.specs.declared.Found.the-variants.{Nothing, At}

@@ -10,7 +10,7 @@ use lib.ListN.{getD, List·getD-eq-default}
 use Rattle.rules_object.specs.Object.{Object}
 use Rattle.rules_object.specs.Machine.{operationOf, operandOf}
 use Rattle.rules_object.specs.Check.{operandTests, right43, entryRight}
-use Rattle.rules_object.specs.Calls.{firstBad}
+use Rattle.rules_shared.specs.Lists.{firstBad}
 use Rattle.word.specs.Word.{wordAt}
 use Rattle.object.specs.declared.Layout.{Layout}
 use Rattle.object.specs.Layout.{objectAt}

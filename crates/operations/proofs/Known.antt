@@ -12,7 +12,7 @@ use borrow.Author.Tests.{ltb-true, ltb-false, leb-true}
 use Rattle.number.specs.Number.{Rule, ceiling}
 use Rattle.number.specs.Code.{Both}
 use Rattle.number.proofs.Laws.{ceiling-pos, ceiling-most, fits-yes}
-use Rattle.rules_object.specs.Choose.{sign3, exit}
+use Rattle.rules_shared.specs.Choose.{sign3, exit}
 use Rattle.rules_object.specs.Object.{Object}
 use Rattle.rules_object.specs.Bytes.{signedOf}
 use Rattle.rules_object.specs.Machine.{HLT, meant, noElement, noLoop, cell, ruleOf}

@@ -12,7 +12,7 @@ use borrow.Author.Tests.{ltb-true, lt-ltb, le-ltb}
 use mir.Syntax.{w64}
 use mir.Val.{toZ, ofZ, SFits}
 use Rattle.number.proofs.Whole.{back, abs-add, sfits-abs}
-use Rattle.rules_object.specs.Choose.{positive, again, over, turn}
+use Rattle.rules_shared.specs.Choose.{positive, again, over, turn}
 use Rattle.rules_object.specs.Machine.{cell}
 use Rattle.word.specs.Word.{wordAt}
 use Rattle.object.specs.Layout.{loopAt}

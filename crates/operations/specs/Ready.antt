@@ -8,7 +8,7 @@ use Prim.Native.Nat.{ℕ, zero, suc, _+_, _-_, _*_, _^_, _≤_, _<_}
 use lib.Dec.{ltb}
 use lib.ListN.{length, getD}
 use lib.IntN.{ℤ, pos, negsuc, natAbs}
-use Rattle.rules_object.specs.Choose.{sign3}
+use Rattle.rules_shared.specs.Choose.{sign3}
 use Rattle.rules_object.specs.Object.{Object}
 use Rattle.word.specs.Word.{wordAt}
 use Rattle.rules_object.specs.Machine.{cell, meant}

@@ -4,7 +4,7 @@ ghost use mathlib.Core.List.{List};
 ghost use Prim.Native.Nat.{_+_, _-_, _*_, _^_, _≤_, _<_};
 ghost use lib.ListN.{length, set};
 ghost use lib.IntN.{ℤ};
-ghost use Rattle.rules_object.specs.Choose.{allPositive, positive};
+ghost use Rattle.rules_shared.specs.Choose.{allPositive, positive};
 ghost use Rattle.rules_object.specs.Machine.{cell, meant, ruleOf, placeOf};
 ghost use Rattle.word.specs.Word.{wordAt};
 ghost use Rattle.object.specs.Layout.{objectAt, elementAt, loopAt};

@@ -10,7 +10,7 @@ use lib.Dec.{leb, eqb}
 use lib.ListN.{length, getD, take, drop, length-take}
 use lib.Seq.{length-take-le}
 use borrow.Author.Tests.{le-leb, lt-leb, eq-eqb, ne-eqb}
-use Rattle.rules_object.specs.Calls.{all}
+use Rattle.rules_shared.specs.Lists.{all}
 use Rattle.rules_program.specs.Program.{isBlank, firstColumn, controlOf, controlDigits}
 use Rattle.cards.proofs.CardLaws.{column, columns-end}
 use Rattle.program.specs.Printing.{digitsOf}

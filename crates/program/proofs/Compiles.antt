@@ -10,7 +10,7 @@ use lib.Dec.{leb}
 use lib.ListN.{length, take, drop, length-append, length-drop, replicate}
 use lib.Seq.{take-append-seam, take-all}
 use Rattle.rules_object.specs.Bytes.{objectBytes}
-use Rattle.rules_object.specs.Calls.{Written, writtenIf, write}
+use Rattle.rules_shared.specs.Output.{Written, writtenIf, write}
 use Rattle.rules_deck.specs.Trees.{Statement}
 use Rattle.rules_deck.specs.Translation.{translate}
 use Rattle.rules_deck.specs.Cards.{cardLength}

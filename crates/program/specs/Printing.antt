@@ -6,9 +6,10 @@ use mathlib.Core.List.{List}
 use mathlib.Core.Option.{Option, none, some}
 use lib.ListN.{length, take, replicate}
 use lib.IntN.{ℤ, pos}
-use Rattle.rules_object.specs.Limits.{limits}
+use Rattle.rules_shared.specs.Limits.{limits}
 use Rattle.rules_object.specs.Bytes.{readObject}
-use Rattle.rules_object.specs.Calls.{refusal, Written}
+use Rattle.rules_shared.specs.Refusals.{refusal}
+use Rattle.rules_shared.specs.Output.{Written}
 use Rattle.rules_object.specs.Safe.{freshLent}
 use Rattle.rules_program.specs.Program.{zeroStore, namesOf, runLines, mostBytes}
 use Rattle.rules_program.specs.Tidy.{TidyObject}

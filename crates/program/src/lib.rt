@@ -3,7 +3,7 @@ ghost use mathlib.Core.Path.{_≡_};
 ghost use mathlib.Core.List.{List};
 ghost use Prim.Native.Nat.{ℕ, _+_, _≤_, _<_};
 ghost use lib.ListN.{length, take, drop, replicate};
-ghost use Rattle.rules_object.specs.Calls.{all};
+ghost use Rattle.rules_shared.specs.Lists.{all};
 ghost use Rattle.rules_object.specs.Bytes.{readObject};
 ghost use Rattle.rules_program.specs.Text.{nameLines};
 ghost use Rattle.rules_program.specs.Program.{isBlank, firstColumn, controlDigits, namesOf, printedObject, mostBytes, compiledLines, printed};

@@ -10,12 +10,13 @@ use mathlib.Core.List.{List, [], _∷_}
 use mathlib.Core.Option.{some}
 use lib.ListN.{getElem?}
 use lib.IntN.{ℤ}
-use Rattle.rules_object.specs.Runs.{Halt, Out, go, halt, run, steps}
-use Rattle.rules_object.specs.Choose.{positive}
+use Rattle.rules_shared.specs.Runs.{Halt, Out, go, halt, run, steps}
+use Rattle.rules_shared.specs.Choose.{positive}
 use Rattle.rules_object.specs.Object.{Object}
 use Rattle.rules_object.specs.Bytes.{readObject}
 use Rattle.rules_object.specs.Machine.{State, fresh, cell, step}
-use Rattle.rules_object.specs.Calls.{accepted, checking, given, right50, right51, Ran, ran, runFrom, running, taken}
+use Rattle.rules_shared.specs.Refusals.{accepted}
+use Rattle.rules_object.specs.Calls.{checking, given, right50, right51, Ran, ran, runFrom, running, taken}
 use Rattle.rules_object.proofs.Passed.{Passed, check-passed, both}
 use Rattle.rules_object.proofs.Lents.{long-enough, fresh-stands, stands-52}
 use Rattle.rules_object.proofs.Accepts.{Accepts, accepts-run}

@@ -7,7 +7,8 @@ use mathlib.Core.List.{List}
 use lib.Dec.{leb}
 use lib.ListN.{length}
 use Rattle.rules_object.specs.Bytes.{objectBytes}
-use Rattle.rules_object.specs.Calls.{accepted, notWritten, writtenIf, write}
+use Rattle.rules_shared.specs.Refusals.{accepted}
+use Rattle.rules_shared.specs.Output.{notWritten, writtenIf, write}
 use Rattle.rules_object.proofs.ObjectExamples.{p9, p10, p11, p12}
 use Rattle.rules_object.proofs.Refusals.{run-keeps, bench-keeps, map-keeps}
 use Rattle.rules_object.proofs.RoundTrip.{reads-back, writes-back}

@@ -7,15 +7,16 @@ use Prim.Native.Nat.{ℕ}
 use native.Mathlib.Omega.{arith}
 use lib.ListN.{length}
 use lib.IntN.{ℤ}
-use Rattle.rules_object.specs.Limits.{limits}
-use Rattle.rules_object.specs.Runs.{go, run}
+use Rattle.rules_shared.specs.Limits.{limits}
+use Rattle.rules_shared.specs.Runs.{go, run}
 use Rattle.rules_object.specs.Object.{Object}
 use Rattle.rules_object.specs.Bytes.{readObject}
 use Rattle.rules_object.specs.Machine.{State, step}
 use Rattle.rules_object.specs.Check.{right41, flowOf, benchStep}
 use Rattle.rules_object.specs.Flow.{Valid, NoTable}
 use Rattle.rules_object.specs.Heights.{heights}
-use Rattle.rules_object.specs.Calls.{Refusal, refusal, accepted, orElse, unless, refused42, refused43, refused, judged44, judged, checkedObject, checked, verdict, checking, Lent, taken, running}
+use Rattle.rules_shared.specs.Refusals.{Refusal, refusal, accepted, orElse, unless}
+use Rattle.rules_object.specs.Calls.{refused42, refused43, refused, judged44, judged, checkedObject, checked, verdict, checking, Lent, taken, running}
 use Rattle.rules_object.specs.Safe.{Right, Stands}
 use Rattle.rules_object.proofs.HeightsExact.{heights-some, heights-none, table-iff-agree, height-at-reached}
 use Rattle.rules_object.proofs.OneTable.{no-table-is}

@@ -11,7 +11,9 @@ use lib.ListN.{length, drop}
 use lib.Seq.{take-append-seam}
 use lib.IntN.{ℤ}
 use Rattle.rules_object.specs.Bytes.{objectBytes, readObject}
-use Rattle.rules_object.specs.Calls.{Refusal, refusal, accepted, passed, checked, writtenIf, write}
+use Rattle.rules_shared.specs.Refusals.{Refusal, refusal, accepted}
+use Rattle.rules_shared.specs.Output.{writtenIf, write}
+use Rattle.rules_object.specs.Calls.{passed, checked}
 use Rattle.rules_deck.specs.Trees.{Statement}
 use Rattle.rules_deck.specs.Meaning.{Key}
 use Rattle.rules_deck.specs.Translation.{heldOf, cellCount, namesFrom, translate}

@@ -9,8 +9,9 @@ use lib.Dec.{eqb}
 use lib.ListN.{length}
 use lib.IntN.{ℤ}
 use borrow.Author.Tests.{eqb-true, eqb-false}
-use Rattle.rules_object.specs.Limits.{limits}
-use Rattle.rules_object.specs.Calls.{accepted, Lent, Ran, running}
+use Rattle.rules_shared.specs.Limits.{limits}
+use Rattle.rules_shared.specs.Refusals.{accepted}
+use Rattle.rules_object.specs.Calls.{Lent, Ran, running}
 use Rattle.rules_object.specs.Safe.{afterSteps}
 use Rattle.rules_object.proofs.GoesOn.{goes-on, stays-halted}
 use Rattle.rules_object.proofs.Accepts.{accepts, accepts-run}

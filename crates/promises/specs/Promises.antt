@@ -9,17 +9,20 @@ use mathlib.Core.List.{List, [], _∷_, _++_}
 use mathlib.Core.Option.{none, some}
 use lib.ListN.{length, getElem?}
 use lib.IntN.{ℤ}
-use Rattle.rules_object.specs.Limits.{limits}
-use Rattle.rules_object.specs.Runs.{Halt, haltNumber, go, halt, run}
-use Rattle.rules_object.specs.Choose.{positive}
+use Rattle.rules_shared.specs.Limits.{limits}
+use Rattle.rules_shared.specs.Runs.{Halt, haltNumber, go, halt, run}
+use Rattle.rules_shared.specs.Choose.{positive}
 use Rattle.rules_object.specs.Object.{Named, Object}
 use Rattle.rules_object.specs.Bytes.{objectBytes, readObject}
-use Rattle.rules_object.specs.Writable.{Each, IsByte, IsWord, Writable}
+use Rattle.rules_shared.specs.Lists.{Each}
+use Rattle.rules_object.specs.Writable.{IsByte, IsWord, Writable}
 use Rattle.rules_object.specs.Machine.{State, cell, step}
 use Rattle.rules_object.specs.Check.{right41, flowOf, benchStep}
 use Rattle.rules_object.specs.Flow.{Valid, NoTable, Reached, PathsAgree}
 use Rattle.rules_object.specs.Heights.{heights, heightAt}
-use Rattle.rules_object.specs.Calls.{refusal, accepted, refused42, refused43, checking, Lent, taken, Ran, notRun, running, benching, notWritten, mapping}
+use Rattle.rules_shared.specs.Refusals.{refusal, accepted}
+use Rattle.rules_shared.specs.Output.{notWritten}
+use Rattle.rules_object.specs.Calls.{refused42, refused43, checking, Lent, taken, Ran, notRun, running, benching, mapping}
 use Rattle.rules_object.specs.Safe.{Right, ranWithCells, afterSteps, freshLent}
 use Rattle.rules_object.specs.Small.{HLT, CON, ADD, JMP, object, plain}
 use Rattle.rules_deck.specs.Trees.{Name, Statement}

@@ -5,7 +5,7 @@ use mathlib.Core.Bool.{Bool, _&&_, _||_, not}
 use mathlib.Core.List.{List}
 use lib.Dec.{eqb, ltb, leb}
 use lib.ListN.{length, getD}
-use Rattle.rules_object.specs.Limits.{limits}
+use Rattle.rules_shared.specs.Limits.{limits}
 use Rattle.numbers.specs.Rows.{allFrom, countFrom, kindAt, setAt, jumpsAt, startOf}
 
 abbrev pub doAt : List ℕ → ℕ → ℕ

@@ -8,8 +8,8 @@ use native.Mathlib.Omega.{arith}
 use lib.Dec.{leb}
 use lib.ListN.{length}
 use borrow.Author.Tests.{leb-true, leb-false, le-leb, lt-leb}
-use Rattle.rules_object.specs.Limits.{limits}
-use Rattle.rules_object.specs.Calls.{all}
+use Rattle.rules_shared.specs.Limits.{limits}
+use Rattle.rules_shared.specs.Lists.{all}
 use Rattle.rules_deck.specs.Trees.{Name, Form, formNames, formConstants}
 use Rattle.rules_deck.specs.Judge.{startsInteger, right11, right12, right14}
 use Rattle.tokens.specs.Sizes.{largest, otherLetter, sizesOf}

@@ -11,8 +11,8 @@ use native.Mathlib.Nat.{zero-add}
 use lib.Dec.{leb}
 use lib.ListN.{length, getElem?, take}
 use borrow.Author.Tests.{leb-true}
-use Rattle.rules_object.specs.Limits.{limits}
-use Rattle.rules_object.specs.Calls.{all}
+use Rattle.rules_shared.specs.Limits.{limits}
+use Rattle.rules_shared.specs.Lists.{all}
 use Rattle.rules_object.specs.Object.{Named}
 use Rattle.rules_deck.specs.Trees.{Name, Array, array, arrayNames, Form, assign, goTo, computed, ifs, loop, continue, stop, end, dimension, Statement, formNames}
 use Rattle.rules_deck.specs.Tokens.{isDigit, isLetter, isLetterOrDigit}

@@ -8,7 +8,7 @@ use lib.Dec.{leb, eqb}
 use lib.ListN.{length}
 use lib.Seq.{append-snoc}
 use borrow.Author.Tests.{eqb-true}
-use Rattle.rules_object.specs.Limits.{limits}
+use Rattle.rules_shared.specs.Limits.{limits}
 use Rattle.rules_deck.specs.Cards.{cardsOf, textColumns, comment, firstCard, Punched, numberOf, Reading, nothingRead, wrongCard, started, extended, afterCard, Carded, cardsRefused, statements, cardByCard, rightDigits, rightLength, counted, carded}
 use Rattle.rules_deck.proofs.CardsLaws.{Stands, as-comment, as-first, as-continuation, stands, cases}
 

@@ -12,12 +12,14 @@ use lib.ListN.{length, getElem?, getD, take, replicate}
 use lib.IntN.{ℤ, pos, natAbs}
 use borrow.Author.Tests.{le-leb, lt-ltb, eq-eqb}
 use Rattle.number.specs.Number.{add, sub, mul, div, ceiling, fits}
-use Rattle.rules_object.specs.Limits.{limits}
+use Rattle.rules_shared.specs.Limits.{limits}
 use Rattle.rules_object.specs.Object.{Subscript, Element, Loop, Line, Named, Object}
 use Rattle.rules_object.specs.Machine.{Instr, HLT, CON, LOD, STO, LDE, STE, OP, NEG, JMP, BR3, BRC, DOI, DOE, operationOf, operandOf, ruleOf}
 use Rattle.rules_object.specs.Check.{right41, rightConstant, rightSubscript, rightElement, rightLoop, rightLine, blanks, nameTail, rightName, span, rightNamed, targets, exitAt, operandTests, unknownOperation, right43, operationNumber}
-use Rattle.rules_object.specs.Calls.{firstBad, atEntry, refused42, refused43}
-use Rattle.rules_object.specs.Writable.{Each}
+use Rattle.rules_shared.specs.Refusals.{atEntry}
+use Rattle.rules_shared.specs.Lists.{firstBad}
+use Rattle.rules_object.specs.Calls.{refused42, refused43}
+use Rattle.rules_shared.specs.Lists.{Each}
 use Rattle.rules_object.proofs.Words.{each-map}
 use Rattle.rules_deck.specs.Trees.{Name, Statement}
 use Rattle.rules_deck.specs.Tokens.{isDigit, isLetter, isLetterOrDigit}

@@ -10,14 +10,15 @@ use mathlib.Core.Option.{some}
 use lib.ListN.{length, replicate, length-append, length-take}
 use lib.IntN.{ℤ, pos, negsuc, natAbs}
 use Rattle.number.specs.Number.{add, sub, mul, div}
-use Rattle.rules_object.specs.Limits.{limits}
+use Rattle.rules_shared.specs.Limits.{limits}
 use Rattle.rules_object.specs.Object.{Subscript, Element, Loop, Line, Named, Object}
 use Rattle.rules_object.specs.Bytes.{objectBytes, readObject}
 use Rattle.rules_object.specs.Machine.{Instr, HLT, CON, LOD, STO, LDE, STE, OP, NEG, JMP, BR3, BRC, DOI, DOE, operationOf}
 use Rattle.rules_object.specs.Flow.{Reached}
 use Rattle.rules_object.specs.Check.{span, operationNumber, flowOf}
 use Rattle.rules_object.specs.Calls.{passed, checked, verdict, checking}
-use Rattle.rules_object.specs.Writable.{Each, IsByte, IsWord, IsSigned, WritableSubscript, WritableElement, WritableLoop, WritableLine, WritableNamed, Writable}
+use Rattle.rules_shared.specs.Lists.{Each}
+use Rattle.rules_object.specs.Writable.{IsByte, IsWord, IsSigned, WritableSubscript, WritableElement, WritableLoop, WritableLine, WritableNamed, Writable}
 use Rattle.rules_object.proofs.Words.{each-map, each-append, each-take}
 use Rattle.rules_object.proofs.RoundTrip.{reads-back}
 use Rattle.rules_deck.specs.Trees.{Name, Statement}
@@ -188,6 +189,6 @@ pub compiled-checked : (k : ℕ) (bytes : List ℕ) (deck : List Statement) → 
     → (table : List ℕ) × (checked (objectBytes (translate k deck)) ≡ passed (translate k deck) table)
 compiled-checked k bytes deck e = accepted-passes (Rattle.rules_deck.proofs.AcceptedDeck.accepted k bytes deck e)
 
-pub compiled-passes : (k : ℕ) (bytes : List ℕ) (deck : List Statement) → deckOf k bytes ≡ read deck → checking (objectBytes (translate k deck)) ≡ Rattle.rules_object.specs.Calls.accepted
+pub compiled-passes : (k : ℕ) (bytes : List ℕ) (deck : List Statement) → deckOf k bytes ≡ read deck → checking (objectBytes (translate k deck)) ≡ Rattle.rules_shared.specs.Refusals.accepted
 unfolding checking
 compiled-passes k bytes deck e = ap verdict (compiled-checked k bytes deck e .1)

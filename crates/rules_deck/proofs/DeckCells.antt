@@ -12,7 +12,7 @@ use lib.Dec.{ltb}
 use lib.ListN.{getElem?}
 use lib.IntN.{ℤ, pos, negsuc}
 use borrow.Author.Tests.{ltb-true, eq-eqb}
-use Rattle.rules_object.specs.Choose.{below, right, byColumns, place}
+use Rattle.rules_shared.specs.Choose.{below, right, byColumns, place}
 use Rattle.rules_deck.specs.Trees.{Name, Subscripts, one, two, Form, loop, Statement}
 use Rattle.rules_deck.specs.Deck.{Do, doOf, dosFrom, dosOf, dimsOf, width}
 use Rattle.rules_deck.specs.Meaning.{plain, elementAt, Values, placeIn}

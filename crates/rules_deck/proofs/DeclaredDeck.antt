@@ -11,7 +11,7 @@ use mathlib.Core.Option.{none, some}
 use lib.Dec.{leb}
 use lib.ListN.{length, getElem?}
 use borrow.Author.Tests.{leb-true, eqb-true, not-true}
-use Rattle.rules_object.specs.Calls.{all}
+use Rattle.rules_shared.specs.Lists.{all}
 use Rattle.rules_deck.specs.Trees.{Name, valueOf, Subscripts, one, two, Array, array, Form, assign, computed, ifs, loop, Statement}
 use Rattle.rules_deck.specs.Deck.{sameName, Dims, Declared, declare, arraysIn, arraysOf, dimsOf}
 use Rattle.rules_deck.specs.Translation.{Held, isName, isArray, holds, formPlain, brings}

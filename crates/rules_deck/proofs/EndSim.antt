@@ -8,8 +8,8 @@ use mathlib.Core.List.{List, [], _∷_, map}
 use mathlib.Core.Option.{some}
 use lib.ListN.{length, getElem?}
 use lib.IntN.{ℤ}
-use Rattle.rules_object.specs.Runs.{Halt, Out, go, halt}
-use Rattle.rules_object.specs.Choose.{positive, Turn, again, over, turn}
+use Rattle.rules_shared.specs.Runs.{Halt, Out, go, halt}
+use Rattle.rules_shared.specs.Choose.{positive, Turn, again, over, turn}
 use Rattle.rules_object.specs.Machine.{DOE, State, state}
 use Rattle.rules_object.specs.Machine
 use Rattle.rules_deck.specs.Trees.{cell, Statement}

@@ -9,7 +9,7 @@ use mathlib.Core.Option.{some}
 use lib.Dec.{leb, eqb}
 use lib.ListN.{length, getElem?, length-append, length-map, length-reverse}
 use borrow.Author.Tests.{leb-true, eqb-true}
-use Rattle.rules_object.specs.Limits.{limits}
+use Rattle.rules_shared.specs.Limits.{limits}
 use Rattle.rules_object.specs.Machine.{Instr, DOE}
 use Rattle.rules_deck.specs.Trees.{Form, assign, goTo, computed, ifs, loop, continue, stop, end, dimension, Statement, formLast}
 use Rattle.rules_deck.specs.Deck.{positionOf, Do, doOf, dosFrom, dosOf, endingWith, endings, dimsOf}

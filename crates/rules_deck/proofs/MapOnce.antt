@@ -9,7 +9,7 @@ use mathlib.Core.Option.{none, some}
 use lib.Dec.{leb}
 use lib.ListN.{getElem?, take}
 use borrow.Author.Tests.{leb-true, not-true}
-use Rattle.rules_object.specs.Calls.{all}
+use Rattle.rules_shared.specs.Lists.{all}
 use Rattle.rules_deck.specs.Trees.{Name, valueOf, Array, Form, assign, goTo, computed, ifs, loop, continue, stop, end, dimension, Statement}
 use Rattle.rules_deck.specs.Deck.{sameName, Declared, declare, arraysIn}
 use Rattle.rules_deck.specs.Translation.{Held, name, array, hidden, isName, isArray, holds, appear, formPlain, brings, heldFrom, heldOf}

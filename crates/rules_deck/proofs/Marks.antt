@@ -5,7 +5,7 @@ use Prim.Native.Nat.{ℕ, zero, suc, _≤_, _<_}
 use native.Mathlib.Omega.{arith}
 use mathlib.Core.Bool.{Bool, true, false, _||_}
 use mathlib.Core.List.{List}
-use Rattle.rules_object.specs.Choose.{marked}
+use Rattle.rules_shared.specs.Choose.{marked}
 use Rattle.rules_deck.specs.Trees.{Statement}
 use Rattle.rules_deck.specs.Translation.{addressAt}
 use Rattle.rules_deck.specs.Cells.{SameMark, unmarked}

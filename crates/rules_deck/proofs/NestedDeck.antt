@@ -9,8 +9,8 @@ use mathlib.Core.Option.{Option, some}
 use lib.Dec.{leb, ltb, eqb}
 use lib.ListN.{length, getElem?}
 use borrow.Author.Tests.{leb-true, ltb-true, eqb-true, lt-ltb, le-leb, ne-eqb, ltb-false, not-true}
-use Rattle.rules_object.specs.Limits.{limits}
-use Rattle.rules_object.specs.Calls.{all}
+use Rattle.rules_shared.specs.Limits.{limits}
+use Rattle.rules_shared.specs.Lists.{all}
 use Rattle.rules_deck.specs.Trees.{Name, Digits, valueOf, Statement, formExits, formLast}
 use Rattle.rules_deck.specs.Deck.{sameName, positionOf, Do, dosOf, endings}
 use Rattle.rules_deck.specs.Judge.{right13}

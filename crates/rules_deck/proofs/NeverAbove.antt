@@ -7,8 +7,8 @@ use mathlib.Core.List.{List}
 use mathlib.Core.Option.{some}
 use lib.ListN.{length}
 use lib.IntN.{ℤ}
-use Rattle.rules_object.specs.Limits.{limits}
-use Rattle.rules_object.specs.Runs.{Out, go, halt, run, steps}
+use Rattle.rules_shared.specs.Limits.{limits}
+use Rattle.rules_shared.specs.Runs.{Out, go, halt, run, steps}
 use Rattle.rules_object.specs.Object.{Object}
 use Rattle.rules_object.specs.Bytes.{objectBytes}
 use Rattle.rules_object.specs.Machine.{State, step}
@@ -39,7 +39,7 @@ module _ {k : ℕ} {deck : List Statement} (good : Accepted k deck) where
       → length (t .stack) ≤ 2 * levelsIn deck + 3
   stands-low {o = o} e p t s = accepted-height good (t .index) (length (t .stack)) (subst (λ x. Reached (flowOf x) (t .index) (length (t .stack))) e (stands-reached p t s))
 
-  accepted-above : (store : List ℤ) (l : Lent) → length (l .places) ≡ limits .stack → (a : ℕ) → running (objectBytes (translate k deck)) store l a .refusal ≡ Rattle.rules_object.specs.Calls.accepted
+  accepted-above : (store : List ℤ) (l : Lent) → length (l .places) ≡ limits .stack → (a : ℕ) → running (objectBytes (translate k deck)) store l a .refusal ≡ Rattle.rules_shared.specs.Refusals.accepted
       → running (objectBytes (translate k deck)) store l a .lent .height ≤ 2 * levelsIn deck + 3
   unfolding given
   accepted-above store l forty a right = by (answer (objectBytes (translate k deck)) store l)
@@ -66,7 +66,7 @@ module _ {k : ℕ} {deck : List Statement} (good : Accepted k deck) where
       by (runs x q) = rw (q a) (left x (steps (step (x .object)) a (taken l store)) (run (step (x .object)) a (taken l store)) refl)
 
 pub never-above : (k : ℕ) (bytes : List ℕ) (deck : List Statement) → deckOf k bytes ≡ read deck → (store : List ℤ) (l : Lent) → length (l .places) ≡ limits .stack → (a : ℕ)
-    → running (objectBytes (translate k deck)) store l a .refusal ≡ Rattle.rules_object.specs.Calls.accepted
+    → running (objectBytes (translate k deck)) store l a .refusal ≡ Rattle.rules_shared.specs.Refusals.accepted
     → running (objectBytes (translate k deck)) store l a .lent .height ≤ 2 * deckLevels k bytes + 3
 unfolding deckLevels
 never-above k bytes deck e store l forty a right = rw e (accepted-above (accepted k bytes deck e) store l forty a right)

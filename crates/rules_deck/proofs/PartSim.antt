@@ -9,8 +9,8 @@ use mathlib.Core.List.{List, [], _∷_, map}
 use mathlib.Core.Option.{Option, none, some, Option·map}
 use lib.ListN.{length, getElem?}
 use lib.IntN.{ℤ, pos, negsuc}
-use Rattle.rules_object.specs.Runs.{go}
-use Rattle.rules_object.specs.Choose.{sign3, exit, positive, allPositive}
+use Rattle.rules_shared.specs.Runs.{go}
+use Rattle.rules_shared.specs.Choose.{sign3, exit, positive, allPositive}
 use Rattle.rules_object.specs.Machine.{STO, STE, BR3, BRC, DOI, DOE, state, placeOf, elementStored, branched}
 use Rattle.rules_object.specs.Machine
 use Rattle.rules_deck.specs.Trees.{Name, Digits, valueOf, Subscripts, subscriptsNames, cell, element, Form, Statement, formExits}

@@ -10,10 +10,10 @@ use mathlib.Core.Option.{some}
 use lib.Dec.{leb, eqb}
 use lib.ListN.{length, getElem?}
 use borrow.Author.Tests.{leb-true}
-use Rattle.rules_object.specs.Limits.{limits}
+use Rattle.rules_shared.specs.Limits.{limits}
 use Rattle.rules_object.specs.Object.{Element, Loop, Line, Named}
 use Rattle.rules_object.specs.Machine.{Instr, HLT, CON, LOD, STO, LDE, STE, OP, NEG, JMP, BR3, BRC, DOI, DOE}
-use Rattle.rules_object.specs.Writable.{Each}
+use Rattle.rules_shared.specs.Lists.{Each}
 use Rattle.rules_object.proofs.Words.{each-append, each-map}
 use Rattle.rules_deck.specs.Trees.{Name, Digits, valueOf, Statement, formConstants}
 use Rattle.rules_deck.specs.Deck.{positionOf, dosOf, dimsOf, width}

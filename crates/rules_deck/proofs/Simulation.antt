@@ -10,10 +10,10 @@ use mathlib.Core.List.{List, [], _∷_}
 use mathlib.Core.Option.{some}
 use lib.ListN.{length, getElem?}
 use lib.IntN.{ℤ}
-use Rattle.rules_object.specs.Runs.{Halt, Out, go, halt, then, run, stepsFrom, steps}
-use Rattle.rules_object.specs.Choose.{positive}
+use Rattle.rules_shared.specs.Runs.{Halt, Out, go, halt, then, run, stepsFrom, steps}
+use Rattle.rules_shared.specs.Choose.{positive}
 use Rattle.rules_object.specs.Machine.{State, state, fresh, step}
-use Rattle.rules_object.proofs.RunLaws.{halt-same, Steps, one, last, more, same-halt, onward, steps-more, steps-most}
+use Rattle.rules_shared.proofs.RunLaws.{halt-same, Steps, one, last, more, same-halt, onward, steps-more, steps-most}
 use Rattle.rules_deck.specs.Trees.{Statement}
 use Rattle.rules_deck.specs.Deck.{Do, endings}
 use Rattle.rules_deck.specs.Meaning.{Values, Bounds, notEntered, bounds, Standing, standing, begin, meaningStep, meaning}

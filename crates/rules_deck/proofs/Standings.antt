@@ -9,7 +9,7 @@ use mathlib.Core.List.{List}
 use lib.ListN.{length, set, length-set}
 use lib.IntN.{ℤ}
 use borrow.Author.Tests.{eq-eqb, ne-eqb}
-use Rattle.rules_object.specs.Choose.{positive}
+use Rattle.rules_shared.specs.Choose.{positive}
 use Rattle.rules_object.specs.Machine.{cell}
 use Rattle.rules_deck.specs.Trees.{Statement}
 use Rattle.rules_deck.specs.Deck.{Do, dosOf}

@@ -8,8 +8,8 @@ use mathlib.Core.List.{List, [], _∷_, _++_, map}
 use mathlib.Core.Option.{Option, none, some}
 use lib.ListN.{length, getElem?, length-append, length-map}
 use lib.IntN.{ℤ}
-use Rattle.rules_object.specs.Runs.{Out, go}
-use Rattle.rules_object.specs.Choose.{exit}
+use Rattle.rules_shared.specs.Runs.{Out, go}
+use Rattle.rules_shared.specs.Choose.{exit}
 use Rattle.rules_object.specs.Machine.{DOI, DOE, State, state}
 use Rattle.rules_deck.specs.Trees.{valueOf, subscriptsNames, Expr, cell, element, written, Form, assign, goTo, computed, ifs, loop, continue, stop, end, dimension, Statement, formExits}
 use Rattle.rules_deck.specs.Deck.{Do, endings, dimsOf}

@@ -10,7 +10,7 @@ use mathlib.Core.List.{List, [], _∷_}
 use mathlib.Core.Option.{Option, none, some}
 use lib.ListN.{length, getElem?, getD}
 use borrow.Author.Tests.{leb-true}
-use Rattle.rules_object.specs.Limits.{limits}
+use Rattle.rules_shared.specs.Limits.{limits}
 use Rattle.rules_object.specs.Machine.{Instr}
 use Rattle.rules_object.specs.Flow.{Flow, at, Fine, Valid, Reached}
 use Rattle.rules_object.specs.Heights.{heights}

@@ -11,7 +11,7 @@ use lib.Dec.{eqb}
 use lib.ListN.{length, getElem?, getD, take, drop}
 use borrow.Author.Tests.{eqb-true}
 use Rattle.number.specs.Number.{add, sub, mul, div}
-use Rattle.rules_object.specs.Limits.{limits}
+use Rattle.rules_shared.specs.Limits.{limits}
 use Rattle.rules_object.specs.Object.{Object}
 use Rattle.rules_object.specs.Machine.{Instr, HLT, CON, LOD, STO, LDE, STE, OP, NEG, JMP, BR3, BRC, DOI, DOE, operationOf, operandOf, meant, decode}
 use Rattle.rules_object.specs.Check.{operationNumber}

@@ -11,7 +11,8 @@ use mathlib.Core.Option.{Option, none, some}
 use lib.Dec.{eqb}
 use lib.ListN.{length, getElem?}
 use borrow.Author.Tests.{eqb-true, eq-eqb, not-true}
-use Rattle.rules_object.specs.Calls.{all, orElse}
+use Rattle.rules_shared.specs.Refusals.{orElse}
+use Rattle.rules_shared.specs.Lists.{all}
 use Rattle.rules_deck.specs.Trees.{Name, Statement}
 use Rattle.rules_deck.specs.Deck.{sameName}
 use Rattle.rules_deck.specs.Accepted.{Among, here, there}

@@ -7,7 +7,7 @@ use mathlib.Core.List.{List, [], _∷_}
 use mathlib.Core.Option.{Option, none, some}
 use lib.ListN.{length, getElem?, take}
 use Rattle.number.specs.Number.{add, sub, mul, div}
-use Rattle.rules_object.specs.Limits.{limits}
+use Rattle.rules_shared.specs.Limits.{limits}
 use Rattle.rules_deck.specs.Trees.{Digits, valueOf, Subscripts, Name, Expr, con, var, elm, neg, par, bin, Form, assign, goTo, computed, ifs, loop, continue, stop, end, dimension, Statement, formExits}
 use Rattle.rules_deck.specs.Cards.{textLength, characters, rightDigits}
 use Rattle.rules_deck.specs.Grammar.{formOf}

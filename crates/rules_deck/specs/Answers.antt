@@ -7,10 +7,12 @@ use mathlib.Core.Option.{Option, none, some}
 use lib.Dec.{eqb}
 use lib.ListN.{replicate}
 use lib.IntN.{ℤ, pos}
-use Rattle.rules_object.specs.Runs.{haltNumber, Out, go, halt}
+use Rattle.rules_shared.specs.Runs.{haltNumber, Out, go, halt}
 use Rattle.rules_object.specs.Object.{Object}
 use Rattle.rules_object.specs.Bytes.{readObject}
-use Rattle.rules_object.specs.Calls.{refusal, Ran, running, Written}
+use Rattle.rules_shared.specs.Refusals.{refusal}
+use Rattle.rules_shared.specs.Output.{Written}
+use Rattle.rules_object.specs.Calls.{Ran, running}
 use Rattle.rules_object.specs.Safe.{freshLent}
 use Rattle.rules_deck.specs.Meaning.{Key, Standing}
 use Rattle.rules_deck.specs.Compile.{compiling}

@@ -5,7 +5,7 @@ use mathlib.Core.Bool.{Bool, true, false, _&&_, _||_, cond}
 use mathlib.Core.List.{List, [], _∷_, _++_, map}
 use lib.Dec.{leb, eqb}
 use lib.ListN.{length, getD, take, drop}
-use Rattle.rules_object.specs.Limits.{limits}
+use Rattle.rules_shared.specs.Limits.{limits}
 use Rattle.rules_object.specs.Check.{blanks, letter, digit}
 use Rattle.rules_deck.specs.Trees.{valueOf}
 

@@ -4,7 +4,8 @@ use Prim.Native.Nat.{ℕ, suc}
 use mathlib.Core.List.{List, [], _∷_}
 use mathlib.Core.Option.{Option, none, some}
 use Rattle.rules_object.specs.Bytes.{objectBytes}
-use Rattle.rules_object.specs.Calls.{Refusal, refusal, Written, notWritten, write}
+use Rattle.rules_shared.specs.Refusals.{Refusal, refusal}
+use Rattle.rules_shared.specs.Output.{Written, notWritten, write}
 use Rattle.rules_deck.specs.Trees.{Form, Statement}
 use Rattle.rules_deck.specs.Cards.{Punched, textOf, Carded, cardsRefused, statements, carded}
 use Rattle.rules_deck.specs.Grammar.{formOf}

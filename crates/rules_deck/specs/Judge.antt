@@ -6,8 +6,9 @@ use mathlib.Core.List.{List, [], _∷_, _++_}
 use mathlib.Core.Option.{Option, none, some}
 use lib.Dec.{leb, eqb}
 use lib.ListN.{length}
-use Rattle.rules_object.specs.Limits.{limits}
-use Rattle.rules_object.specs.Calls.{all, orElse}
+use Rattle.rules_shared.specs.Limits.{limits}
+use Rattle.rules_shared.specs.Refusals.{orElse}
+use Rattle.rules_shared.specs.Lists.{all}
 use Rattle.rules_deck.specs.Trees.{Name, valueOf, Subscripts, one, two, Array, array, Expr, con, var, elm, neg, par, bin, Target, cell, element, written, Form, assign, goTo, computed, ifs, loop, continue, stop, end, dimension, formNames, formConstants, formExits, formLast, formLevels}
 use Rattle.rules_deck.specs.Deck.{sameName, Dims, declare, arraysIn}
 use Rattle.rules_deck.specs.Meaning.{third}

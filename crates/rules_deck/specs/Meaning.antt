@@ -8,8 +8,8 @@ use lib.Dec.{eqb}
 use lib.ListN.{getElem?}
 use lib.IntN.{ℤ, pos, negℤ, _+ℤ_, _*ℤ_}
 use Rattle.number.specs.Number.{Rule, Op, Result, value, byZero, apply}
-use Rattle.rules_object.specs.Runs.{Halt, atStop, atEnd, divideByZero, badSubscript, badExit, badParameter, Out, go, halt, run}
-use Rattle.rules_object.specs.Choose.{sign3, exit, place, allPositive, Turn, again, over, turn, marked}
+use Rattle.rules_shared.specs.Runs.{Halt, atStop, atEnd, divideByZero, badSubscript, badExit, badParameter, Out, go, halt, run}
+use Rattle.rules_shared.specs.Choose.{sign3, exit, place, allPositive, Turn, again, over, turn, marked}
 use Rattle.rules_deck.specs.Trees.{Name, Digits, valueOf, Addend, nothing, plus, minus, Subscript, constant, linear, Subscripts, one, two, Expr, con, var, elm, neg, par, bin, Target, cell, element, Form, assign, goTo, computed, ifs, loop, continue, stop, end, dimension, Statement}
 use Rattle.rules_deck.specs.Deck.{sameName, positionOf, Do, endings, Dims, dimsOf, width}
 

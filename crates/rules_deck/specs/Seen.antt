@@ -7,12 +7,13 @@ use mathlib.Core.Option.{Option, none, some}
 use lib.Dec.{ltb, eqb, leb}
 use lib.ListN.{take}
 use lib.IntN.{ℤ, pos}
-use Rattle.rules_object.specs.Runs.{Out}
+use Rattle.rules_shared.specs.Runs.{Out}
 use Rattle.rules_object.specs.Object.{Named, Object}
 use Rattle.rules_object.specs.Bytes.{readObject}
 use Rattle.rules_object.specs.Machine.{cell}
 use Rattle.rules_object.specs.Check.{span}
-use Rattle.rules_object.specs.Calls.{Lent, Ran, right50, right51, running, Written}
+use Rattle.rules_shared.specs.Output.{Written}
+use Rattle.rules_object.specs.Calls.{Lent, Ran, right50, right51, running}
 use Rattle.rules_deck.specs.Trees.{Name, Statement, formNames, formLevels}
 use Rattle.rules_deck.specs.Cards.{withoutBlanks}
 use Rattle.rules_deck.specs.Deck.{sameName, Dims, dimsOf}

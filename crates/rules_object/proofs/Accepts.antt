@@ -12,7 +12,9 @@ use Rattle.rules_object.specs.Machine.{fresh, step}
 use Rattle.rules_object.specs.Check.{right41, rightConstant, rightElement, rightLoop, rightLine, rightNamed, right43, flowOf, benchStep}
 use Rattle.rules_object.specs.Bytes.{readObject}
 use Rattle.rules_object.specs.Heights.{heights}
-use Rattle.rules_object.specs.Calls.{Refusal, refusal, firstBad, atEntry, orElse, unless, refused42, refused43, Checked, refused, passed, judged44, judged, checkedObject, checked, verdict, checking, Lent, taken, right50, right51, right52, notRun, runFrom, orRefused, runChecked, running, benchObject, benching}
+use Rattle.rules_shared.specs.Refusals.{Refusal, refusal, atEntry, orElse, unless}
+use Rattle.rules_shared.specs.Lists.{firstBad}
+use Rattle.rules_object.specs.Calls.{refused42, refused43, Checked, refused, passed, judged44, judged, checkedObject, checked, verdict, checking, Lent, taken, right50, right51, right52, notRun, runFrom, orRefused, runChecked, running, benchObject, benching}
 use Rattle.rules_object.proofs.Passed.{or-none, unless-none, Passed, check-passed}
 
 -- ---- a refusal's number

@@ -9,14 +9,15 @@ use native.Mathlib.Omega.{arith}
 use lib.ListN.{length, getD, length-replicate}
 use lib.IntN.{ℤ, pos}
 use borrow.Author.Tests.{lt-ltb, le-leb}
-use Rattle.rules_object.specs.Limits.{limits}
-use Rattle.rules_object.specs.Runs.{badStack, badInstruction, Out, go, halt, run, steps}
+use Rattle.rules_shared.specs.Limits.{limits}
+use Rattle.rules_shared.specs.Runs.{badStack, badInstruction, Out, go, halt, run, steps}
 use Rattle.rules_object.specs.Object.{Object}
 use Rattle.rules_object.specs.Machine.{State, fresh, step}
 use Rattle.rules_object.specs.Check.{right41, pops, pushes, instruction, room, benchStep}
-use Rattle.rules_object.specs.Calls.{orElse, unless, passed, checking, Lent, taken, given, right50, right51, right52, Ran, ran, runFrom, orRefused, runChecked, running, benchObject, benching}
+use Rattle.rules_shared.specs.Refusals.{orElse, unless}
+use Rattle.rules_object.specs.Calls.{passed, checking, Lent, taken, given, right50, right51, right52, Ran, ran, runFrom, orRefused, runChecked, running, benchObject, benching}
 use Rattle.rules_object.specs.Safe.{Right, Stands, freshLent}
-use Rattle.rules_object.proofs.RunLaws.{run-same, steps-same}
+use Rattle.rules_shared.proofs.RunLaws.{run-same, steps-same}
 use Rattle.rules_object.proofs.Passed.{Passed}
 use Rattle.rules_object.proofs.Safe.{step-stands, stands-right, run-halts}
 use Rattle.rules_object.proofs.Lents.{and-true, fresh-stands, taken-stands, stands-52, taken-given}

@@ -9,7 +9,7 @@ use native.Mathlib.Omega.{arith}
 use lib.ListN.{length, set, replicate, length-set, length-replicate, getD-replicate}
 use lib.Seq.{getD-set-same, getD-set-other}
 use borrow.Author.Tests.{eq-eqb, ne-eqb}
-use Rattle.rules_object.specs.Limits.{limits}
+use Rattle.rules_shared.specs.Limits.{limits}
 use Rattle.rules_object.specs.Flow.{Flow, never, at, after, Lead, Fine, Valid, Below, Reached, first, onward, PathsAgree, Least, NoTable}
 use Rattle.rules_object.proofs.Filling.{nevers, Blank, Waits, Filling, Visiting, Went}
 

@@ -6,13 +6,14 @@ use Prim.Native.Nat.{ℕ, _+_, _-_, _≤_}
 use native.Mathlib.Omega.{arith}
 use lib.ListN.{length, drop, replicate}
 use lib.IntN.{ℤ, pos}
-use Rattle.rules_object.specs.Limits.{limits}
-use Rattle.rules_object.specs.Runs.{Halt, atStop, atEnd, divideByZero, badSubscript, badExit, badParameter, badStack, badInstruction, haltNumber, Out, go, halt, then, run, stepsFrom, steps}
+use Rattle.rules_shared.specs.Limits.{limits}
+use Rattle.rules_shared.specs.Runs.{Halt, atStop, atEnd, divideByZero, badSubscript, badExit, badParameter, badStack, badInstruction, haltNumber, Out, go, halt, then, run, stepsFrom, steps}
 use Rattle.rules_object.specs.Object.{Object}
 use Rattle.rules_object.specs.Machine.{State, step}
-use Rattle.rules_object.specs.Calls.{accepted, Lent, taken, given, Ran, halted, ran, runFrom, running}
+use Rattle.rules_shared.specs.Refusals.{accepted}
+use Rattle.rules_object.specs.Calls.{Lent, taken, given, Ran, halted, ran, runFrom, running}
 use Rattle.rules_object.specs.Safe.{Stands, afterSteps}
-use Rattle.rules_object.proofs.RunLaws.{run-add, steps-add, steps-go, steps-some, halts-at, steps-at, goes-before, halts-more, steps-more}
+use Rattle.rules_shared.proofs.RunLaws.{run-add, steps-add, steps-go, steps-some, halts-at, steps-at, goes-before, halts-more, steps-more}
 use Rattle.rules_object.proofs.Safe.{run-stands, run-halts}
 use Rattle.rules_object.proofs.Lents.{taken-stands, stands-50, stands-51, stands-52, taken-given, given-forty, given-above}
 use Rattle.rules_object.proofs.Refusals.{from-accepts}

@@ -11,7 +11,7 @@ use lib.IntN.{pos}
 use borrow.Author.Tests.{ltb-true, leb-true}
 use Rattle.number.specs.Number.{fits}
 use Rattle.number.proofs.Laws.{fits-yes}
-use Rattle.rules_object.specs.Limits.{limits}
+use Rattle.rules_shared.specs.Limits.{limits}
 use Rattle.rules_object.specs.Object.{Subscript, Element, Loop, Object}
 use Rattle.rules_object.specs.Machine.{Instr, HLT, CON, LOD, STO, LDE, STE, OP, NEG, JMP, BR3, BRC, DOI, DOE, operationOf, operandOf, meanings, unknown, decode, ruleOf}
 use Rattle.rules_object.specs.Check.{inCells, rightConstant, rightSubscript, rightElement, rightLoop, right43, operandTests, unknownOperation, entryTests, noEntry, entryRight, pops, pushes, successors, instruction, flowOf}

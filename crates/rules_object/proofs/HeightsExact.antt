@@ -12,7 +12,7 @@ use native.Mathlib.Omega.{arith}
 use lib.Dec.{eqb, ltb, leb}
 use lib.ListN.{length, replicate, length-set, length-replicate, List·getD-eq-default}
 use borrow.Author.Tests.{leb-true, leb-false, ltb-true, ltb-false, eqb-true, eqb-false}
-use Rattle.rules_object.specs.Limits.{limits}
+use Rattle.rules_shared.specs.Limits.{limits}
 use Rattle.rules_object.specs.Flow.{Flow, never, at, after, Valid, Reached, PathsAgree, Least, NoTable, Exact, table, refused}
 use Rattle.rules_object.specs.Heights.{Way, way, stop, meets, andOn, spread, visits, fills, found, heightsOf, heights, heightAt}
 use Rattle.rules_object.proofs.Filling.{nevers, Filling, Visiting, Went}

@@ -12,13 +12,14 @@ use lib.IntN.{ℤ, pos}
 use borrow.Author.Tests.{ltb-true, leb-true, eqb-true, lt-ltb, le-leb, eq-eqb}
 use Rattle.number.specs.Number.{fits}
 use Rattle.number.proofs.Laws.{fits-yes, yes-fits}
-use Rattle.rules_object.specs.Limits.{limits}
+use Rattle.rules_shared.specs.Limits.{limits}
 use Rattle.rules_object.specs.Object.{Object}
 use Rattle.rules_object.specs.Machine.{State, state, fresh, cell, ruleOf}
 use Rattle.rules_object.specs.Flow.{at}
 use Rattle.rules_object.specs.Check.{flowOf}
-use Rattle.rules_object.specs.Calls.{Lent, taken, given, all, right50, right51, right52}
-use Rattle.rules_object.specs.Writable.{Each}
+use Rattle.rules_shared.specs.Lists.{all}
+use Rattle.rules_object.specs.Calls.{Lent, taken, given, right50, right51, right52}
+use Rattle.rules_shared.specs.Lists.{Each}
 use Rattle.rules_object.specs.Safe.{Within, Stands}
 use Rattle.rules_object.proofs.Passed.{Passed, both}
 

@@ -7,7 +7,6 @@ pub mod Words
 pub mod GoodWords
 pub mod RoundTrip
 pub mod BytesExamples
-pub mod RunLaws
 pub mod Passed
 pub mod Numbers
 pub mod Safe

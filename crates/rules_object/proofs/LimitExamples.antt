@@ -11,7 +11,9 @@ use Rattle.rules_object.specs.Bytes.{signedOf, signedWord, objectWords, 
 use Rattle.rules_object.specs.Machine.{operationOf, operandOf, decode}
 use Rattle.rules_object.specs.Check.{right41, rightConstant, rightElement, rightLoop, rightLine, rightNamed, right43, flowOf}
 use Rattle.rules_object.specs.Heights.{heights}
-use Rattle.rules_object.specs.Calls.{Refusal, refusal, accepted, refused42, refused43, checked, checking, Written, write, mapOf, mapping}
+use Rattle.rules_shared.specs.Refusals.{Refusal, refusal, accepted}
+use Rattle.rules_shared.specs.Output.{Written, write}
+use Rattle.rules_object.specs.Calls.{refused42, refused43, checked, checking, mapOf, mapping}
 use Rattle.rules_object.specs.Small.{HLT, CON, LOD, STO, LDE, STE, ADD, SUB, MUL, DIV, NEG, JMP, BR3, BRC, DOI, DOE, object, plain, element, loop, line, named, withLines, withNames}
 use Rattle.rules_object.proofs.ObjectExamples.{Agree}
 

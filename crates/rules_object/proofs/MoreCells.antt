@@ -11,15 +11,17 @@ use lib.Seq.{take-append-le}
 use lib.IntN.{ℤ}
 use borrow.Author.Tests.{le-leb}
 use Rattle.number.specs.Number.{Rule, Result, value, byZero, apply, fits}
-use Rattle.rules_object.specs.Limits.{limits}
-use Rattle.rules_object.specs.Runs.{Out, go, halt, then, run, steps}
-use Rattle.rules_object.specs.Choose.{exit, positive, allPositive, Turn, again, over, turn}
+use Rattle.rules_shared.specs.Limits.{limits}
+use Rattle.rules_shared.specs.Runs.{Out, go, halt, then, run, steps}
+use Rattle.rules_shared.specs.Choose.{exit, positive, allPositive, Turn, again, over, turn}
 use Rattle.rules_object.specs.Object.{Element, Loop, Object}
 use Rattle.rules_object.specs.Machine.{Instr, HLT, CON, LOD, STO, LDE, STE, OP, NEG, JMP, BR3, BRC, DOI, DOE, State, cell, top, under, operated, placeOf, elementLoaded, elementStored, branched, begun, turned, ended, act, ruleOf, step}
 use Rattle.rules_object.specs.Check.{instruction}
-use Rattle.rules_object.specs.Calls.{refusal, orElse, unless, Lent, taken, given, all, right50, right51, right52, Ran, ran, runFrom, orRefused, runChecked, running}
+use Rattle.rules_shared.specs.Refusals.{refusal, orElse, unless}
+use Rattle.rules_shared.specs.Lists.{all}
+use Rattle.rules_object.specs.Calls.{Lent, taken, given, right50, right51, right52, Ran, ran, runFrom, orRefused, runChecked, running}
 use Rattle.rules_object.specs.Safe.{withCells, ranWithCells}
-use Rattle.rules_object.proofs.RunLaws.{mapOut}
+use Rattle.rules_shared.proofs.RunLaws.{mapOut}
 use Rattle.rules_object.proofs.Passed.{Passed}
 use Rattle.rules_object.proofs.Lents.{long-enough, taken-stands}
 use Rattle.rules_object.proofs.PastCells.{run-past-cells, steps-past-cells}

@@ -12,9 +12,9 @@ use lib.Signed.{leZ}
 use Rattle.number.specs.Number.{ceiling}
 use Rattle.number.proofs.Laws.{ceiling-pos}
 use Rattle.rules_object.specs.Object.{Object}
-use Rattle.rules_object.specs.Choose.{positive, Turn, again, over, turn}
+use Rattle.rules_shared.specs.Choose.{positive, Turn, again, over, turn}
 use Rattle.rules_object.specs.Machine.{cell, top, under, ruleOf}
-use Rattle.rules_object.specs.Writable.{Each}
+use Rattle.rules_shared.specs.Lists.{Each}
 use Rattle.rules_object.specs.Safe.{Within}
 
 module _ (o : Object) where

@@ -11,7 +11,8 @@ use Rattle.rules_object.specs.Bytes.{signedOf, signedWord, bytesOf, obje
 use Rattle.rules_object.specs.Machine.{operationOf, operandOf, decode}
 use Rattle.rules_object.specs.Check.{right41, rightConstant, rightElement, rightLoop, rightLine, rightNamed, right43, flowOf}
 use Rattle.rules_object.specs.Heights.{heights}
-use Rattle.rules_object.specs.Calls.{Refusal, refusal, accepted, refused42, refused43, checked, checking}
+use Rattle.rules_shared.specs.Refusals.{Refusal, refusal, accepted}
+use Rattle.rules_object.specs.Calls.{refused42, refused43, checked, checking}
 
 abbrev judges : Object → Refusal
 judges o = checking (objectBytes o)

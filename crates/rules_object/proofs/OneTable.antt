@@ -9,7 +9,7 @@ use Prim.Native.Nat.{ℕ, _+_, _-_, _≤_, _<_}
 use native.Mathlib.Omega.{arith}
 use lib.ListN.{take}
 use lib.Seq.{length-take-le, getD-take, ext-getD}
-use Rattle.rules_object.specs.Limits.{limits}
+use Rattle.rules_shared.specs.Limits.{limits}
 use Rattle.rules_object.specs.Flow.{Flow, never, at, Fine, Valid, Below, Reached, first, onward, PathsAgree, Least, NoTable, Exact, table, refused}
 use Rattle.rules_object.specs.Heights.{heights}
 use Rattle.rules_object.proofs.Fills.{reached, table-agrees, fine-on}

@@ -12,7 +12,9 @@ use Rattle.rules_object.specs.Machine.{noElement, noLoop}
 use Rattle.rules_object.specs.Check.{right41, rightConstant, rightElement, rightLoop, right43, flowOf}
 use Rattle.rules_object.specs.Flow.{Least}
 use Rattle.rules_object.specs.Heights.{heights}
-use Rattle.rules_object.specs.Calls.{Refusal, firstBad, atEntry, orElse, unless, refused42, refused43, refused, passed, judged44, judged, checkedObject, checked}
+use Rattle.rules_shared.specs.Refusals.{Refusal, atEntry, orElse, unless}
+use Rattle.rules_shared.specs.Lists.{firstBad}
+use Rattle.rules_object.specs.Calls.{refused42, refused43, refused, passed, judged44, judged, checkedObject, checked}
 use Rattle.rules_object.specs.Bytes.{readObject}
 use Rattle.rules_object.proofs.HeightsExact.{heights-some}
 

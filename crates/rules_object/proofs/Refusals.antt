@@ -12,12 +12,14 @@ use lib.ListN.{length, drop, length-append, length-drop}
 use lib.Seq.{take-append-seam, drop-append-seam}
 use borrow.Author.Tests.{leb-true}
 use lib.IntN.{ℤ}
-use Rattle.rules_object.specs.Runs.{Out, go, halt, run, steps}
+use Rattle.rules_shared.specs.Runs.{Out, go, halt, run, steps}
 use Rattle.rules_object.specs.Object.{Object}
 use Rattle.rules_object.specs.Bytes.{readObject}
 use Rattle.rules_object.specs.Machine.{State, fresh}
 use Rattle.rules_object.specs.Check.{right41, benchStep}
-use Rattle.rules_object.specs.Calls.{Refusal, refusal, accepted, orElse, unless, refused, passed, checked, verdict, checking, Lent, right50, right51, Ran, notRun, ran, runFrom, orRefused, runChecked, running, benchObject, benching, Written, notWritten, mapOf, writtenIf, write, mapChecked, mapping}
+use Rattle.rules_shared.specs.Refusals.{Refusal, refusal, accepted, orElse, unless}
+use Rattle.rules_shared.specs.Output.{Written, notWritten, writtenIf, write}
+use Rattle.rules_object.specs.Calls.{refused, passed, checked, verdict, checking, Lent, right50, right51, Ran, notRun, ran, runFrom, orRefused, runChecked, running, benchObject, benching, mapOf, mapChecked, mapping}
 use Rattle.rules_object.specs.Safe.{Unchanged, MapUnchanged, Maps}
 use Rattle.rules_object.proofs.Accepts.{If, or-if, unless-if, Why, unread, over, later, Verdict, bad, good, judge, refusedBench, Answer, refuses, runs, answer, BenchAnswer, bench-answer}
 

@@ -6,15 +6,16 @@ use Prim.Native.Nat.{ℕ}
 use lib.ListN.{replicate, take}
 use lib.IntN.{ℤ, pos, negsuc}
 use Rattle.number.specs.Number.{ceiling, fits, keep, drops, kept, divided, apply}
-use Rattle.rules_object.specs.Limits.{limits}
-use Rattle.rules_object.specs.Runs.{haltNumber}
-use Rattle.rules_object.specs.Choose.{place, turn}
+use Rattle.rules_shared.specs.Limits.{limits}
+use Rattle.rules_shared.specs.Runs.{haltNumber}
+use Rattle.rules_shared.specs.Choose.{place, turn}
 use Rattle.rules_object.specs.Object.{Object}
 use Rattle.rules_object.specs.Bytes.{signedOf, signedWord, objectWords, objectBytes, readObject}
 use Rattle.rules_object.specs.Machine.{operationOf, operandOf, decode, step}
 use Rattle.rules_object.specs.Check.{right41, rightConstant, rightElement, rightLoop, rightLine, rightNamed, right43, flowOf, entryRight, benchStep}
 use Rattle.rules_object.specs.Heights.{heights}
-use Rattle.rules_object.specs.Calls.{refusal, accepted, refused42, refused43, checked, Lent, taken, given, right50, right51, right52, sequenceOf, Ran, notRun, running, benching}
+use Rattle.rules_shared.specs.Refusals.{refusal, accepted}
+use Rattle.rules_object.specs.Calls.{refused42, refused43, checked, Lent, taken, given, right50, right51, right52, sequenceOf, Ran, notRun, running, benching}
 use Rattle.rules_object.specs.Safe.{freshLent}
 use Rattle.rules_object.specs.Small.{HLT, CON, BRC, NEG, MUL, SUB, LOD, STO, LDE, STE, ADD, DIV, JMP, BR3, DOI, DOE, does, object, plain, element, loop, line, named, withLines, withNames}
 use Rattle.rules_object.proofs.ObjectExamples.{Agree}

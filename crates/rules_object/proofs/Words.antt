@@ -12,7 +12,8 @@ use lib.ListN.{length, take, drop, take-append-drop}
 use lib.IntN.{ℤ, pos, negsuc}
 use borrow.Author.Tests.{ltb-true, ltb-false, lt-ltb, le-ltb}
 use Rattle.rules_object.specs.Bytes.{wordBytes, bytesOf, wordsOf, signedOf, signedWord}
-use Rattle.rules_object.specs.Writable.{Each, IsByte, IsWord, IsSigned}
+use Rattle.rules_shared.specs.Lists.{Each}
+use Rattle.rules_object.specs.Writable.{IsByte, IsWord, IsSigned}
 
 -- ---- a predicate of every element
 

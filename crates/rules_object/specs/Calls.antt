@@ -1,51 +1,26 @@
 -- What the calls on objects answer: check, run, bench and map, each with one outcome for whatever is lent. 01 "Refusal numbers", "Running".
 -- Assumes nothing.
 use Prim.Native.Nat.{ℕ, zero, suc, _-_}
-use mathlib.Core.Bool.{Bool, true, false, _&&_, cond}
+use mathlib.Core.Bool.{Bool, _&&_, cond}
 use mathlib.Core.List.{List, [], _∷_, _++_, map, reverse}
 use mathlib.Core.Option.{Option, none, some}
 use lib.Dec.{ltb, leb, eqb}
 use lib.ListN.{length, take, drop, replicate}
 use lib.IntN.{ℤ, pos}
 use Rattle.number.specs.Number.{fits}
-use Rattle.rules_object.specs.Limits.{limits}
-use Rattle.rules_object.specs.Runs.{haltNumber, Out, go, halt, run, steps}
+use Rattle.rules_shared.specs.Limits.{limits}
+use Rattle.rules_shared.specs.Runs.{haltNumber, Out, go, halt, run, steps}
 use Rattle.rules_object.specs.Object.{Line, Object}
 use Rattle.rules_object.specs.Bytes.{concat, bytesOf, nameWords, readObject}
 use Rattle.rules_object.specs.Machine.{State, state, fresh, ruleOf, step}
 use Rattle.rules_object.specs.Flow.{at}
 use Rattle.rules_object.specs.Heights.{heights}
 use Rattle.rules_object.specs.Check.{right41, rightConstant, rightElement, rightLoop, rightLine, rightNamed, right43, flowOf, benchStep}
-
-pub record Refusal : Type 0 where
-  pub number : ℕ
-  pub place : ℕ
-  pub kind : ℕ
-
-abbrev pub refusal : ℕ → ℕ → ℕ → Refusal
-refusal n p k = record { number = n; place = p; kind = k }
-
-abbrev pub accepted : Refusal
-accepted = refusal 0 0 0
+use Rattle.rules_shared.specs.Refusals.{Refusal, refusal, accepted, atEntry, orElse, unless}
+use Rattle.rules_shared.specs.Lists.{all, firstBad}
+use Rattle.rules_shared.specs.Output.{Written, notWritten, write}
 
 -- ---- the check: 40 to 44
-
--- the first entry that fails the test, counted from n
-abbrev pub firstBad : {A : Type 0} → (A → Bool) → List A → ℕ → Option ℕ
-firstBad test [] n = none
-firstBad test (a ∷ more) n = cond (test a) (firstBad test more (suc n)) (some n)
-
-abbrev pub atEntry : ℕ → ℕ → Option ℕ → Option Refusal
-atEntry number kind none = none
-atEntry number kind (some entry) = some (refusal number entry kind)
-
-abbrev pub orElse : {A : Type 0} → Option A → Option A → Option A
-orElse none b = b
-orElse (some a) b = some a
-
-abbrev pub unless : Bool → ℕ → Option Refusal
-unless true number = none
-unless false number = some (refusal number 0 0)
 
 -- lowest kind, then lowest entry; exits and code are judged by 43 alone
 unfoldable pub refused42 : Object → Option Refusal
@@ -107,10 +82,6 @@ given t =
       mark = t .mark;
       places = reverse (t .stack) ++ replicate (limits .stack - length (t .stack)) (pos 0);
     }
-
-abbrev pub all : {A : Type 0} → (A → Bool) → List A → Bool
-all test [] = true
-all test (a ∷ more) = test a && all test more
 
 unfoldable pub right50 : Object → List ℤ → Bool
 right50 o store = leb (o .cells) (length store)
@@ -182,23 +153,6 @@ benchObject (some o) store l allowance =
 -- The call `bench`: it starts fresh; what was lent for the state takes the state after it.
 unfoldable pub benching : List ℕ → List ℤ → Lent → ℕ → Ran
 benching bytes store l allowance = benchObject (readObject bytes) store l allowance
-
--- ---- bytes written to a lent output: 30 if it is too short; bytes past them stay
-
-pub record Written : Type 0 where
-  pub refusal : Refusal
-  pub length : ℕ
-  pub output : List ℕ
-
-abbrev pub notWritten : Refusal → List ℕ → Written
-notWritten r output = record { refusal = r; length = 0; output = output }
-
-abbrev pub writtenIf : Bool → List ℕ → List ℕ → Written
-writtenIf true bytes output = record { refusal = accepted; length = length bytes; output = bytes ++ drop (length bytes) output }
-writtenIf false bytes output = notWritten (refusal 30 0 0) output
-
-unfoldable pub write : List ℕ → List ℕ → Written
-write bytes output = writtenIf (leb (length bytes) (length output)) bytes output
 
 -- ---- the map: body 7
 

@@ -1,6 +1,3 @@
-pub mod Limits
-pub mod Runs
-pub mod Choose
 pub mod Object
 pub mod Bytes
 pub mod Writable

@@ -9,14 +9,16 @@ use Prim.Native.Nat.{ℕ, _+_, _-_, _≤_, _<_}
 use lib.ListN.{length, getD, take, drop, replicate}
 use lib.IntN.{ℤ, pos, natAbs}
 use Rattle.number.specs.Number.{ceiling}
-use Rattle.rules_object.specs.Limits.{limits}
-use Rattle.rules_object.specs.Runs.{Halt, haltNumber, Out, go, halt, run, steps}
+use Rattle.rules_shared.specs.Limits.{limits}
+use Rattle.rules_shared.specs.Runs.{Halt, haltNumber, Out, go, halt, run, steps}
 use Rattle.rules_object.specs.Object.{Element, Loop, Object}
-use Rattle.rules_object.specs.Writable.{Each}
+use Rattle.rules_shared.specs.Lists.{Each}
 use Rattle.rules_object.specs.Machine.{Instr, HLT, CON, LOD, STO, LDE, STE, OP, NEG, JMP, BR3, BRC, DOI, DOE, State, state, cell, placeOf, ruleOf, step}
 use Rattle.rules_object.specs.Check.{right43, entryRight, pops, pushes, instruction, benchStep}
 use Rattle.rules_object.specs.Flow.{at}
-use Rattle.rules_object.specs.Calls.{accepted, Lent, Ran, Written, mapOf}
+use Rattle.rules_shared.specs.Refusals.{accepted}
+use Rattle.rules_shared.specs.Output.{Written}
+use Rattle.rules_object.specs.Calls.{Lent, Ran, mapOf}
 
 -- ---- every cell that an instruction reads or writes
 

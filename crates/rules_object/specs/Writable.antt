@@ -2,15 +2,10 @@
 -- Assumes nothing.
 use mathlib.Core.Path.{_≡_}
 use Prim.Native.Nat.{ℕ, _+_, _*_, _^_, _<_}
-use mathlib.Core.List.{List, [], _∷_}
 use lib.ListN.{length}
 use lib.IntN.{ℤ, pos, negsuc}
 use Rattle.rules_object.specs.Object.{Subscript, Element, Loop, Line, Named, Object}
-
--- a predicate of every element
-abbrev pub Each : {A : Type 0} → (A → Type 0) → List A → Type 0
-Each P [] = Unit {0}
-Each P (x ∷ xs) = P x × Each P xs
+use Rattle.rules_shared.specs.Lists.{Each}
 
 abbrev pub IsByte : ℕ → Type 0
 IsByte b = b < 256

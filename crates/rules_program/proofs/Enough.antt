@@ -8,12 +8,13 @@ use native.Mathlib.Omega.{arith}
 use lib.Dec.{leb}
 use lib.ListN.{length, replicate, length-replicate}
 use borrow.Author.Tests.{leb-true, le-leb}
-use Rattle.rules_object.specs.Limits.{limits}
+use Rattle.rules_shared.specs.Limits.{limits}
 use Rattle.rules_object.specs.Object.{Object}
 use Rattle.rules_object.specs.Bytes.{objectBytes}
 use Rattle.rules_object.specs.Writable.{bodyWords}
 use Rattle.rules_object.specs.Check.{right41}
-use Rattle.rules_object.specs.Calls.{accepted, writtenIf, write}
+use Rattle.rules_shared.specs.Refusals.{accepted}
+use Rattle.rules_shared.specs.Output.{writtenIf, write}
 use Rattle.rules_object.proofs.Passed.{both}
 use Rattle.rules_object.proofs.RoundTrip.{all-eight, object-length}
 use Rattle.rules_deck.specs.Trees.{Statement}

@@ -10,7 +10,7 @@ use lib.Dec.{leb, eqb}
 use lib.ListN.{length, take, drop, replicate, length-drop}
 use lib.Seq.{take-take, length-take-le}
 use borrow.Author.Tests.{lt-leb}
-use Rattle.rules_object.specs.Limits.{limits}
+use Rattle.rules_shared.specs.Limits.{limits}
 use Rattle.rules_deck.specs.Cards.{Carded, cardsRefused, rightDigits, rightLength, cardLength, carded}
 use Rattle.rules_deck.specs.Compile.{judgeRead, readCarded, deckOf, writeRead, compiling}
 use Rattle.rules_program.specs.Program.{controlOf, controlDigits, mostBytes, compiledLines, deckLines, printed}

@@ -7,10 +7,12 @@ use mathlib.Core.Option.{Option, none, some}
 use lib.Dec.{leb, eqb}
 use lib.ListN.{length, take, drop, replicate}
 use lib.IntN.{ℤ, pos}
-use Rattle.rules_object.specs.Limits.{limits}
+use Rattle.rules_shared.specs.Limits.{limits}
 use Rattle.rules_object.specs.Object.{Named, Object}
 use Rattle.rules_object.specs.Bytes.{contentsLength, readObject}
-use Rattle.rules_object.specs.Calls.{all, Ran, running, Written}
+use Rattle.rules_shared.specs.Lists.{all}
+use Rattle.rules_shared.specs.Output.{Written}
+use Rattle.rules_object.specs.Calls.{Ran, running}
 use Rattle.rules_object.specs.Safe.{freshLent}
 use Rattle.rules_deck.specs.Cards.{cardLength}
 use Rattle.rules_deck.specs.Compile.{compiling}

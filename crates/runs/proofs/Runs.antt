@@ -10,14 +10,15 @@ use lib.Dec.{ltb, leb, eqb}
 use lib.ListN.{length, take, replicate}
 use borrow.Author.Tests.{leb-true, eqb-true}
 use lib.IntN.{ℤ, pos}
-use Rattle.rules_object.specs.Limits.{limits}
+use Rattle.rules_shared.specs.Limits.{limits}
 use Rattle.rules_object.specs.Object.{Object}
 use Rattle.rules_object.specs.Machine.{State, state, fresh, step}
 use Rattle.rules_object.specs.Flow.{at}
 use Rattle.rules_object.specs.Bytes.{readObject}
 use Rattle.rules_object.specs.Check.{right41, benchStep}
 use Rattle.rules_object.specs.Safe.{NoFault, Stands}
-use Rattle.rules_object.specs.Calls.{Refusal, orElse, unless, Checked, passed, Lent, taken, right50, right51, right52, sequenceOf, runFrom, orRefused, runChecked, running, benchObject, benching}
+use Rattle.rules_shared.specs.Refusals.{Refusal, orElse, unless}
+use Rattle.rules_object.specs.Calls.{Checked, passed, Lent, taken, right50, right51, right52, sequenceOf, runFrom, orRefused, runChecked, running, benchObject, benching}
 use Rattle.rules_object.specs.Calls as book
 use Rattle.rules_object.proofs.Passed.{Passed, both, or-none, unless-none}
 use Rattle.rules_object.proofs.Accepts.{refused5}

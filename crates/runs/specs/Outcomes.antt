@@ -4,7 +4,8 @@ use mathlib.Core.Path.{_≡_}
 use mathlib.Core.List.{List}
 use Prim.Native.Nat.{ℕ}
 use lib.IntN.{ℤ}
-use Rattle.rules_object.specs.Calls.{refusal, Lent}
+use Rattle.rules_shared.specs.Refusals.{refusal}
+use Rattle.rules_object.specs.Calls.{Lent}
 use Rattle.rules_object.specs.Calls as book
 use Rattle.runs.specs.declared.Ran.{Ran}
 

@@ -7,7 +7,7 @@ use native.Mathlib.Omega.{arith}
 use mathlib.Core.Bool.{true, false}
 use mathlib.Core.List.{List, [], _∷_, _++_, map, append-nil}
 use lib.ListN.{take}
-use Rattle.rules_object.specs.Limits.{limits}
+use Rattle.rules_shared.specs.Limits.{limits}
 use Rattle.rules_object.specs.Bytes.{concat}
 use Rattle.rules_object.specs.Bytes as object
 use Rattle.rules_deck.specs.Trees.{Name, Digits, Expr, Form, assign, goTo, computed, ifs, loop, continue, stop, end, dimension}

@@ -9,7 +9,7 @@ use mathlib.Core.List.{List, []}
 use lib.Dec.{eqb, leb}
 use lib.ListN.{length, take, drop}
 use borrow.Author.Tests.{le-leb}
-use Rattle.rules_object.specs.Calls.{orElse}
+use Rattle.rules_shared.specs.Refusals.{orElse}
 use Rattle.rules_deck.specs.Trees.{Form}
 use Rattle.rules_deck.specs.Cards.{rightDigits}
 use Rattle.rules_deck.specs.Judge.{Taken, wrong, right11, right12, right13, right14, judgeForm}

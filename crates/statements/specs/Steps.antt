@@ -6,7 +6,7 @@ use mathlib.Core.Bool.{true, false, _&&_}
 use mathlib.Core.Option.{some}
 use mathlib.Core.List.{List, [], _∷_, _++_, map}
 use lib.ListN.{length, take}
-use Rattle.rules_object.specs.Limits.{limits}
+use Rattle.rules_shared.specs.Limits.{limits}
 use Rattle.rules_deck.specs.Trees.{Form, formNames, formLast}
 use Rattle.rules_deck.specs.Translation.{Held, Tables, isHidden, holds, brings, emit, tablesOf}
 use Rattle.rules_object.specs.Bytes.{concat}

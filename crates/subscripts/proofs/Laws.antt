@@ -17,7 +17,7 @@ use mir.Val.{toZ, ofZ, SFits}
 use mir.Facts.{toZ-pos}
 use Rattle.number.proofs.Whole.{back, abs-add, abs-mul-le, sfits-abs}
 use Rattle.rules_object.specs.Bytes.{signedOf}
-use Rattle.rules_object.specs.Choose.{right, below, byColumns, place, positive, allPositive}
+use Rattle.rules_shared.specs.Choose.{right, below, byColumns, place, positive, allPositive}
 use Rattle.rules_object.specs.Machine.{cell, subscriptValue, placeOf}
 use Rattle.word.specs.Word.{wordAt}
 use Rattle.object.specs.Layout.{elementAt}

@@ -2,7 +2,7 @@
 ghost use mathlib.Core.Path.{_≡_};
 ghost use Prim.Native.Nat.{_*_, _≤_};
 ghost use Rattle.rules_object.specs.Bytes.{signedOf};
-ghost use Rattle.rules_object.specs.Choose.{right, place, positive, allPositive};
+ghost use Rattle.rules_shared.specs.Choose.{right, place, positive, allPositive};
 ghost use Rattle.rules_object.specs.Machine.{subscriptValue, placeOf};
 ghost use Rattle.object.specs.Layout.{elementAt};
 ghost use Rattle.subscripts.specs.Elements.{subscriptAt, SubscriptIn, ElementIn, placeFound};

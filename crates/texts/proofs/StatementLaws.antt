@@ -9,7 +9,7 @@ use lib.Dec.{leb, eqb}
 use lib.ListN.{length, drop, length-append}
 use lib.Seq.{drop-nil, drop-drop}
 use borrow.Author.Tests.{eqb-true}
-use Rattle.rules_object.specs.Limits.{limits}
+use Rattle.rules_shared.specs.Limits.{limits}
 use Rattle.rules_deck.specs.Cards.{cardsOf, textColumns, comment, firstCard, textOf, Punched, numberOf, rightNumber, Reading, nothingRead, wrongCard, afterCard, Carded, cardsRefused, statements, cardByCard, rightDigits, rightLength, counted, carded}
 use Rattle.rules_deck.proofs.CardsLaws.{Each, also, RightStatement, Stands, as-comment, as-first, as-continuation, stands, statements-right}
 use Rattle.rules_deck.proofs.CardsGroups.{following, grouped, statements-grouped}

@@ -8,8 +8,11 @@ use lib.ListN.{length, getD, take, drop, length-drop}
 use lib.Seq.{take-all}
 use borrow.Author.Tests.{le-leb, lt-leb}
 use Rattle.rules_object.specs.Bytes.{wordsOf, bytesOf, concat, nameWords, namedOf, entries}
-use Rattle.rules_object.specs.Writable.{Each, IsByte}
-use Rattle.rules_object.specs.Calls.{accepted, write, mapOf}
+use Rattle.rules_shared.specs.Lists.{Each}
+use Rattle.rules_object.specs.Writable.{IsByte}
+use Rattle.rules_shared.specs.Refusals.{accepted}
+use Rattle.rules_shared.specs.Output.{write}
+use Rattle.rules_object.specs.Calls.{mapOf}
 use Rattle.rules_object.specs.Calls as book
 use Rattle.rules_object.proofs.Words.{each-drop, each-word, length-words, bytes-words}
 use Rattle.rules_object.proofs.RoundTrip.{flat-entries, name-forth}

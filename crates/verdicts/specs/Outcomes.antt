@@ -3,7 +3,9 @@
 use mathlib.Core.Path.{_≡_}
 use mathlib.Core.List.{List}
 use Prim.Native.Nat.{ℕ}
-use Rattle.rules_object.specs.Calls.{refusal, checking, write, mapping}
+use Rattle.rules_shared.specs.Refusals.{refusal}
+use Rattle.rules_shared.specs.Output.{write}
+use Rattle.rules_object.specs.Calls.{checking, mapping}
 use Rattle.rules_object.specs.Calls as book
 use Rattle.verdicts.specs.declared.Refusal.{Refusal}
 use Rattle.verdicts.specs.declared.Written.{Written}

@@ -6,7 +6,7 @@ use native.Mathlib.Omega.{arith}
 use mathlib.Core.Bool.{Bool, true, false, cond}
 use mathlib.Core.List.{List}
 use mathlib.Core.Option.{Option, none, some}
-use Rattle.rules_object.specs.Calls.{Refusal, orElse}
+use Rattle.rules_shared.specs.Refusals.{Refusal, orElse}
 use Rattle.rules_deck.specs.Whole.{refusedAt}
 use Rattle.rules_deck.proofs.TestLaws.{clash, else-both, not-refused}
 use Rattle.numbers.specs.declared.Found.{Found}

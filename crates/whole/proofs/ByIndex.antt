@@ -10,7 +10,7 @@ use mathlib.Core.List.{List, [], _∷_, map}
 use mathlib.Core.Option.{none, some}
 use lib.Dec.{eqb}
 use lib.ListN.{length, getD}
-use Rattle.rules_object.specs.Calls.{all}
+use Rattle.rules_shared.specs.Lists.{all}
 use Rattle.rules_deck.specs.Trees.{stop, Statement}
 use Rattle.rules_deck.specs.Deck.{positionOf, Do}
 use Rattle.rules_deck.specs.Whole.{firstWrong, inRange, depth, rightDo, firstWrongDo}

@@ -9,7 +9,7 @@ use mathlib.Core.List.{List, [], _∷_, _++_}
 use mathlib.Core.Option.{Option, none, some}
 use lib.Dec.{eqb, ltb}
 use lib.ListN.{length, getD, take}
-use Rattle.rules_object.specs.Calls.{orElse}
+use Rattle.rules_shared.specs.Refusals.{orElse}
 use Rattle.rules_deck.specs.Trees.{valueOf, Form, assign, goTo, computed, ifs, loop, continue, stop, end, dimension, Statement, formExits, formLast}
 use Rattle.rules_deck.specs.Deck.{positionOf}
 use Rattle.rules_deck.specs.Whole.{firstWrong, isEnd, endsWell, refused20, isDimension, right21, right22}

@@ -11,7 +11,7 @@ use mathlib.Core.Option.{Option, none, some}
 use lib.ListN.{length, getD, take, length-map}
 use lib.Seq.{getD-take, length-take-le, ext-getD}
 use borrow.Author.Tests.{ltb-true}
-use Rattle.rules_object.specs.Calls.{Refusal, orElse}
+use Rattle.rules_shared.specs.Refusals.{Refusal, orElse}
 use Rattle.rules_deck.specs.Trees.{Statement}
 use Rattle.rules_deck.specs.Deck.{positionOf, dosOf}
 use Rattle.rules_deck.specs.Whole.{firstWrong, refused20, right21, right22, lastOf, firstWrongDo, right24, right25, refusedAt, judgeDeck}

@@ -5,8 +5,8 @@ use Prim.Native.Nat.{ℕ, suc, _≤_, _<_}
 use mathlib.Core.List.{List}
 use mathlib.Core.Option.{Option, none, some}
 use lib.ListN.{length, getD}
-use Rattle.rules_object.specs.Limits.{limits}
-use Rattle.rules_object.specs.Calls.{Refusal, orElse}
+use Rattle.rules_shared.specs.Limits.{limits}
+use Rattle.rules_shared.specs.Refusals.{Refusal, orElse}
 use Rattle.rules_deck.specs.Whole.{refusedAt}
 use Rattle.numbers.specs.declared.Found.{Found}
 use Rattle.numbers.specs.Rows.{firstFrom, foundOf, startOf, positionIn, misplacedEnd, numberRight, jumpsKnown}

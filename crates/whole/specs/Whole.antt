@@ -5,8 +5,8 @@ use Prim.Native.Nat.{ℕ, _*_, _≤_}
 use mathlib.Core.List.{List, map}
 use mathlib.Core.Option.{Option, none, some}
 use lib.ListN.{length, take}
-use Rattle.rules_object.specs.Limits.{limits}
-use Rattle.rules_object.specs.Calls.{Refusal, refusal}
+use Rattle.rules_shared.specs.Limits.{limits}
+use Rattle.rules_shared.specs.Refusals.{Refusal, refusal}
 use Rattle.rules_deck.specs.Trees.{Statement}
 use Rattle.rules_deck.specs.Deck.{positionOf}
 use Rattle.rules_deck.specs.Whole.{formSets, judgeDeck}

@@ -3,7 +3,7 @@ ghost use mathlib.Core.Path.{_≡_};
 ghost use mathlib.Core.List.{List};
 ghost use Prim.Native.Nat.{_*_, _≤_};
 ghost use lib.ListN.{length};
-ghost use Rattle.rules_object.specs.Calls.{orElse};
+ghost use Rattle.rules_shared.specs.Refusals.{orElse};
 ghost use Rattle.rules_deck.specs.Trees.{Statement};
 ghost use Rattle.rules_deck.specs.Whole.{refusedAt};
 ghost use Rattle.numbers.specs.Rows.{startOf, foundOf};

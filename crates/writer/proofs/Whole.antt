@@ -8,7 +8,7 @@ use lib.ListN.{length, take, drop, length-append}
 use borrow.Author.Tests.{le-leb, lt-leb}
 use borrow.Rule.Slice.PartMut.{putMid}
 use Rattle.rules_object.specs.Bytes.{bytesOf, concat}
-use Rattle.rules_object.specs.Calls.{write}
+use Rattle.rules_shared.specs.Output.{write}
 use Rattle.rules_object.proofs.Words.{length-bytes}
 use Rattle.writer.proofs.Over.{over}
 use Rattle.writer.specs.Bodies.{wordsOfBodies, contentsWords}

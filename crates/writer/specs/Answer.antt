@@ -2,7 +2,8 @@
 -- Assumes nothing.
 use Prim.Native.Nat.{ℕ, _^_, _<_}
 use mathlib.Core.List.{List}
-use Rattle.rules_object.specs.Calls.{Written, refusal, accepted, notWritten}
+use Rattle.rules_shared.specs.Refusals.{refusal, accepted}
+use Rattle.rules_shared.specs.Output.{Written, notWritten}
 use Rattle.writer.specs.declared.Wrote.{Wrote}
 use Rattle.writer.specs.declared.Wrote.the-variants.{Bytes, Short}
 

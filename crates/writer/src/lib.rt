@@ -4,7 +4,7 @@ ghost use Prim.Native.Nat.{_+_, _*_, _^_, _≤_, _<_};
 ghost use mathlib.Core.List.{_++_};
 ghost use lib.ListN.{length, take};
 ghost use Rattle.rules_object.specs.Bytes.{bytesOf, concat};
-ghost use Rattle.rules_object.specs.Calls.{write};
+ghost use Rattle.rules_shared.specs.Output.{write};
 ghost use Rattle.writer.specs.Bodies.{contentsWords, wordsOfBodies};
 ghost use Rattle.writer.specs.Counts.{total, counts, Within, firstWords};
 ghost use Rattle.writer.specs.Answer.{answer, Low};

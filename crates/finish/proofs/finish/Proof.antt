@@ -3,7 +3,7 @@ use mathlib.Core.Path.{sym, ap, _∙_}
 use mathlib.Core.List.{List}
 use Prim.Native.Nat.{ℕ}
 use native.Mathlib.Omega.{arith}
-use Rattle.rules_object.specs.Calls.{write}
+use Rattle.rules_shared.specs.Output.{write}
 use Rattle.finish.proofs.Bodies.{bytes-are, judged, settling, leading, listing, fits}
 use borrow.Author.Needs.{needs}
 use Rattle.finish.proofs.finish.Statement.{statement}

@@ -3,7 +3,7 @@ use mathlib.Core.Path.{_≡_, refl, sym, ap, _∙_}
 use Prim.Native.Nat.{_-_, _≤_}
 use native.Mathlib.Omega.{arith}
 use borrow.Author.Tests.{not-true, not-false}
-use Rattle.rules_object.specs.Calls.{atEntry}
+use Rattle.rules_shared.specs.Refusals.{atEntry}
 use Rattle.object.specs.Layout.{objectAt}
 use Rattle.judge.specs.Judge.{refusalOf, passes, firstFrom}
 use Rattle.judge.proofs.Firsts.{first-starts, first-more, first-stops, first-ends}

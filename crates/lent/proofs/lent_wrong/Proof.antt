@@ -2,7 +2,7 @@
 use mathlib.Core.Path.{sym, ap, _∙_}
 use mathlib.Core.Bool.{Bool}
 use lib.ListN.{take}
-use Rattle.rules_object.specs.Calls.{unless}
+use Rattle.rules_shared.specs.Refusals.{unless}
 use Rattle.object.specs.Layout.{objectAt}
 use Rattle.lent.specs.Lending.{lent}
 use Rattle.lent.proofs.Lent.{first-store, then-state}

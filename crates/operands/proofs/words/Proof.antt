@@ -3,7 +3,8 @@ use mathlib.Core.Path.{_≡_, refl, sym, ap, _∙_}
 use Prim.Native.Nat.{_-_, _≤_}
 use native.Mathlib.Omega.{arith}
 use borrow.Author.Tests.{not-true, not-false}
-use Rattle.rules_object.specs.Calls.{atEntry, refused43}
+use Rattle.rules_shared.specs.Refusals.{atEntry}
+use Rattle.rules_object.specs.Calls.{refused43}
 use Rattle.judge.specs.Judge.{refusalOf, firstFrom}
 use Rattle.object.proofs.Entries.{code-inside}
 use Rattle.operands.proofs.Tests.{wordTest, words-are, word-test}

@@ -9,7 +9,7 @@ use mir.Facts.{toZ-ofZ}
 use Rattle.rules_object.specs.Machine.{cell}
 use Rattle.word.specs.Word.{wordAt}
 use borrow.Author.Tests.{not-true, not-false}
-use Rattle.rules_object.specs.Choose.{positive}
+use Rattle.rules_shared.specs.Choose.{positive}
 use Rattle.operations.proofs.Laws.{chosen-low, chosen-far, chosen-some}
 use Rattle.arithmetic.specs.Performed.{next, regs, branched}
 use borrow.Author.Needs.{needs}

@@ -4,7 +4,7 @@ use mir.Syntax.{w64}
 use mir.Facts.{toZ-ofZ}
 use Rattle.rules_object.specs.Machine.{cell}
 use borrow.Author.Tests.{not-true, not-false}
-use Rattle.rules_object.specs.Choose.{positive}
+use Rattle.rules_shared.specs.Choose.{positive}
 use Rattle.operations.proofs.Laws.{turn-fits, turn-no, turn-again, turn-over}
 use borrow.Author.Needs.{needs}
 use Rattle.operations.proofs.do_doe.Statement.{statement}

@@ -8,7 +8,7 @@ use mir.Val.{toZ, ofZ}
 use mir.Facts.{toZ-ofZ}
 use Rattle.rules_object.specs.Machine.{cell}
 use borrow.Author.Tests.{not-true, not-false}
-use Rattle.rules_object.specs.Choose.{allPositive}
+use Rattle.rules_shared.specs.Choose.{allPositive}
 use Rattle.object.specs.Layout.{loopAt}
 use Rattle.operations.proofs.Laws.{sets-alike}
 use Rattle.arithmetic.specs.Performed.{next, regs, begun}

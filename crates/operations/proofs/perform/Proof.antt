@@ -9,7 +9,7 @@ use Rattle.rules_object.specs.Machine.{cell}
 use Prim.Native.Nat.{ℕ}
 use mir.Facts.{toZ-pos}
 use Rattle.number.specs.Number.{value, keep, drops, apply, kept}
-use Rattle.rules_object.specs.Choose.{positive, allPositive}
+use Rattle.rules_shared.specs.Choose.{positive, allPositive}
 use Rattle.rules_object.specs.Machine.{meant, ruleOf, placeOf}
 use Rattle.object.specs.Layout.{elementAt, loopAt, objectAt}
 use Rattle.operations.proofs.Known.{is-ceiling, two, small, con-in, con-is, con-whole, con-small, lod-in, sto-in, element-is, lde-in, ste-in, loop-is, doi-in, doe-in, br3-in, br3-whole, br3-is, brc-in, brc-whole, brc-is, rest-halts}

@@ -2,7 +2,7 @@
 use Prim.Native.Nat.{ℕ}
 use mathlib.Core.Path.{ap, _∙_}
 use mathlib.Core.List.{List}
-use Rattle.rules_object.specs.Calls.{Written}
+use Rattle.rules_shared.specs.Output.{Written}
 use Rattle.rules_deck.specs.Compile.{compiling}
 use Rattle.rules_program.specs.Program.{compiledLines}
 use Rattle.printing.proofs.PutLaws.{puts-as}

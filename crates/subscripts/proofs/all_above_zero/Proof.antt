@@ -2,7 +2,7 @@
 use mathlib.Core.Path.{sym, ap, _∙_}
 use mir.Facts.{toZ-ofZ}
 use borrow.Author.Tests.{not-true, not-false}
-use Rattle.rules_object.specs.Choose.{positive}
+use Rattle.rules_shared.specs.Choose.{positive}
 use Rattle.subscripts.proofs.Laws.{all-first, all-second, all-third}
 use borrow.Author.Needs.{needs}
 use Rattle.subscripts.proofs.all_above_zero.Statement.{statement}

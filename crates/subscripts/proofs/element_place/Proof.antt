@@ -3,7 +3,7 @@ use mathlib.Core.Path.{sym, ap₂, _∙_, subst}
 use Prim.Native.Nat.{_+_, _*_, _≤_}
 use mir.Syntax.{w64}
 use mir.Val.{toZ, ofZ}
-use Rattle.rules_object.specs.Choose.{place}
+use Rattle.rules_shared.specs.Choose.{place}
 use Rattle.subscripts.proofs.Laws.{subscript-back, element-alike}
 use borrow.Author.Needs.{needs}
 use Rattle.subscripts.proofs.element_place.Statement.{statement}

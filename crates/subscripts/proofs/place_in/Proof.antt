@@ -2,7 +2,7 @@
 use mathlib.Core.Path.{sym, ap, _∙_}
 use native.Mathlib.Omega.{arith}
 use mir.Facts.{toZ-ofZ}
-use Rattle.rules_object.specs.Choose.{right}
+use Rattle.rules_shared.specs.Choose.{right}
 use Rattle.subscripts.proofs.Laws.{place-none, place-none-2, place-some, right-below, columns-below}
 use Rattle.subscripts.specs.Elements.{placeFound}
 use borrow.Author.Needs.{needs}

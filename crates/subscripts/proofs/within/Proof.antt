@@ -5,7 +5,7 @@ use native.Mathlib.Omega.{arith}
 use lib.IntN.{natAbs}
 use mir.Facts.{toZ-ofZ}
 use borrow.Author.Tests.{not-true, not-false}
-use Rattle.rules_object.specs.Choose.{positive}
+use Rattle.rules_shared.specs.Choose.{positive}
 use Rattle.subscripts.proofs.Laws.{right-none, right-some, right-far, positive-size}
 use borrow.Author.Needs.{needs}
 use Rattle.subscripts.proofs.within.Statement.{statement}

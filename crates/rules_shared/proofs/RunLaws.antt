@@ -5,7 +5,7 @@ use Prim.Native.Nat.{ℕ, zero, suc, _+_, _-_, _≤_, _<_}
 use native.Mathlib.Nat.{suc-add, zero-add, lt-of-not-le}
 use native.Mathlib.Decide.{decLe}
 use native.Mathlib.Omega.{arith}
-use Rattle.rules_object.specs.Runs.{Halt, Out, go, halt, then, run, stepsFrom, steps}
+use Rattle.rules_shared.specs.Runs.{Halt, Out, go, halt, then, run, stepsFrom, steps}
 
 -- ---- one outcome is not another
 

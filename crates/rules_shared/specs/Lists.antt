@@ -1,0 +1,20 @@
+-- A test and a predicate of every entry of a list, and the first entry that fails a test.
+-- Assumes nothing.
+use Prim.Native.Nat.{ℕ, suc}
+use mathlib.Core.Bool.{Bool, true, _&&_, cond}
+use mathlib.Core.List.{List, [], _∷_}
+use mathlib.Core.Option.{Option, none, some}
+
+-- the first entry that fails the test, counted from n
+abbrev pub firstBad : {A : Type 0} → (A → Bool) → List A → ℕ → Option ℕ
+firstBad test [] n = none
+firstBad test (a ∷ more) n = cond (test a) (firstBad test more (suc n)) (some n)
+
+abbrev pub all : {A : Type 0} → (A → Bool) → List A → Bool
+all test [] = true
+all test (a ∷ more) = test a && all test more
+
+-- a predicate of every element
+abbrev pub Each : {A : Type 0} → (A → Type 0) → List A → Type 0
+Each P [] = Unit {0}
+Each P (x ∷ xs) = P x × Each P xs
