@@ -10,7 +10,7 @@ use mathlib.Core.List.{List, [], _∷_}
 use mathlib.Core.Option.{some}
 use lib.ListN.{getElem?}
 use lib.IntN.{ℤ}
-use Rattle.rules_shared.specs.Runs.{Halt, Out, go, halt, run, steps}
+use Rattle.rules_shared.specs.Runs.{Out, go, halt, run, steps}
 use Rattle.rules_shared.specs.Choose.{positive}
 use Rattle.rules_object.specs.Object.{Object}
 use Rattle.rules_object.specs.Bytes.{readObject}
@@ -24,11 +24,11 @@ use Rattle.rules_object.proofs.Refusals.{from-accepts}
 use Rattle.rules_object.specs.Safe.{freshLent}
 use Rattle.rules_deck.specs.Trees.{Name, Statement, formNames}
 use Rattle.rules_deck.specs.Deck.{Do, sameName, Dims, dimsIn, dimsOf, endings}
-use Rattle.rules_deck.specs.Meaning.{plain, bounds, Standing, meaning}
+use Rattle.rules_deck.specs.Meaning.{Cause, plain, bounds, Standing, meaning}
 use Rattle.rules_deck.specs.Translation.{Held, name, array, hidden, isArray, holds, cellOf, baseOf, heldOf, namesFrom, translate}
 use Rattle.rules_deck.specs.Accepted.{Among}
 use Rattle.rules_deck.specs.Cells.{key, Has, Holds, SameMark}
-use Rattle.rules_deck.specs.Seen.{statementsOf, meaningOf, namesIn, deckNames, deckDims, deckLevels, namedValues, rightStoreOf, rightStore, series, sum}
+use Rattle.rules_deck.specs.Seen.{statementsOf, meaningOf, haltOf, namesIn, deckNames, deckDims, deckLevels, namedValues, rightStoreOf, rightStore, series, sum}
 use Rattle.rules_deck.proofs.TestLaws.{among-append}
 use Rattle.rules_deck.proofs.MapNames.{entryOf, noDims}
 use Rattle.rules_deck.proofs.ArrayLaws.{arraysHeld, arrays-held}
@@ -85,11 +85,11 @@ module _ {k : ℕ} {deck object : List ℕ} (m : Made k deck object) (store : Li
   means n = ap (λ r. meaning (record { digits = k }) (statementsOf r) (namedValues object store) n) (m .reads)
 
   -- a halted machine's answer is as the standing says
-  alike : (a : ℕ) (h : Halt) (t : State) (s : Standing) → run (step o) a (fresh store) ≡ halt h t → Holds (heldOf (m .statements)) (s .values) (t .store) → SameMark (m .statements) (s .lost) (t .mark)
+  alike : (a : ℕ) (h : Cause) (t : State) (s : Standing) → run (step o) a (fresh store) ≡ halt (haltOf h) t → Holds (heldOf (m .statements)) (s .values) (t .store) → SameMark (m .statements) (s .lost) (t .mark)
       → (r : Ran) → Same r (running object store freshLent a) → Alike object h s r
   unfolding translate
   alike a h t s e v w r same =
-      let q : running object store freshLent a ≡ ran o (steps (step o) a (fresh store)) (halt h t) = runs a ∙ ap (ran o (steps (step o) a (fresh store))) e in
+      let q : running object store freshLent a ≡ ran o (steps (step o) a (fresh store)) (halt (haltOf h) t) = runs a ∙ ap (ran o (steps (step o) a (fresh store))) e in
       record {
         accepts = same .refusal ∙ ap (λ x. x .refusal) q;
         halts = same .halt ∙ ap (λ x. x .halt) q;
@@ -118,7 +118,7 @@ module _ {k : ℕ} {deck object : List ℕ} (m : Made k deck object) (store : Li
       by (go t) e = absurd (other (same .halt ∙ ap (λ x. x .halt) (runs m store stored a ∙ ap (ran (translate k (m .statements)) (steps (step (translate k (m .statements))) a (fresh store))) e)))
       by (halt h t) e =
           let x = halts-meant k (m .statements) (sound (right m)) (namedValues object store) store (starting m store stored) a h t e in
-          record { count = x .count; how = h; end = x .at; halts = means m store stored (x .count) ∙ x .halted; alike = alike m store stored a h t (x .at) e (x .values) (x .mark) r same }
+          record { count = x .count; how = x .how; end = x .at; halts = means m store stored (x .count) ∙ x .halted; alike = alike m store stored a (x .how) t (x .at) (e ∙ ap (λ i. halt i t) (sym (x .told))) (x .values) (x .mark) r same }
 
 pub means-kept : MeansAlike
 means-kept k deck object store c stored allowances words other =

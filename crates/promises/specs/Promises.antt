@@ -10,7 +10,7 @@ use mathlib.Core.Option.{none, some}
 use lib.ListN.{length, getElem?}
 use lib.IntN.{ℤ}
 use Rattle.rules_shared.specs.Limits.{limits}
-use Rattle.rules_shared.specs.Runs.{Halt, haltNumber, go, halt, run}
+use Rattle.rules_shared.specs.Runs.{haltNumber, go, halt, run}
 use Rattle.rules_shared.specs.Choose.{positive}
 use Rattle.rules_object.specs.Object.{Named, Object}
 use Rattle.rules_object.specs.Bytes.{objectBytes, readObject}
@@ -28,11 +28,11 @@ use Rattle.rules_object.specs.Small.{HLT, CON, ADD, JMP, object, plain}
 use Rattle.rules_deck.specs.Trees.{Name, Statement}
 use Rattle.rules_deck.specs.Deck.{Do, endings}
 use Rattle.rules_deck.specs.Grammar.{readings}
-use Rattle.rules_deck.specs.Meaning.{Key, bounds, Standing}
+use Rattle.rules_deck.specs.Meaning.{Cause, Key, bounds, Standing}
 use Rattle.rules_deck.specs.Translation.{filled}
 use Rattle.rules_deck.specs.Compile.{deckOf, compiling}
 use Rattle.rules_deck.specs.Accepted.{Among}
-use Rattle.rules_deck.specs.Seen.{statementsOf, meaningOf, deckNames, deckDims, deckLevels, objectIn, namedCell, namedValues, rightStore, series, sum}
+use Rattle.rules_deck.specs.Seen.{statementsOf, meaningOf, haltOf, deckNames, deckDims, deckLevels, objectIn, namedCell, namedValues, rightStore, series, sum}
 use Rattle.rules_deck.specs.Worked.{decks, DecksRight}
 
 -- compiling the deck with k digits gives the object
@@ -43,23 +43,23 @@ pub record Compiled (k : ℕ) (deck object : List ℕ) : Type 0 where
 
 -- ---- 1, 2. A run halts as the deck means: same halt, same named values, same first statement that lost digits
 
-pub record Alike (object : List ℕ) (h : Halt) (m : Standing) (r : Ran) : Type 0 where
+pub record Alike (object : List ℕ) (h : Cause) (m : Standing) (r : Ran) : Type 0 where
   pub accepts : r .refusal ≡ accepted
-  pub halts : r .halt ≡ haltNumber h
+  pub halts : r .halt ≡ haltNumber (haltOf h)
   pub values : (x : Key) (c : ℕ) → namedCell object x ≡ some c → cell (r .store) c ≡ m .values x
   pub lost : r .sequence ≡ m .lost
 
 -- If the meaning, which starts from the named values alone, halts, then runs one after the other that are long enough together halt alike.
 abbrev pub HaltsAlike : Type 0
 HaltsAlike =
-    (k : ℕ) (deck object : List ℕ) (store : List ℤ) → Compiled k deck object → rightStore object store ≡ true → (n : ℕ) (h : Halt) (m : Standing) →
+    (k : ℕ) (deck object : List ℕ) (store : List ℤ) → Compiled k deck object → rightStore object store ≡ true → (n : ℕ) (h : Cause) (m : Standing) →
     meaningOf k deck (namedValues object store) n ≡ halt h m →
     (enough : ℕ) × ((allowances : List ℕ) → Each IsWord allowances → enough ≤ sum allowances → Alike object h m (series object store freshLent allowances))
 
 -- the meaning halts, and the run with it
 pub record Meant (k : ℕ) (deck object : List ℕ) (store : List ℤ) (r : Ran) : Type 0 where
   pub count : ℕ
-  pub how : Halt
+  pub how : Cause
   pub end : Standing
   pub halts : meaningOf k deck (namedValues object store) count ≡ halt how end
   pub alike : Alike object how end r
@@ -74,7 +74,7 @@ MeansAlike =
 abbrev pub NeverHalts : Type 0
 NeverHalts =
     (k : ℕ) (deck object : List ℕ) (store : List ℤ) → Compiled k deck object → rightStore object store ≡ true →
-    ((n : ℕ) (h : Halt) (m : Standing) → meaningOf k deck (namedValues object store) n ≡ halt h m → ⊥) →
+    ((n : ℕ) (h : Cause) (m : Standing) → meaningOf k deck (namedValues object store) n ≡ halt h m → ⊥) →
     (allowances : List ℕ) → Each IsWord allowances → series object store freshLent allowances .halt ≡ 2
 
 -- A DO's end is reached only after its DO, with a step above 0: so nothing depends on what hidden cells held at the start.

@@ -8,19 +8,20 @@ use mathlib.Core.List.{List, [], _∷_, map}
 use mathlib.Core.Option.{some}
 use lib.ListN.{length, getElem?}
 use lib.IntN.{ℤ}
-use Rattle.rules_shared.specs.Runs.{Halt, Out, go, halt}
+use Rattle.rules_shared.specs.Runs.{Outcome, go, halt}
 use Rattle.rules_shared.specs.Choose.{positive, Turn, again, over, turn}
 use Rattle.rules_object.specs.Machine.{DOE, State, state}
 use Rattle.rules_object.specs.Machine
 use Rattle.rules_deck.specs.Trees.{cell, Statement}
 use Rattle.rules_deck.specs.Deck.{Do, dosOf}
-use Rattle.rules_deck.specs.Meaning.{plain, Values, Bounds, Standing, standing, turned, endOf, finish}
+use Rattle.rules_deck.specs.Meaning.{Cause, plain, Values, Bounds, Standing, standing, turned, endOf, finish}
 use Rattle.rules_deck.specs.Cost.{turnedSteps, endSteps, finishSteps}
 use Rattle.rules_deck.specs.Translation.{heldOf, addressAt, loopEntry, doInstr, codeOf}
 use Rattle.rules_deck.specs.Whole.{lastOf}
 use Rattle.rules_deck.specs.Accepted.{Among, here, there}
 use Rattle.rules_deck.specs.Cells.{key, limit, Has, Holds, SameMark}
 use Rattle.rules_deck.specs.Sound.{Sound}
+use Rattle.rules_deck.specs.Seen.{haltOf}
 use Rattle.rules_deck.proofs.CellLaws.{holds-put}
 use Rattle.rules_deck.proofs.DeckCells.{variable-has}
 use Rattle.rules_deck.proofs.Addresses.{At, at-head, at-tail}
@@ -29,14 +30,14 @@ use Rattle.rules_deck.proofs.MachineRuns.{ruled, Runs, stay, and-then, 
 use Rattle.rules_deck.proofs.Standings.{Bound, Inside, Stands, inside-put, inside-body}
 
 -- From machine state t, inside the statement at j₀, the machine comes to what the meaning comes to, in n steps, which are no more than the statement has words from there.
-pub data Sim (k : ℕ) (deck : List Statement) (j₀ : ℕ) (t : State) (n : ℕ) : Out Standing → Type 0 where
+pub data Sim (k : ℕ) (deck : List Statement) (j₀ : ℕ) (t : State) (n : ℕ) : Outcome Cause Standing → Type 0 where
   goes : {j lost m : ℕ} {env : Values} {inside : ℕ → Bounds} {c : List ℤ} → Runs k deck n t (go (state (addressAt deck j) [] c m)) → t .index + n ≤ addressAt deck (suc j₀)
       → Stands deck j env inside lost c m → (zero < n) ⊎ (j ≡ suc j₀) → Sim k deck j₀ t n (go (standing j env inside lost))
-  halts : {h : Halt} {j lost p m : ℕ} {env : Values} {inside : ℕ → Bounds} {s c : List ℤ} → Runs k deck n t (halt h (state p s c m)) → t .index + n ≤ addressAt deck (suc j₀)
+  halts : {h : Cause} {j lost p m : ℕ} {env : Values} {inside : ℕ → Bounds} {s c : List ℤ} → Runs k deck n t (halt (haltOf h) (state p s c m)) → t .index + n ≤ addressAt deck (suc j₀)
       → Holds (heldOf deck) env c → SameMark deck lost m → Sim k deck j₀ t n (halt h (standing j env inside lost))
 
 -- some steps first
-pub first : {k : ℕ} {deck : List Statement} {j n n₂ : ℕ} {s t : State} {o : Out Standing} → Runs k deck n s (go t) → s .index + n ≡ t .index → Sim k deck j t n₂ o → Sim k deck j s (n + n₂) o
+pub first : {k : ℕ} {deck : List Statement} {j n n₂ : ℕ} {s t : State} {o : Outcome Cause Standing} → Runs k deck n s (go t) → s .index + n ≡ t .index → Sim k deck j t n₂ o → Sim k deck j s (n + n₂) o
 first r e (goes r′ l st (inl z)) = goes (and-then r r′) (omega arith) st (inl (omega arith))
 first r e (goes r′ l st (inr q)) = goes (and-then r r′) (omega arith) st (inr q)
 first r e (halts r′ l h m) = halts (and-then r r′) (omega arith) h m
@@ -55,7 +56,7 @@ pub record Ready (deck : List Statement) (j : ℕ) (env : Values) (inside : ℕ 
   pub more : suc j < length deck
 
 module _ (k : ℕ) {deck : List Statement} (sound : Sound deck) {j lost m : ℕ} {env : Values} {inside : ℕ → Bounds} {c : List ℤ} (r : Ready deck j env inside lost c m) where
-  turn-sim : (d : Do) (u : Turn) {p n : ℕ} {o : Out Standing} → Ending deck j d → getElem? (codeOf deck) p ≡ some (doInstr deck DOE d) → p < addressAt deck (suc j)
+  turn-sim : (d : Do) (u : Turn) {p n : ℕ} {o : Outcome Cause Standing} → Ending deck j d → getElem? (codeOf deck) p ≡ some (doInstr deck DOE d) → p < addressAt deck (suc j)
       → Machine.act (ruled k) (doInstr deck DOE d) (state p [] c m) ≡ Machine.turned u (loopEntry deck d) (state p [] c m)
       → Sim k deck j (state (suc p) [] c m) n o → Sim k deck j (state p [] c m) (turnedSteps u n) (turned u d j env inside lost o)
   turn-sim d (again i) {p} w a l e o =

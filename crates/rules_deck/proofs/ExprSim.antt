@@ -9,15 +9,16 @@ use mathlib.Core.Option.{Option, none, some}
 use lib.ListN.{length, getElem?, length-append}
 use lib.IntN.{ℤ, pos, _+ℤ_, _*ℤ_, zero-*ℤ, +ℤ-idl}
 use Rattle.number.specs.Number.{Op, Result, value, byZero, apply}
-use Rattle.rules_shared.specs.Runs.{Halt, go, halt}
+use Rattle.rules_shared.specs.Runs.{go, halt}
 use Rattle.rules_object.specs.Machine.{Instr, LDE, OP, NEG, state, cell, subscriptValue, placeOf, elementLoaded, operated}
 use Rattle.rules_deck.specs.Trees.{Name, valueOf, Subscript, constant, linear, Subscripts, one, two, subscriptNames, subscriptsNames, Expr, con, var, elm, neg, par, bin, Statement}
 use Rattle.rules_deck.specs.Deck.{dimsOf}
-use Rattle.rules_deck.specs.Meaning.{plain, elementAt, Values, Evaluated, val, bad, subscript, placeIn, elementValue, after, negated, joined, eval}
+use Rattle.rules_deck.specs.Meaning.{Cause, plain, elementAt, Values, Evaluated, val, bad, subscript, placeIn, elementValue, after, negated, joined, eval}
 use Rattle.rules_deck.specs.Cost.{andOne, joinedSteps, exprSteps}
 use Rattle.rules_deck.specs.Translation.{Held, baseOf, heldOf, exprPlain, subscriptEntry, elementEntry, exprCode, codeOf}
 use Rattle.rules_deck.specs.Accepted.{Among, here, Fitting}
 use Rattle.rules_deck.specs.Cells.{key, Has, Holds}
+use Rattle.rules_deck.specs.Seen.{haltOf}
 use Rattle.rules_deck.proofs.Addresses.{At, at-head, at-left, at-right}
 use Rattle.rules_deck.proofs.DeckCells.{among-left, among-right, element-has}
 use Rattle.rules_deck.proofs.Marks.{Marked, quiet, widen, marked-then, marked-one}
@@ -36,7 +37,7 @@ known-right l k = record { has = λ v a. k .has v (among-right l a) }
 -- The code from `pc` up to `pc′` pushes the value, in as many steps as it has words; or some of it leads to the halt. In n steps.
 pub data Gives (k : ℕ) (deck : List Statement) (pc pc′ : ℕ) (s c : List ℤ) (m n : ℕ) : Evaluated → Type 0 where
   gives : {v : ℤ} {b : Bool} {m′ : ℕ} → Runs k deck n (state pc s c m) (go (state pc′ (v ∷ s) c m′)) → pc + n ≡ pc′ → Marked pc pc′ m m′ b → Gives k deck pc pc′ s c m n (val v b)
-  stops : {h : Halt} {b : Bool} {p m′ : ℕ} {s′ : List ℤ} → Runs k deck n (state pc s c m) (halt h (state p s′ c m′)) → pc + n ≤ pc′ → Marked pc pc′ m m′ b → Gives k deck pc pc′ s c m n (bad h b)
+  stops : {h : Cause} {b : Bool} {p m′ : ℕ} {s′ : List ℤ} → Runs k deck n (state pc s c m) (halt (haltOf h) (state p s′ c m′)) → pc + n ≤ pc′ → Marked pc pc′ m m′ b → Gives k deck pc pc′ s c m n (bad h b)
 
 module _ {k : ℕ} {deck : List Statement} (fit : Fitting deck) {pc p₂ m : ℕ} {s c : List ℤ} where
   opGives : (r : Result) {n m₂ : ℕ} {v w : ℤ} {d : Bool} → pc ≤ p₂ → Runs k deck n (state pc s c m) (go (state p₂ (w ∷ v ∷ s) c m₂)) → pc + n ≡ p₂ → Marked pc p₂ m m₂ d

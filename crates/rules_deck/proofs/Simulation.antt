@@ -10,19 +10,20 @@ use mathlib.Core.List.{List, [], _∷_}
 use mathlib.Core.Option.{some}
 use lib.ListN.{length, getElem?}
 use lib.IntN.{ℤ}
-use Rattle.rules_shared.specs.Runs.{Halt, Out, go, halt, then, run, stepsFrom, steps}
+use Rattle.rules_shared.specs.Runs.{Outcome, Halt, Out, go, halt, then, run, stepsFrom, steps}
 use Rattle.rules_shared.specs.Choose.{positive}
 use Rattle.rules_object.specs.Machine.{State, state, fresh, step}
 use Rattle.rules_shared.proofs.RunLaws.{halt-same, Steps, one, last, more, same-halt, onward, steps-more, steps-most}
 use Rattle.rules_deck.specs.Trees.{Statement}
 use Rattle.rules_deck.specs.Deck.{Do, endings}
-use Rattle.rules_deck.specs.Meaning.{Values, Bounds, notEntered, bounds, Standing, standing, begin, meaningStep, meaning}
+use Rattle.rules_deck.specs.Meaning.{Cause, Values, Bounds, notEntered, bounds, Standing, standing, begin, meaningStep, meaning}
 use Rattle.rules_deck.specs.Cost.{meaningSteps}
 use Rattle.rules_deck.specs.Translation.{heldOf, addressAt, translate}
 use Rattle.rules_deck.specs.Whole.{endsWell, lastOf}
 use Rattle.rules_deck.specs.Cells.{Holds, SameMark, unmarked}
 use Rattle.rules_deck.specs.Accepted.{Among}
 use Rattle.rules_deck.specs.Sound.{Sound}
+use Rattle.rules_deck.specs.Seen.{haltOf}
 use Rattle.rules_deck.proofs.DoLaws.{among-endings}
 use Rattle.rules_deck.proofs.Addresses.{address-zero}
 use Rattle.rules_deck.proofs.MachineRuns.{ruled, Runs, stay, and-then}
@@ -33,18 +34,18 @@ use Rattle.rules_deck.proofs.StatementSim.{step-sim}
 -- ---- forward
 
 -- n steps of the machine from t come to what the meaning comes to
-data Comes (k : ℕ) (deck : List Statement) (t : State) (n : ℕ) : Out Standing → Type 0 where
+data Comes (k : ℕ) (deck : List Statement) (t : State) (n : ℕ) : Outcome Cause Standing → Type 0 where
   going : {j lost m : ℕ} {env : Values} {inside : ℕ → Bounds} {c : List ℤ} → Runs k deck n t (go (state (addressAt deck j) [] c m)) → Stands deck j env inside lost c m
       → Comes k deck t n (go (standing j env inside lost))
-  ended : {h : Halt} {j lost p m : ℕ} {env : Values} {inside : ℕ → Bounds} {s c : List ℤ} → Runs k deck n t (halt h (state p s c m)) → Holds (heldOf deck) env c → SameMark deck lost m
+  ended : {h : Cause} {j lost p m : ℕ} {env : Values} {inside : ℕ → Bounds} {s c : List ℤ} → Runs k deck n t (halt (haltOf h) (state p s c m)) → Holds (heldOf deck) env c → SameMark deck lost m
       → Comes k deck t n (halt h (standing j env inside lost))
 
 module _ {k : ℕ} {deck : List Statement} where
-  after-run : {a b : ℕ} {s t : State} {o : Out Standing} → Runs k deck a s (go t) → Comes k deck t b o → Comes k deck s (a + b) o
+  after-run : {a b : ℕ} {s t : State} {o : Outcome Cause Standing} → Runs k deck a s (go t) → Comes k deck t b o → Comes k deck s (a + b) o
   after-run r (going p st) = going (and-then r p) st
   after-run r (ended p h m) = ended (and-then r p) h m
 
-  then-comes : {j n : ℕ} {t : State} {o : Out Standing} (f : Standing → Out Standing) (g : Standing → ℕ) → Sim k deck j t n o
+  then-comes : {j n : ℕ} {t : State} {o : Outcome Cause Standing} (f : Standing → Outcome Cause Standing) (g : Standing → ℕ) → Sim k deck j t n o
       → ((j lost m : ℕ) (env : Values) (inside : ℕ → Bounds) (c : List ℤ) → Stands deck j env inside lost c m
       → Comes k deck (state (addressAt deck j) [] c m) (g (standing j env inside lost)) (f (standing j env inside lost)))
       → Comes k deck t (n + stepsFrom o g) (then o f)
@@ -62,7 +63,7 @@ comes k {deck} sound (suc n) j lost m env inside c st =
 
 record Halts (k : ℕ) (deck : List Statement) (s : Standing) : Type 0 where
   count : ℕ
-  how : Halt
+  how : Cause
   at : Standing
   is : Steps (meaningStep (ruled k) deck) count s (halt how at)
 
@@ -74,7 +75,7 @@ fewer₂ : (L N n r j j′ F : ℕ) → N ≡ n + r → j′ ≡ suc j → j < L
 fewer₂ L N n r j j′ F e p l b = omega (arith, ap (λ x. x * suc L) e)
 
 module _ {k : ℕ} {deck : List Statement} where
-  back-step : {j N F lost n : ℕ} {env : Values} {inside : ℕ → Bounds} {t t′ : State} {h : Halt} {o : Out Standing} → meaningStep (ruled k) deck (standing j env inside lost) ≡ o → j < length deck
+  back-step : {j N F lost n : ℕ} {env : Values} {inside : ℕ → Bounds} {t t′ : State} {h : Halt} {o : Outcome Cause Standing} → meaningStep (ruled k) deck (standing j env inside lost) ≡ o → j < length deck
       → N * suc (length deck) + (length deck - j) < suc F → Steps (step (translate k deck)) N t (halt h t′) → Sim k deck j t n o
       → ((j N lost m : ℕ) (env : Values) (inside : ℕ → Bounds) (c : List ℤ) → Stands deck j env inside lost c m → N * suc (length deck) + (length deck - j) < F
       → Steps (step (translate k deck)) N (state (addressAt deck j) [] c m) (halt h t′) → Halts k deck (standing j env inside lost)) → Halts k deck (standing j env inside lost)
@@ -106,20 +107,22 @@ pub record Stood (k : ℕ) (deck : List Statement) (store : List ℤ) (m : Stand
   pub mark : SameMark deck (m .lost) (at .mark)
   pub around : Inside deck (m .entered) (at .store) (m .at)
 
--- After `count` steps, not before, and after any more, the machine has halted by h, its store holds the values, its mark means the loss.
-pub record Alike (k : ℕ) (deck : List Statement) (store : List ℤ) (h : Halt) (m : Standing) (count : ℕ) : Type 0 where
+-- After `count` steps, not before, and after any more, the machine has halted for the same cause, its store holds the values, its mark means the loss.
+pub record Alike (k : ℕ) (deck : List Statement) (store : List ℤ) (h : Cause) (m : Standing) (count : ℕ) : Type 0 where
   pub at : State
-  pub halted : (n : ℕ) → count ≤ n → run (step (translate k deck)) n (fresh store) ≡ halt h at
+  pub halted : (n : ℕ) → count ≤ n → run (step (translate k deck)) n (fresh store) ≡ halt (haltOf h) at
   pub took : (n : ℕ) → count ≤ n → steps (step (translate k deck)) n (fresh store) ≡ count
   pub before : (n : ℕ) → n < count → (t : State) × (run (step (translate k deck)) n (fresh store) ≡ go t)
   pub values : Holds (heldOf deck) (m .values) (at .store)
   pub mark : SameMark deck (m .lost) (at .mark)
 
--- The meaning halts by h after `count` statements, with the values that the state's store holds and a loss that its mark means; they took so many steps.
+-- The meaning halts, for a cause that h tells, after `count` statements, with the values that the state's store holds and a loss that its mark means; they took so many steps.
 pub record Meant (k : ℕ) (deck : List Statement) (env : Values) (h : Halt) (t : State) (taken : ℕ) : Type 0 where
   pub count : ℕ
+  pub how : Cause
   pub at : Standing
-  pub halted : meaning (ruled k) deck env count ≡ halt h at
+  pub halted : meaning (ruled k) deck env count ≡ halt how at
+  pub told : haltOf how ≡ h
   pub took : taken ≡ meaningSteps (ruled k) deck count (begin env)
   pub values : Holds (heldOf deck) (at .values) (t .store)
   pub mark : SameMark deck (at .lost) (t .mark)
@@ -143,7 +146,7 @@ module _ {k : ℕ} {deck : List Statement} {s t : State} {n : ℕ} {h : Halt} (r
           let z : steps f n s ≡ steps f N s = ap (λ i. steps f i s) q ∙ steps-more f N (n - N) s u i e in
           absurd (omega (arith, r .took, steps-most f N s u i e))
 
-alike : {k : ℕ} {deck : List Statement} {store : List ℤ} {h : Halt} {m : Standing} {n : ℕ} → Comes k deck (fresh store) n (halt h m) → Alike k deck store h m n
+alike : {k : ℕ} {deck : List Statement} {store : List ℤ} {h : Cause} {m : Standing} {n : ℕ} → Comes k deck (fresh store) n (halt h m) → Alike k deck store h m n
 alike (ended r v m) = record { at = _; halted = enough r; took = taken r; before = early r; values = v; mark = m }
 
 stood : {k : ℕ} {deck : List Statement} {store : List ℤ} {m : Standing} {n : ℕ} → Comes k deck (fresh store) n (go m) → Stood k deck store m n
@@ -174,7 +177,7 @@ module _ (k : ℕ) (deck : List Statement) (sound : Sound deck) (env : Values) (
   goes-alike n m e = stood (subst (λ o. Comes k deck (fresh store) (meaningSteps (ruled k) deck n (begin env)) o) e (start-comes n))
 
   -- if the meaning halts, the machine halts alike
-  pub halts-alike : (n : ℕ) (h : Halt) (m : Standing) → meaning (ruled k) deck env n ≡ halt h m → Alike k deck store h m (meaningSteps (ruled k) deck n (begin env))
+  pub halts-alike : (n : ℕ) (h : Cause) (m : Standing) → meaning (ruled k) deck env n ≡ halt h m → Alike k deck store h m (meaningSteps (ruled k) deck n (begin env))
   halts-alike n h m e = alike (subst (λ o. Comes k deck (fresh store) (meaningSteps (ruled k) deck n (begin env)) o) e (start-comes n))
 
   halts-back : (n : ℕ) (h : Halt) (t : State) → run (step (translate k deck)) n (fresh store) ≡ halt h t → Halts k deck (begin env)
@@ -192,26 +195,28 @@ module _ (k : ℕ) (deck : List Statement) (sound : Sound deck) (env : Values) (
       let count = meaningSteps (ruled k) deck (x .count) (begin env) in
       let y = halts-alike (x .count) (x .how) (x .at) (x .is .eq) in
       let w = y .halted count (omega arith) in
-      let a : Steps f count (fresh store) (halt (x .how) (y .at)) = record { eq = w } in
+      let a : Steps f count (fresh store) (halt (haltOf (x .how)) (y .at)) = record { eq = w } in
       let b : Steps f n (fresh store) (halt h t) = record { eq = e } in
       let q = halt-same (same-halt a b) in
       let sum : count + n ≡ n + count = omega arith in
       record {
         count = x .count;
+        how = x .how;
         at = x .at;
-        halted = x .is .eq ∙ ap (λ i. halt i (x .at)) (q .0);
+        halted = x .is .eq;
+        told = q .0;
         took = sym (steps-more f n count (fresh store) t h e) ∙ y .took (n + count) (omega arith);
         values = subst (λ (u : State). Holds (heldOf deck) (x .at .values) (u .store)) (q .1) (y .values);
         mark = subst (λ (u : State). SameMark deck (x .at .lost) (u .mark)) (q .1) (y .mark);
       }
 
   -- if the meaning never halts, every run of the machine goes on
-  pub never-halts : ((n : ℕ) (h : Halt) (m : Standing) → ¬ (meaning (ruled k) deck env n ≡ halt h m)) → (n : ℕ) → (t : State) × (run (step (translate k deck)) n (fresh store) ≡ go t)
+  pub never-halts : ((n : ℕ) (h : Cause) (m : Standing) → ¬ (meaning (ruled k) deck env n ≡ halt h m)) → (n : ℕ) → (t : State) × (run (step (translate k deck)) n (fresh store) ≡ go t)
   never-halts no-halt n = by (run (step (translate k deck)) n (fresh store)) refl
     where
       by : (o : Out State) → run (step (translate k deck)) n (fresh store) ≡ o → (t : State) × (run (step (translate k deck)) n (fresh store) ≡ go t)
       by (go t) e = (t, e)
-      by (halt h t) e = let x = halts-meant n h t e in absurd (no-halt (x .count) h (x .at) (x .halted))
+      by (halt h t) e = let x = halts-meant n h t e in absurd (no-halt (x .count) (x .how) (x .at) (x .halted))
 
 -- A DO's end is reached only after its DO: it has been entered, with a step above 0.
 pub ends-entered : (k : ℕ) (deck : List Statement) (sound : Sound deck) (env : Values) (store : List ℤ) (start : Holds (heldOf deck) env store) (n : ℕ) (m : Standing)

@@ -8,12 +8,12 @@ use mathlib.Core.List.{List, [], _∷_, _++_, map}
 use mathlib.Core.Option.{Option, none, some}
 use lib.ListN.{length, getElem?, length-append, length-map}
 use lib.IntN.{ℤ}
-use Rattle.rules_shared.specs.Runs.{Out, go}
+use Rattle.rules_shared.specs.Runs.{Outcome, go}
 use Rattle.rules_shared.specs.Choose.{exit}
 use Rattle.rules_object.specs.Machine.{DOI, DOE, State, state}
 use Rattle.rules_deck.specs.Trees.{valueOf, subscriptsNames, Expr, cell, element, written, Form, assign, goTo, computed, ifs, loop, continue, stop, end, dimension, Statement, formExits}
 use Rattle.rules_deck.specs.Deck.{Do, endings, dimsOf}
-use Rattle.rules_deck.specs.Meaning.{plain, Values, Bounds, Standing, standing, third, exec, execAt, meaningStep}
+use Rattle.rules_deck.specs.Meaning.{Cause, plain, Values, Bounds, Standing, standing, third, exec, execAt, meaningStep}
 use Rattle.rules_deck.specs.Cost.{formSteps, stepsAt, statementSteps}
 use Rattle.rules_deck.specs.Translation.{Held, heldOf, exprPlain, formPlain, exprCode, formCode, addressAt, addressOf, doInstr, enterCode, statementCode, codeOf}
 use Rattle.rules_deck.specs.Accepted.{here}
@@ -108,7 +108,7 @@ module _ (k : ℕ) {deck : List Statement} (sound : Sound deck) {j lost m : ℕ}
           missing (x ∷ l) (suc i) h e = missing l i (omega arith) e
       by (some s) e = subst (λ o. Sim k deck j (state (addressAt deck j) [] c m) (stepsAt (ruled k) deck o (standing j env inside lost)) (execAt (ruled k) deck o (standing j env inside lost))) (sym e) (at-sim s e)
 
-within : {k : ℕ} {deck : List Statement} {j n : ℕ} {t : State} {o : Out Standing} → Sim k deck j t n o → t .index + n ≤ addressAt deck (suc j)
+within : {k : ℕ} {deck : List Statement} {j n : ℕ} {t : State} {o : Outcome Cause Standing} → Sim k deck j t n o → t .index + n ≤ addressAt deck (suc j)
 within (goes r l st p) = l
 within (halts r l h m) = l
 

@@ -7,16 +7,16 @@ use mathlib.Core.Option.{Option, none, some}
 use lib.Dec.{eqb}
 use lib.ListN.{replicate}
 use lib.IntN.{ℤ, pos}
-use Rattle.rules_shared.specs.Runs.{haltNumber, Out, go, halt}
+use Rattle.rules_shared.specs.Runs.{haltNumber, Outcome, go, halt}
 use Rattle.rules_object.specs.Object.{Object}
 use Rattle.rules_object.specs.Bytes.{readObject}
 use Rattle.rules_shared.specs.Refusals.{refusal}
 use Rattle.rules_shared.specs.Output.{Written}
 use Rattle.rules_object.specs.Calls.{Ran, running}
 use Rattle.rules_object.specs.Safe.{freshLent}
-use Rattle.rules_deck.specs.Meaning.{Key, Standing}
+use Rattle.rules_deck.specs.Meaning.{Cause, Key, Standing}
 use Rattle.rules_deck.specs.Compile.{compiling}
-use Rattle.rules_deck.specs.Seen.{meaningOf, objectIn, namedValues}
+use Rattle.rules_deck.specs.Seen.{meaningOf, haltOf, objectIn, namedValues}
 
 pub data Answer : Type 0 where
   refused : ℕ → ℕ → Answer
@@ -42,9 +42,9 @@ unfoldable pub answered : ℕ → List ℕ → ℕ → List Key → Answer
 answered k deck room keys = runWritten (compiling k deck (replicate room 0)) keys (eqb (compiling k deck (replicate room 0) .refusal .number) 0)
 
 -- the meaning from zero values: halt, first loss and values; it has no steps
-abbrev pub toldMeaning : List Key → Out Standing → Answer
+abbrev pub toldMeaning : List Key → Outcome Cause Standing → Answer
 toldMeaning keys (go m) = ran 2 0 (m .lost) (map (m .values) keys)
-toldMeaning keys (halt h m) = ran (haltNumber h) 0 (m .lost) (map (m .values) keys)
+toldMeaning keys (halt h m) = ran (haltNumber (haltOf h)) 0 (m .lost) (map (m .values) keys)
 
 unfoldable pub meant : ℕ → List ℕ → List Key → Answer
 meant k deck keys = toldMeaning keys (meaningOf k deck (λ x. pos 0) 1000)

@@ -7,7 +7,7 @@ use mathlib.Core.Option.{Option, none, some}
 use lib.Dec.{ltb, eqb, leb}
 use lib.ListN.{take}
 use lib.IntN.{ℤ, pos}
-use Rattle.rules_shared.specs.Runs.{Out}
+use Rattle.rules_shared.specs.Runs.{Outcome, Halt, atStop, atEnd, divideByZero, badSubscript, badExit, badParameter}
 use Rattle.rules_object.specs.Object.{Named, Object}
 use Rattle.rules_object.specs.Bytes.{readObject}
 use Rattle.rules_object.specs.Machine.{cell}
@@ -17,7 +17,7 @@ use Rattle.rules_object.specs.Calls.{Lent, Ran, right50, right51, running}
 use Rattle.rules_deck.specs.Trees.{Name, Statement, formNames, formLevels}
 use Rattle.rules_deck.specs.Cards.{withoutBlanks}
 use Rattle.rules_deck.specs.Deck.{sameName, Dims, dimsOf}
-use Rattle.rules_deck.specs.Meaning.{Key, plain, elementAt, Values, Standing, meaning}
+use Rattle.rules_deck.specs.Meaning.{Cause, stopReached, endReached, zeroDivisor, wrongSubscript, wrongExit, wrongParameter, Key, plain, elementAt, Values, Standing, meaning}
 use Rattle.rules_deck.specs.Compile.{Read, notRead, read, deckOf}
 
 -- ---- the deck
@@ -28,8 +28,17 @@ statementsOf (notRead r) = []
 statementsOf (read deck) = deck
 
 -- the meaning of a deck's bytes for at most n statements
-unfoldable pub meaningOf : ℕ → List ℕ → Values → ℕ → Out Standing
+unfoldable pub meaningOf : ℕ → List ℕ → Values → ℕ → Outcome Cause Standing
 meaningOf k bytes env n = meaning (record { digits = k }) (statementsOf (deckOf k bytes)) env n
+
+-- by which halt a run tells it
+abbrev pub haltOf : Cause → Halt
+haltOf stopReached = atStop
+haltOf endReached = atEnd
+haltOf zeroDivisor = divideByZero
+haltOf wrongSubscript = badSubscript
+haltOf wrongExit = badExit
+haltOf wrongParameter = badParameter
 
 abbrev pub namesIn : List Statement → List Name
 namesIn [] = []

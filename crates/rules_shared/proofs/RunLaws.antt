@@ -5,67 +5,67 @@ use Prim.Native.Nat.{ℕ, zero, suc, _+_, _-_, _≤_, _<_}
 use native.Mathlib.Nat.{suc-add, zero-add, lt-of-not-le}
 use native.Mathlib.Decide.{decLe}
 use native.Mathlib.Omega.{arith}
-use Rattle.rules_shared.specs.Runs.{Halt, Out, go, halt, then, run, stepsFrom, steps}
+use Rattle.rules_shared.specs.Runs.{Outcome, go, halt, then, run, stepsFrom, steps}
 
 -- ---- one outcome is not another
 
-pub not-halt : {S : Type 0} {s t : S} {h : Halt} → go s ≡ halt h t → ⊥
+pub not-halt : {H S : Type 0} {s t : S} {h : H} → go s ≡ halt h t → ⊥
 not-halt e = let z : _≡_ {A = ℕ} 0 1 = cc in omega arith
 
-pub go-same : {S : Type 0} {s t : S} → _≡_ {A = Out S} (go s) (go t) → s ≡ t
+pub go-same : {H S : Type 0} {s t : S} → _≡_ {A = Outcome H S} (go s) (go t) → s ≡ t
 go-same e = cc
 
-pub halt-same : {S : Type 0} {s t : S} {h i : Halt} → _≡_ {A = Out S} (halt h s) (halt i t) → (h ≡ i) × (s ≡ t)
+pub halt-same : {H S : Type 0} {s t : S} {h i : H} → _≡_ {A = Outcome H S} (halt h s) (halt i t) → (h ≡ i) × (s ≡ t)
 halt-same {s = s} {t = t} {h = h} {i = i} e = let p : h ≡ i = cc in let q : s ≡ t = cc in (p, q)
 
 -- ---- a then b is a + b
 
-then-then : {S : Type 0} (o : Out S) (f g h : S → Out S) → ((t : S) → f t ≡ then (g t) h) → then o f ≡ then (then o g) h
+then-then : {H S : Type 0} (o : Outcome H S) (f g h : S → Outcome H S) → ((t : S) → f t ≡ then (g t) h) → then o f ≡ then (then o g) h
 then-then (go t) f g h e = e t
 then-then (halt x t) f g h e = refl
 
-pub run-add : {S : Type 0} (f : S → Out S) (a b : ℕ) (s : S) → run f (a + b) s ≡ then (run f a s) (λ t. run f b t)
+pub run-add : {H S : Type 0} (f : S → Outcome H S) (a b : ℕ) (s : S) → run f (a + b) s ≡ then (run f a s) (λ t. run f b t)
 run-add f zero b s = rw zero-add
 run-add f (suc a) b s = rw suc-add (then-then (f s) _ _ _ (λ t. run-add f a b t))
 
-steps-then : {S : Type 0} (o : Out S) (f g : S → ℕ) (h : S → Out S) (b : S → ℕ) → ((t : S) → f t ≡ g t + stepsFrom (h t) b) → stepsFrom o f ≡ stepsFrom o g + stepsFrom (then o h) b
+steps-then : {H S : Type 0} (o : Outcome H S) (f g : S → ℕ) (h : S → Outcome H S) (b : S → ℕ) → ((t : S) → f t ≡ g t + stepsFrom (h t) b) → stepsFrom o f ≡ stepsFrom o g + stepsFrom (then o h) b
 steps-then (go t) f g h b e = e t
 steps-then (halt x t) f g h b e = refl
 
-pub steps-add : {S : Type 0} (f : S → Out S) (a b : ℕ) (s : S) → steps f (a + b) s ≡ steps f a s + stepsFrom (run f a s) (λ t. steps f b t)
+pub steps-add : {H S : Type 0} (f : S → Outcome H S) (a b : ℕ) (s : S) → steps f (a + b) s ≡ steps f a s + stepsFrom (run f a s) (λ t. steps f b t)
 steps-add f zero b s = rw (zero-add b, zero-add (steps f b s))
 steps-add f (suc a) b s = rw (suc-add a b, suc-add) (ap suc (steps-then (f s) _ _ _ _ (λ t. steps-add f a b t)))
 
 -- ---- n steps from s come to an outcome; a record, so that a use can leave f, n, s and the outcome out
 
-pub record Steps {S : Type 0} (f : S → Out S) (n : ℕ) (s : S) (o : Out S) : Type 0 where
+pub record Steps {H S : Type 0} (f : S → Outcome H S) (n : ℕ) (s : S) (o : Outcome H S) : Type 0 where
   pub eq : run f n s ≡ o
 
-module _ {S : Type 0} {f : S → Out S} where
+module _ {H S : Type 0} {f : S → Outcome H S} where
   pub rest : {s : S} → Steps f zero s (go s)
   rest = record { eq = refl }
 
-  pub seq : {a b : ℕ} {s t : S} {o : Out S} → Steps f a s (go t) → Steps f b t o → Steps f (a + b) s o
+  pub seq : {a b : ℕ} {s t : S} {o : Outcome H S} → Steps f a s (go t) → Steps f b t o → Steps f (a + b) s o
   seq {a} {b} {s} h k = record { eq = run-add f a b s ∙ ap (λ x. then x (λ t. run f b t)) (h .eq) ∙ k .eq }
 
-  pub one : {b : ℕ} {s t : S} {o : Out S} → f s ≡ go t → Steps f b t o → Steps f (suc b) s o
+  pub one : {b : ℕ} {s t : S} {o : Outcome H S} → f s ≡ go t → Steps f b t o → Steps f (suc b) s o
   one {b} h k = record { eq = ap (λ x. then x (λ t. run f b t)) h ∙ k .eq }
 
-  pub last : {s t : S} {h : Halt} → f s ≡ halt h t → Steps f 1 s (halt h t)
+  pub last : {s t : S} {h : H} → f s ≡ halt h t → Steps f 1 s (halt h t)
   last h = record { eq = ap (λ x. then x (λ t. go t)) h }
 
   -- a run that has halted stays halted
-  pub more : {a : ℕ} (b : ℕ) {s t : S} {h : Halt} → Steps f a s (halt h t) → Steps f (a + b) s (halt h t)
+  pub more : {a : ℕ} (b : ℕ) {s t : S} {h : H} → Steps f a s (halt h t) → Steps f (a + b) s (halt h t)
   more {a} b {s} e = record { eq = run-add f a b s ∙ ap (λ x. then x (λ t. run f b t)) (e .eq) }
 
   -- and has one outcome
-  pub same-halt : {a b : ℕ} {s t t′ : S} {h h′ : Halt} → Steps f a s (halt h t) → Steps f b s (halt h′ t′) → _≡_ {A = Out S} (halt h t) (halt h′ t′)
+  pub same-halt : {a b : ℕ} {s t t′ : S} {h h′ : H} → Steps f a s (halt h t) → Steps f b s (halt h′ t′) → _≡_ {A = Outcome H S} (halt h t) (halt h′ t′)
   same-halt {a} {b} {s} p q =
       let e : a + b ≡ b + a = omega arith in
       sym (more b p .eq) ∙ ap (λ n. run f n s) e ∙ more a q .eq
 
   -- a run that halts after N steps and is at t after n halts from t
-  pub onward : {n N : ℕ} {s t t′ : S} {h : Halt} → Steps f n s (go t) → Steps f N s (halt h t′) → (r : ℕ) × (N ≡ n + r) × Steps f r t (halt h t′)
+  pub onward : {n N : ℕ} {s t t′ : S} {h : H} → Steps f n s (go t) → Steps f N s (halt h t′) → (r : ℕ) × (N ≡ n + r) × Steps f r t (halt h t′)
   onward {n} {N} {s} {t} {t′} {h} p q = by (decLe n N)
     where
       by : Dec (n ≤ N) → (r : ℕ) × (N ≡ n + r) × Steps f r t (halt h t′)
@@ -80,16 +80,16 @@ module _ {S : Type 0} {f : S → Out S} where
 -- ---- the steps of a run
 
 -- a run that goes on took its whole allowance
-pub steps-go : {S : Type 0} (f : S → Out S) (n : ℕ) (s t : S) → run f n s ≡ go t → steps f n s ≡ n
+pub steps-go : {H S : Type 0} (f : S → Outcome H S) (n : ℕ) (s t : S) → run f n s ≡ go t → steps f n s ≡ n
 steps-go f zero s t e = refl
-steps-go {S} f (suc n) s t e = by (f s) e (λ u. steps-go f n u t)
+steps-go {H} {S} f (suc n) s t e = by (f s) e (λ u. steps-go f n u t)
   where
-    by : (o : Out S) → then o (λ u. run f n u) ≡ go t → ((u : S) → run f n u ≡ go t → steps f n u ≡ n) → suc (stepsFrom o (λ u. steps f n u)) ≡ suc n
+    by : (o : Outcome H S) → then o (λ u. run f n u) ≡ go t → ((u : S) → run f n u ≡ go t → steps f n u ≡ n) → suc (stepsFrom o (λ u. steps f n u)) ≡ suc n
     by (go u) q ih = ap suc (ih u q)
     by (halt h u) q ih = absurd (not-halt (sym q))
 
 -- A halted run went on for some steps, to a state from which one more step halts.
-pub record Halted {S : Type 0} (f : S → Out S) (n : ℕ) (s : S) (h : Halt) (t : S) : Type 0 where
+pub record Halted {H S : Type 0} (f : S → Outcome H S) (n : ℕ) (s : S) (h : H) (t : S) : Type 0 where
   pub before : ℕ
   pub at : S
   pub below : before < n
@@ -97,11 +97,11 @@ pub record Halted {S : Type 0} (f : S → Out S) (n : ℕ) (s : S) (h : Halt) (t
   pub halts : f at ≡ halt h t
   pub count : steps f n s ≡ suc before
 
-pub halted : {S : Type 0} (f : S → Out S) (n : ℕ) (s t : S) (h : Halt) → run f n s ≡ halt h t → Halted f n s h t
+pub halted : {H S : Type 0} (f : S → Outcome H S) (n : ℕ) (s t : S) (h : H) → run f n s ≡ halt h t → Halted f n s h t
 halted f zero s t h e = absurd (not-halt e)
-halted {S} f (suc n) s t h e = by (f s) refl e (λ u. halted f n u t h)
+halted {H} {S} f (suc n) s t h e = by (f s) refl e (λ u. halted f n u t h)
   where
-    by : (o : Out S) → f s ≡ o → then o (λ u. run f n u) ≡ halt h t → ((u : S) → run f n u ≡ halt h t → Halted f n u h t) → Halted f (suc n) s h t
+    by : (o : Outcome H S) → f s ≡ o → then o (λ u. run f n u) ≡ halt h t → ((u : S) → run f n u ≡ halt h t → Halted f n u h t) → Halted f (suc n) s h t
     by (go u) q e ih =
         let x = ih u e in
         let l = x .below in
@@ -116,13 +116,13 @@ halted {S} f (suc n) s t h e = by (f s) refl e (λ u. halted f n u t h)
     by (halt i u) q e ih = record { before = 0; at = s; below = omega arith; goes = refl; halts = q ∙ e; count = ap suc (ap (λ o. stepsFrom o (λ u. steps f n u)) q) }
 
 -- the same at any larger allowance, in as many steps
-pub halts-more : {S : Type 0} (f : S → Out S) (n b : ℕ) (s t : S) (h : Halt) → run f n s ≡ halt h t → run f (n + b) s ≡ halt h t
+pub halts-more : {H S : Type 0} (f : S → Outcome H S) (n b : ℕ) (s t : S) (h : H) → run f n s ≡ halt h t → run f (n + b) s ≡ halt h t
 halts-more f n b s t h e = let x : Steps f n s (halt h t) = record { eq = e } in more b x .eq
 
-pub steps-more : {S : Type 0} (f : S → Out S) (n b : ℕ) (s t : S) (h : Halt) → run f n s ≡ halt h t → steps f (n + b) s ≡ steps f n s
+pub steps-more : {H S : Type 0} (f : S → Outcome H S) (n b : ℕ) (s t : S) (h : H) → run f n s ≡ halt h t → steps f (n + b) s ≡ steps f n s
 steps-more f n b s t h e = let z : stepsFrom (run f n s) (λ t. steps f b t) ≡ 0 = ap (λ o. stepsFrom o (λ t. steps f b t)) e in omega (arith, steps-add f n b s)
 
-module _ {S : Type 0} (f : S → Out S) (n : ℕ) (s t : S) (h : Halt) (e : run f n s ≡ halt h t) where
+module _ {H S : Type 0} (f : S → Outcome H S) (n : ℕ) (s t : S) (h : H) (e : run f n s ≡ halt h t) where
   pub steps-some : 1 ≤ steps f n s
   steps-some = let c = halted f n s t h e .count in omega arith
 
@@ -153,25 +153,25 @@ module _ {S : Type 0} (f : S → Out S) (n : ℕ) (s t : S) (h : Halt) (e : run 
 
 -- ---- what every step keeps, a run keeps; and runs that go alike
 
-abbrev pub mapOut : {S T : Type 0} → (S → T) → Out S → Out T
+abbrev pub mapOut : {H S T : Type 0} → (S → T) → Outcome H S → Outcome H T
 mapOut m (go s) = go (m s)
 mapOut m (halt h s) = halt h (m s)
 
-module _ {S : Type 0} (P : S → Type 0) (f : S → Out S) (keeps : (s t : S) → P s → f s ≡ go t → P t) where
+module _ {H S : Type 0} (P : S → Type 0) (f : S → Outcome H S) (keeps : (s t : S) → P s → f s ≡ go t → P t) where
   pub run-keeps : (n : ℕ) (s t : S) → P s → run f n s ≡ go t → P t
   run-keeps zero s t p e = subst P (go-same e) p
   run-keeps (suc n) s t p e = by (f s) refl e (λ u q. run-keeps n u t q)
     where
-      by : (o : Out S) → f s ≡ o → then o (λ u. run f n u) ≡ go t → ((u : S) → P u → run f n u ≡ go t → P t) → P t
+      by : (o : Outcome H S) → f s ≡ o → then o (λ u. run f n u) ≡ go t → ((u : S) → P u → run f n u ≡ go t → P t) → P t
       by (go u) q e ih = ih u (keeps s u p q) e
       by (halt h u) q e ih = absurd (not-halt (sym e))
 
-  module _ {T : Type 0} (m : S → T) (g : T → Out T) (alike : (s : S) → P s → g (m s) ≡ mapOut m (f s)) where
+  module _ {T : Type 0} (m : S → T) (g : T → Outcome H T) (alike : (s : S) → P s → g (m s) ≡ mapOut m (f s)) where
     pub run-map : (n : ℕ) (s : S) → P s → run g n (m s) ≡ mapOut m (run f n s)
     run-map zero s p = refl
     run-map (suc n) s p = ap (λ o. then o (λ u. run g n u)) (alike s p) ∙ by (f s) refl (run-map n)
       where
-        by : (o : Out S) → f s ≡ o → ((u : S) → P u → run g n (m u) ≡ mapOut m (run f n u)) → then (mapOut m o) (λ u. run g n u) ≡ mapOut m (then o (λ u. run f n u))
+        by : (o : Outcome H S) → f s ≡ o → ((u : S) → P u → run g n (m u) ≡ mapOut m (run f n u)) → then (mapOut m o) (λ u. run g n u) ≡ mapOut m (then o (λ u. run f n u))
         by (go u) q ih = ih u (keeps s u p q)
         by (halt h u) q ih = refl
 
@@ -179,15 +179,15 @@ module _ {S : Type 0} (P : S → Type 0) (f : S → Out S) (keeps : (s t : S) �
     steps-map zero s p = refl
     steps-map (suc n) s p = ap suc (ap (λ o. stepsFrom o (λ u. steps g n u)) (alike s p) ∙ by (f s) refl (steps-map n))
       where
-        by : (o : Out S) → f s ≡ o → ((u : S) → P u → steps g n (m u) ≡ steps f n u) → stepsFrom (mapOut m o) (λ u. steps g n u) ≡ stepsFrom o (λ u. steps f n u)
+        by : (o : Outcome H S) → f s ≡ o → ((u : S) → P u → steps g n (m u) ≡ steps f n u) → stepsFrom (mapOut m o) (λ u. steps g n u) ≡ stepsFrom o (λ u. steps f n u)
         by (go u) q ih = ih u (keeps s u p q)
         by (halt h u) q ih = refl
 
-map-id : {S : Type 0} (o : Out S) → mapOut (λ s. s) o ≡ o
+map-id : {H S : Type 0} (o : Outcome H S) → mapOut (λ s. s) o ≡ o
 map-id (go s) = refl
 map-id (halt h s) = refl
 
-module _ {S : Type 0} (P : S → Type 0) (f g : S → Out S) (keeps : (s t : S) → P s → f s ≡ go t → P t) (alike : (s : S) → P s → g s ≡ f s) where
+module _ {H S : Type 0} (P : S → Type 0) (f g : S → Outcome H S) (keeps : (s t : S) → P s → f s ≡ go t → P t) (alike : (s : S) → P s → g s ≡ f s) where
   pub run-same : (n : ℕ) (s : S) → P s → run g n s ≡ run f n s
   run-same n s p = run-map P f keeps (λ s. s) g (λ s p. alike s p ∙ sym (map-id (f s))) n s p ∙ map-id (run f n s)
 

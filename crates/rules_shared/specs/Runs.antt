@@ -1,6 +1,31 @@
--- Halts, and a run of any step function for at most n steps. The deck's meaning and the machine share these, and no step.
+-- A run of any step function for at most n steps, and the machine's halts. The deck's meaning and the machine share what a run is, and neither halts nor steps.
 -- Assumes nothing.
 use Prim.Native.Nat.{ℕ, zero, suc}
+
+-- what a run comes to: going on at s, or halted by h at s
+pub data Outcome (H S : Type 0) : Type 0 where
+  go : S → Outcome H S
+  halt : H → S → Outcome H S
+
+abbrev pub then : {H S : Type 0} → Outcome H S → (S → Outcome H S) → Outcome H S
+then (go s) f = f s
+then (halt h s) f = halt h s
+
+-- The allowance is tested first: `go s` after n steps is "allowance used, at s".
+abbrev pub run : {H S : Type 0} → (S → Outcome H S) → ℕ → S → Outcome H S
+run f zero s = go s
+run f (suc n) s = then (f s) (λ t. run f n t)
+
+-- the steps taken: one that halts counts
+abbrev pub stepsFrom : {H S : Type 0} → Outcome H S → (S → ℕ) → ℕ
+stepsFrom (go t) g = g t
+stepsFrom (halt h t) g = zero
+
+abbrev pub steps : {H S : Type 0} → (S → Outcome H S) → ℕ → S → ℕ
+steps f zero s = zero
+steps f (suc n) s = suc (stepsFrom (f s) (λ t. steps f n t))
+
+-- ---- the machine's halts
 
 pub data Halt : Type 0 where
   atStop atEnd divideByZero badSubscript badExit badParameter badStack badInstruction : Halt
@@ -16,25 +41,5 @@ haltNumber badParameter = 6
 haltNumber badStack = 7
 haltNumber badInstruction = 8
 
--- going on at s, or halted at s
-pub data Out (S : Type 0) : Type 0 where
-  go : S → Out S
-  halt : Halt → S → Out S
-
-abbrev pub then : {S : Type 0} → Out S → (S → Out S) → Out S
-then (go s) f = f s
-then (halt h s) f = halt h s
-
--- The allowance is tested first: `go s` after n steps is "allowance used, at s".
-abbrev pub run : {S : Type 0} → (S → Out S) → ℕ → S → Out S
-run f zero s = go s
-run f (suc n) s = then (f s) (λ t. run f n t)
-
--- the steps taken: one that halts counts
-abbrev pub stepsFrom : {S : Type 0} → Out S → (S → ℕ) → ℕ
-stepsFrom (go t) g = g t
-stepsFrom (halt h t) g = zero
-
-abbrev pub steps : {S : Type 0} → (S → Out S) → ℕ → S → ℕ
-steps f zero s = zero
-steps f (suc n) s = suc (stepsFrom (f s) (λ t. steps f n t))
+abbrev pub Out : Type 0 → Type 0
+Out S = Outcome Halt S
