@@ -10,7 +10,7 @@ use mathlib.Core.List.{List, [], _∷_}
 use mathlib.Core.Option.{some}
 use lib.ListN.{getElem?}
 use lib.IntN.{ℤ}
-use Rattle.rules_shared.specs.Runs.{Out, go, halt, run, steps}
+use Rattle.rules_shared.specs.Runs.{Outcome, Out, go, halt, run, steps}
 use Rattle.rules_shared.specs.Choose.{positive}
 use Rattle.rules_object.specs.Object.{Object}
 use Rattle.rules_object.specs.Bytes.{readObject}
@@ -28,7 +28,7 @@ use Rattle.rules_deck.specs.Meaning.{Cause, plain, bounds, Standing, meaning}
 use Rattle.rules_deck.specs.Translation.{Held, name, array, hidden, isArray, holds, cellOf, baseOf, heldOf, namesFrom, translate}
 use Rattle.rules_deck.specs.Accepted.{Among}
 use Rattle.rules_deck.specs.Cells.{key, Has, Holds, SameMark}
-use Rattle.rules_deck.specs.Seen.{statementsOf, meaningOf, haltOf, namesIn, deckNames, deckDims, deckLevels, namedValues, rightStoreOf, rightStore, series, sum}
+use Rattle.rules_deck.specs.Seen.{statementsOf, meaningRead, meaningOf, haltOf, namesIn, deckNames, deckDims, deckLevels, namedValues, rightStoreOf, rightStore, series, sum}
 use Rattle.rules_deck.proofs.TestLaws.{among-append}
 use Rattle.rules_deck.proofs.MapNames.{entryOf, noDims}
 use Rattle.rules_deck.proofs.ArrayLaws.{arraysHeld, arrays-held}
@@ -42,6 +42,9 @@ use Rattle.rules_deck.proofs.Simulation.{halts-alike, halts-meant, ends-entered
 use Rattle.promises.specs.Promises.{Alike, HaltsAlike, Meant, MeansAlike, NeverHalts, EndsAfterDo, OneEntry, NamesOnce, CompiledPasses, CompiledRuns, NeverAbove}
 use Rattle.promises.proofs.Runs.{Same, series-run}
 use Rattle.promises.proofs.Made.{Made, made, right, reads-back, checks, named-has, holds-named}
+
+some-same : {A : Type 0} {x y : A} → some x ≡ some y → x ≡ y
+some-same e = cc
 
 -- ---- a run of a compiled deck's object is the machine's
 
@@ -80,9 +83,12 @@ module _ {k : ℕ} {deck object : List ℕ} (m : Made k deck object) (store : Li
   unfolding translate
   starting = holds-named m store (long-enough o store (rights .0))
 
-  means : (n : ℕ) → meaningOf k deck (namedValues object store) n ≡ meaning (record { digits = k }) (m .statements) (namedValues object store) n
+  means : (n : ℕ) → meaningOf k deck (namedValues object store) n ≡ some (meaning (record { digits = k }) (m .statements) (namedValues object store) n)
   unfolding meaningOf
-  means n = ap (λ r. meaning (record { digits = k }) (statementsOf r) (namedValues object store) n) (m .reads)
+  means n = ap (λ r. meaningRead k r (namedValues object store) n) (m .reads)
+
+  meant-as : (n : ℕ) {x : Outcome Cause Standing} → meaningOf k deck (namedValues object store) n ≡ some x → meaning (record { digits = k }) (m .statements) (namedValues object store) n ≡ x
+  meant-as n e = some-same (sym (means n) ∙ e)
 
   -- a halted machine's answer is as the standing says
   alike : (a : ℕ) (h : Cause) (t : State) (s : Standing) → run (step o) a (fresh store) ≡ halt (haltOf h) t → Holds (heldOf (m .statements)) (s .values) (t .store) → SameMark (m .statements) (s .lost) (t .mark)
@@ -100,7 +106,7 @@ module _ {k : ℕ} {deck object : List ℕ} (m : Made k deck object) (store : Li
 pub halts-kept : HaltsAlike
 halts-kept k deck object store c stored n h s e =
     let m = made c in
-    let x = halts-alike k (m .statements) (sound (right m)) (namedValues object store) store (starting m store stored) n h s (sym (means m store stored n) ∙ e) in (
+    let x = halts-alike k (m .statements) (sound (right m)) (namedValues object store) store (starting m store stored) n h s (meant-as m store stored n e) in (
       _,
       λ allowances words enough. alike m store stored (sum allowances) h (x .at) s (x .halted (sum allowances) enough) (x .values) (x .mark) (series object store freshLent allowances)
           (series-run object store freshLent refl (not-refused m store stored 0) allowances),
@@ -118,7 +124,7 @@ module _ {k : ℕ} {deck object : List ℕ} (m : Made k deck object) (store : Li
       by (go t) e = absurd (other (same .halt ∙ ap (λ x. x .halt) (runs m store stored a ∙ ap (ran (translate k (m .statements)) (steps (step (translate k (m .statements))) a (fresh store))) e)))
       by (halt h t) e =
           let x = halts-meant k (m .statements) (sound (right m)) (namedValues object store) store (starting m store stored) a h t e in
-          record { count = x .count; how = x .how; end = x .at; halts = means m store stored (x .count) ∙ x .halted; alike = alike m store stored a (x .how) t (x .at) (e ∙ ap (λ i. halt i t) (sym (x .told))) (x .values) (x .mark) r same }
+          record { count = x .count; how = x .how; end = x .at; halts = means m store stored (x .count) ∙ ap some (x .halted); alike = alike m store stored a (x .how) t (x .at) (e ∙ ap (λ i. halt i t) (sym (x .told))) (x .values) (x .mark) r same }
 
 pub means-kept : MeansAlike
 means-kept k deck object store c stored allowances words other =
@@ -137,7 +143,7 @@ ends-kept k deck object store c stored n s e =
     let m = made c in
     subst (λ r. (x : Statement) → getElem? (statementsOf r) (s .at) ≡ some x → (d : Do) → Among d (endings (statementsOf r) (x .number))
     → (limit : ℤ) × ((step : ℤ) × ((s .entered (d .position) ≡ bounds limit step) × (positive step ≡ true)))) (sym (m .reads))
-    (ends-entered k (m .statements) (sound (right m)) (namedValues object store) store (starting m store stored) n s (sym (means m store stored n) ∙ e))
+    (ends-entered k (m .statements) (sound (right m)) (namedValues object store) store (starting m store stored) n s (meant-as m store stored n e))
 
 -- ---- body 7
 
@@ -147,9 +153,6 @@ true-not-false e = let z : _≡_ {A = ℕ} 0 1 = cc in omega arith
 not-true : (b : Bool) → (b ≡ true → ⊥) → b ≡ false
 not-true true f = absurd (f refl)
 not-true false f = refl
-
-some-same : {A : Type 0} {x y : A} → some x ≡ some y → x ≡ y
-some-same e = cc
 
 among-in : (deck : List Statement) (v : Name) → Among v (namesIn deck) → InDeck deck v
 among-in (s ∷ deck) v a = by (among-append (formNames (s .form)) (namesIn deck) a) (among-in deck v)

@@ -53,7 +53,7 @@ pub record Alike (object : List ℕ) (h : Cause) (m : Standing) (r : Ran) : Type
 abbrev pub HaltsAlike : Type 0
 HaltsAlike =
     (k : ℕ) (deck object : List ℕ) (store : List ℤ) → Compiled k deck object → rightStore object store ≡ true → (n : ℕ) (h : Cause) (m : Standing) →
-    meaningOf k deck (namedValues object store) n ≡ halt h m →
+    meaningOf k deck (namedValues object store) n ≡ some (halt h m) →
     (enough : ℕ) × ((allowances : List ℕ) → Each IsWord allowances → enough ≤ sum allowances → Alike object h m (series object store freshLent allowances))
 
 -- the meaning halts, and the run with it
@@ -61,7 +61,7 @@ pub record Meant (k : ℕ) (deck object : List ℕ) (store : List ℤ) (r : Ran)
   pub count : ℕ
   pub how : Cause
   pub end : Standing
-  pub halts : meaningOf k deck (namedValues object store) count ≡ halt how end
+  pub halts : meaningOf k deck (namedValues object store) count ≡ some (halt how end)
   pub alike : Alike object how end r
 
 -- If runs one after the other halt other than by 2, the meaning halts alike.
@@ -74,14 +74,14 @@ MeansAlike =
 abbrev pub NeverHalts : Type 0
 NeverHalts =
     (k : ℕ) (deck object : List ℕ) (store : List ℤ) → Compiled k deck object → rightStore object store ≡ true →
-    ((n : ℕ) (h : Cause) (m : Standing) → meaningOf k deck (namedValues object store) n ≡ halt h m → ⊥) →
+    ((n : ℕ) (h : Cause) (m : Standing) → meaningOf k deck (namedValues object store) n ≡ some (halt h m) → ⊥) →
     (allowances : List ℕ) → Each IsWord allowances → series object store freshLent allowances .halt ≡ 2
 
 -- A DO's end is reached only after its DO, with a step above 0: so nothing depends on what hidden cells held at the start.
 abbrev pub EndsAfterDo : Type 0
 EndsAfterDo =
     (k : ℕ) (deck object : List ℕ) (store : List ℤ) → Compiled k deck object → rightStore object store ≡ true → (n : ℕ) (m : Standing) →
-    meaningOf k deck (namedValues object store) n ≡ go m → (s : Statement) → getElem? (statementsOf (deckOf k deck)) (m .at) ≡ some s →
+    meaningOf k deck (namedValues object store) n ≡ some (go m) → (s : Statement) → getElem? (statementsOf (deckOf k deck)) (m .at) ≡ some s →
     (d : Do) → Among d (endings (statementsOf (deckOf k deck)) (s .number)) → (limit : ℤ) × ((step : ℤ) × ((m .entered (d .position) ≡ bounds limit step) × (positive step ≡ true)))
 
 -- an entry of body 7 that is a name's, with what the deck says of the name

@@ -10,7 +10,7 @@ use lib.IntN.{ℤ, pos}
 use Rattle.rules_shared.specs.Runs.{haltNumber, Outcome, go, halt}
 use Rattle.rules_object.specs.Object.{Object}
 use Rattle.rules_object.specs.Bytes.{readObject}
-use Rattle.rules_shared.specs.Refusals.{refusal}
+use Rattle.rules_shared.specs.Refusals.{Refusal}
 use Rattle.rules_shared.specs.Output.{Written}
 use Rattle.rules_object.specs.Calls.{Ran, running}
 use Rattle.rules_object.specs.Safe.{freshLent}
@@ -41,10 +41,11 @@ runWritten w keys false = refused (w .refusal .number) (w .refusal .place)
 unfoldable pub answered : ℕ → List ℕ → ℕ → List Key → Answer
 answered k deck room keys = runWritten (compiling k deck (replicate room 0)) keys (eqb (compiling k deck (replicate room 0) .refusal .number) 0)
 
--- the meaning from zero values: halt, first loss and values; it has no steps
-abbrev pub toldMeaning : List Key → Outcome Cause Standing → Answer
-toldMeaning keys (go m) = ran 2 0 (m .lost) (map (m .values) keys)
-toldMeaning keys (halt h m) = ran (haltNumber (haltOf h)) 0 (m .lost) (map (m .values) keys)
+-- the meaning from zero values: halt, first loss and values, it has no steps; of a deck that has none the refusal
+abbrev pub toldMeaning : List Key → Refusal → Option (Outcome Cause Standing) → Answer
+toldMeaning keys r none = refused (r .number) (r .place)
+toldMeaning keys r (some (go m)) = ran 2 0 (m .lost) (map (m .values) keys)
+toldMeaning keys r (some (halt h m)) = ran (haltNumber (haltOf h)) 0 (m .lost) (map (m .values) keys)
 
 unfoldable pub meant : ℕ → List ℕ → List Key → Answer
-meant k deck keys = toldMeaning keys (meaningOf k deck (λ x. pos 0) 1000)
+meant k deck keys = toldMeaning keys (compiling k deck [] .refusal) (meaningOf k deck (λ x. pos 0) 1000)

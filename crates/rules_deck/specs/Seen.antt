@@ -27,9 +27,14 @@ abbrev pub statementsOf : Read → List Statement
 statementsOf (notRead r) = []
 statementsOf (read deck) = deck
 
+-- what was read means; what was refused means nothing
+abbrev pub meaningRead : ℕ → Read → Values → ℕ → Option (Outcome Cause Standing)
+meaningRead k (notRead r) env n = none
+meaningRead k (read deck) env n = some (meaning (record { digits = k }) deck env n)
+
 -- the meaning of a deck's bytes for at most n statements
-unfoldable pub meaningOf : ℕ → List ℕ → Values → ℕ → Outcome Cause Standing
-meaningOf k bytes env n = meaning (record { digits = k }) (statementsOf (deckOf k bytes)) env n
+unfoldable pub meaningOf : ℕ → List ℕ → Values → ℕ → Option (Outcome Cause Standing)
+meaningOf k bytes env n = meaningRead k (deckOf k bytes) env n
 
 -- by which halt a run tells it
 abbrev pub haltOf : Cause → Halt
