@@ -108,7 +108,7 @@ halts-kept k deck object store c stored n h s e =
     let m = made c in
     let x = halts-alike k (m .statements) (sound (right m)) (namedValues object store) store (starting m store stored) n h s (meant-as m store stored n e) in (
       _,
-      λ allowances words enough. alike m store stored (sum allowances) h (x .at) s (x .halted (sum allowances) enough) (x .values) (x .mark) (series object store freshLent allowances)
+      λ allowances enough. alike m store stored (sum allowances) h (x .at) s (x .halted (sum allowances) enough) (x .values) (x .mark) (series object store freshLent allowances)
           (series-run object store freshLent refl (not-refused m store stored 0) allowances),
     )
 
@@ -127,16 +127,16 @@ module _ {k : ℕ} {deck object : List ℕ} (m : Made k deck object) (store : Li
           record { count = x .count; how = x .how; end = x .at; halts = means m store stored (x .count) ∙ ap some (x .halted); alike = alike m store stored a (x .how) t (x .at) (e ∙ ap (λ i. halt i t) (sym (x .told))) (x .values) (x .mark) r same }
 
 pub means-kept : MeansAlike
-means-kept k deck object store c stored allowances words other =
+means-kept k deck object store c stored allowances other =
     let m = made c in
     meant m store stored (series object store freshLent allowances) (sum allowances) (series-run object store freshLent refl (not-refused m store stored 0) allowances) other
 
 pub never-kept : NeverHalts
-never-kept k deck object store c stored never allowances words = by (ℕ-discrete (series object store freshLent allowances .halt) 2)
+never-kept k deck object store c stored never allowances = by (ℕ-discrete (series object store freshLent allowances .halt) 2)
   where
     by : Dec (series object store freshLent allowances .halt ≡ 2) → series object store freshLent allowances .halt ≡ 2
     by (yes e) = e
-    by (no e) = let x = means-kept k deck object store c stored allowances words e in absurd (never (x .count) (x .how) (x .end) (x .halts))
+    by (no e) = let x = means-kept k deck object store c stored allowances e in absurd (never (x .count) (x .how) (x .end) (x .halts))
 
 pub ends-kept : EndsAfterDo
 ends-kept k deck object store c stored n s e =

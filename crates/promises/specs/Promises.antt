@@ -15,7 +15,7 @@ use Rattle.rules_shared.specs.Choose.{positive}
 use Rattle.rules_object.specs.Object.{Named, Object}
 use Rattle.rules_object.specs.Bytes.{objectBytes, readObject}
 use Rattle.rules_shared.specs.Lists.{Each}
-use Rattle.rules_object.specs.Writable.{IsByte, IsWord, Writable}
+use Rattle.rules_object.specs.Writable.{IsByte, Writable}
 use Rattle.rules_object.specs.Machine.{State, cell, step}
 use Rattle.rules_object.specs.Check.{right41, flowOf, benchStep}
 use Rattle.rules_object.specs.Flow.{Valid, NoTable, Reached, PathsAgree}
@@ -54,7 +54,7 @@ abbrev pub HaltsAlike : Type 0
 HaltsAlike =
     (k : ℕ) (deck object : List ℕ) (store : List ℤ) → Compiled k deck object → rightStore object store ≡ true → (n : ℕ) (h : Cause) (m : Standing) →
     meaningOf k deck (namedValues object store) n ≡ some (halt h m) →
-    (enough : ℕ) × ((allowances : List ℕ) → Each IsWord allowances → enough ≤ sum allowances → Alike object h m (series object store freshLent allowances))
+    (enough : ℕ) × ((allowances : List ℕ) → enough ≤ sum allowances → Alike object h m (series object store freshLent allowances))
 
 -- the meaning halts, and the run with it
 pub record Meant (k : ℕ) (deck object : List ℕ) (store : List ℤ) (r : Ran) : Type 0 where
@@ -67,7 +67,7 @@ pub record Meant (k : ℕ) (deck object : List ℕ) (store : List ℤ) (r : Ran)
 -- If runs one after the other halt other than by 2, the meaning halts alike.
 abbrev pub MeansAlike : Type 0
 MeansAlike =
-    (k : ℕ) (deck object : List ℕ) (store : List ℤ) → Compiled k deck object → rightStore object store ≡ true → (allowances : List ℕ) → Each IsWord allowances →
+    (k : ℕ) (deck object : List ℕ) (store : List ℤ) → Compiled k deck object → rightStore object store ≡ true → (allowances : List ℕ) →
     (series object store freshLent allowances .halt ≡ 2 → ⊥) → Meant k deck object store (series object store freshLent allowances)
 
 -- A deck that never halts is never made to halt.
@@ -75,7 +75,7 @@ abbrev pub NeverHalts : Type 0
 NeverHalts =
     (k : ℕ) (deck object : List ℕ) (store : List ℤ) → Compiled k deck object → rightStore object store ≡ true →
     ((n : ℕ) (h : Cause) (m : Standing) → meaningOf k deck (namedValues object store) n ≡ some (halt h m) → ⊥) →
-    (allowances : List ℕ) → Each IsWord allowances → series object store freshLent allowances .halt ≡ 2
+    (allowances : List ℕ) → series object store freshLent allowances .halt ≡ 2
 
 -- A DO's end is reached only after its DO, with a step above 0: so nothing depends on what hidden cells held at the start.
 abbrev pub EndsAfterDo : Type 0
