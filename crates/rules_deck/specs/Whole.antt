@@ -90,7 +90,7 @@ abbrev pub mayEndAt : Option Statement → Bool
 mayEndAt none = false
 mayEndAt (some s) = mayEnd (s .form)
 
--- an earlier DO around this one does not end before it
+-- the DO d stands in the range of an outer one and ends after it
 abbrev pub crosses : List Statement → Do → Do → Bool
 crosses deck d outer = inRange deck outer (d .position) && ltb (lastOf deck outer) (lastOf deck d)
 
