@@ -83,18 +83,26 @@ table =
     from 5 500 ("      DIMENSIONIF(3)" ∷ "      END" ∷ []) ([]) (refused 15 1) ∷
     -- 16: a wrong subscript count
     from 5 500 ("      DIMENSIONL(2)" ∷ "      I=L(1,1)" ∷ "      END" ∷ []) ([]) (refused 16 2) ∷
+    -- 16: an element of a DO variable's own name, which is no array; and an array as a DO variable
+    from 5 500 ("      DO7I=1,2" ∷ "    7 I(1)=3" ∷ "      END" ∷ []) ([]) (refused 16 2) ∷
+    from 5 500 ("      DIMENSIONI(2)" ∷ "      DO7I=1,2" ∷ "    7 I(1)=3" ∷ "      END" ∷ []) ([]) (refused 16 2) ∷
     -- 20: an early END; no END; no statement
     from 5 500 ("      I=1" ∷ "      END" ∷ "      END" ∷ []) ([]) (refused 20 2) ∷
     from 5 500 ("      I=1" ∷ "      J=1" ∷ []) ([]) (refused 20 2) ∷
     from 5 500 ("C" ∷ "C" ∷ []) ([]) (refused 20 0) ∷
     -- 21: before 22, at the second; a number on DIMENSION or END
     from 5 500 ("      GOTO5" ∷ "    7 I=1" ∷ "    7 I=2" ∷ "      END" ∷ []) ([]) (refused 21 3) ∷
+    from 5 500 ("    7 DIMENSIONL(2)" ∷ "    7 I=1" ∷ "      END" ∷ []) ([]) (refused 21 1) ∷
     from 5 500 ("      I=1" ∷ "    7 END" ∷ []) ([]) (refused 21 2) ∷
     -- 22: the statement that uses the number
     from 5 500 ("      I=1" ∷ "      GOTO2" ∷ "      END" ∷ []) ([]) (refused 22 2) ∷
-    -- 23: not after it; a GO TO as last statement; the ninth of a nest
+    -- 23: not after it; a computed GO TO, GO TO, IF, DO or STOP as last statement; the ninth of a nest
     from 5 500 ("    7 I=1" ∷ "      DO7J=1,2" ∷ "      END" ∷ []) ([]) (refused 23 2) ∷
     from 5 500 ("      DO7J=1,2" ∷ "    7 GOTO(8,8),I" ∷ "    8 CONTINUE" ∷ "      END" ∷ []) ([]) (refused 23 1) ∷
+    from 5 500 ("      DO7J=1,2" ∷ "    7 GOTO8" ∷ "    8 CONTINUE" ∷ "      END" ∷ []) ([]) (refused 23 1) ∷
+    from 5 500 ("      DO7J=1,2" ∷ "    7 IF(I)8,8,8" ∷ "    8 CONTINUE" ∷ "      END" ∷ []) ([]) (refused 23 1) ∷
+    from 5 500 ("      DO7J=1,2" ∷ "    7 DO8I=1,2" ∷ "    8 CONTINUE" ∷ "      END" ∷ []) ([]) (refused 23 1) ∷
+    from 5 500 ("      DO7J=1,2" ∷ "    7 STOP" ∷ "      END" ∷ []) ([]) (refused 23 1) ∷
     from 5 900 ("      DO7I=1,1" ∷ "      DO7J=1,1" ∷ "      DO7K=1,1" ∷ "      DO7L=1,1" ∷ "      DO7M=1,1" ∷ "      DO7N=1,1" ∷ "      DO7I1=1,1" ∷ "      DO7I2=1,1" ∷ "      DO7I3=1,1" ∷ "    7 CONTINUE" ∷ "      END" ∷ []) ([]) (refused 23 9) ∷
     -- 24: the jump is the place; a jump to the DO itself is right
     from 5 500 ("      J=1" ∷ "      DO7I=1,2" ∷ "    7 CONTINUE" ∷ "      GOTO7" ∷ "      END" ∷ []) ([]) (refused 24 4) ∷
@@ -125,7 +133,7 @@ AsAnswered (e ∷ more) = (answered (e .digits) (deck (e .cards)) (e .room) (e .
 
 pub examples : AsAnswered table
 unfolding ceiling fits keep drops kept divided apply haltNumber place turn signedOf signedWord objectWords objectBytes readObject operationOf operandOf decode step right41 rightConstant rightElement rightLoop rightLine rightNamed right43 flowOf entryRight benchStep heights refused42 refused43 checked checking taken given right50 right51 right52 sequenceOf running benching write mapOf mapping valueOf formNames formConstants formExits formLast formLevels cardsOf comment firstCard character textOf numberOf rightNumber wrongCard afterCard rightDigits rightLength carded isDigit isLetter isLetterOrDigit give giveIf ahead follow andThen after afterWord choose starts startsDigit allOf whole run digitRun nameRun bytesTaken number name listedUpTo listed addend linearOf subscript subscripts targetRead operandRead operand sign signed sumOp productOp joined more grammarStep parseIn enough parse expression assignment plainGoTo rightExits computedGoTo arithmeticIf parameter doLoop arrayShape dimensions readAssignment readGoTo readComputed readIf readDo readContinue readStop readEnd readDimension present readings firstOf formOf dosOf endings dimsOf meaningStep meaning cellOf baseOf limitOf formPlain heldOf words addressAt codeOf wordOf translate right11 right12 right13 right14 right15 formReferences right16 formPooled formWords formExitWords takes right18 judgeForm refused20 right21 right22 right24 formSets right25 judgeDeck deckOf compiling meaningOf deckNames deckDims deckLevels objectIn namedCell namedValues rightStore series answered meant
-examples = (refl, (refl, (refl, (refl, (refl, (refl, (refl, (refl, (refl, (refl, (refl, (refl, (refl, (refl, (refl, (refl, (refl, (refl, (refl, (refl, (refl, (refl, (refl, (refl, (refl, (refl, (refl, (refl, (refl, (refl, (refl, (refl, (refl, (refl, (refl, (refl, (refl, (refl, (refl, (refl, (refl, (refl, (refl, (refl, (refl, tt)))))))))))))))))))))))))))))))))))))))))))))
+examples = (refl, (refl, (refl, (refl, (refl, (refl, (refl, (refl, (refl, (refl, (refl, (refl, (refl, (refl, (refl, (refl, (refl, (refl, (refl, (refl, (refl, (refl, (refl, (refl, (refl, (refl, (refl, (refl, (refl, (refl, (refl, (refl, (refl, (refl, (refl, (refl, (refl, (refl, (refl, (refl, (refl, (refl, (refl, (refl, (refl, (refl, (refl, (refl, (refl, (refl, (refl, (refl, tt))))))))))))))))))))))))))))))))))))))))))))))))))))
 
 -- ---- the object's bytes
 

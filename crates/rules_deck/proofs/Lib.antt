@@ -29,6 +29,7 @@ pub mod TableCompiled
 pub mod TableLaws
 pub mod FittingDeck
 pub mod DeckExamples
+pub mod LimitDecks
 pub mod Proved
 pub mod Values
 pub mod RightCode
