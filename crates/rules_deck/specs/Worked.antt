@@ -1,4 +1,4 @@
--- P1 to P8 of 01 as decks: what each means, and what compiling and running it answers.
+-- P1 to P8 of 01 as decks, and beside them a division of each sign: what each means, and what compiling and running it answers.
 -- Assumes nothing.
 use mathlib.Core.Path.{_≡_}
 use Prim.Native.Nat.{ℕ}
@@ -40,6 +40,9 @@ decks =
     worked 5 ("      DO7I=99999,99999" ∷ "    7 J=J+1" ∷ "      END" ∷ []) (plain (bytes "I") ∷ plain (bytes "J") ∷ []) 1 10 0 (pos 99999 ∷ pos 1 ∷ []) ∷
     -- P8: k=9: 999999999 squared is 1
     worked 9 ("      I=999999999*999999999" ∷ "      END" ∷ []) (plain (bytes "I") ∷ []) 1 5 1 (pos 1 ∷ []) ∷
+    -- beside 01's table: a negative number divided, and one that divides
+    worked 5 ("      I=-7" ∷ "      J=I/2" ∷ "      END" ∷ []) (plain (bytes "I") ∷ plain (bytes "J") ∷ []) 1 8 0 (negsuc 6 ∷ negsuc 2 ∷ []) ∷
+    worked 5 ("      I=-2" ∷ "      J=7/I" ∷ "      END" ∷ []) (plain (bytes "I") ∷ plain (bytes "J") ∷ []) 1 8 0 (negsuc 1 ∷ negsuc 2 ∷ []) ∷
     []
 
 pub record MeansAndRuns (w : Worked) : Type 0 where
