@@ -2,7 +2,7 @@
 -- Assumes nothing.
 use mathlib.Core.Path.{_≡_, refl, sym, ap, _∙_, subst}
 use mathlib.Core.Logic.{_⊎_, inl, inr}
-use Prim.Native.Nat.{ℕ, suc, _+_, _*_, _≤_}
+use Prim.Native.Nat.{ℕ, suc, _+_, _*_, _≤_, _<_}
 use native.Mathlib.Decide.{ℕ-discrete}
 use native.Mathlib.Omega.{arith}
 use mathlib.Core.Bool.{Bool, true, false, _||_, cond}
@@ -16,7 +16,7 @@ use Rattle.rules_object.specs.Object.{Object}
 use Rattle.rules_object.specs.Bytes.{readObject}
 use Rattle.rules_object.specs.Machine.{State, fresh, cell, step}
 use Rattle.rules_shared.specs.Refusals.{accepted}
-use Rattle.rules_object.specs.Calls.{checking, given, right50, right51, Ran, ran, runFrom, running, taken}
+use Rattle.rules_object.specs.Calls.{checking, given, right50, right51, sequenceOf, Ran, ran, runFrom, running, taken}
 use Rattle.rules_object.proofs.Passed.{Passed, check-passed, both}
 use Rattle.rules_object.proofs.Lents.{long-enough, fresh-stands, stands-52}
 use Rattle.rules_object.proofs.Accepts.{Accepts, accepts-run}
@@ -24,11 +24,12 @@ use Rattle.rules_object.proofs.Refusals.{from-accepts}
 use Rattle.rules_object.specs.Safe.{freshLent}
 use Rattle.rules_deck.specs.Trees.{Name, Statement, formNames}
 use Rattle.rules_deck.specs.Deck.{Do, sameName, Dims, dimsIn, dimsOf, endings}
-use Rattle.rules_deck.specs.Meaning.{Cause, plain, bounds, Standing, meaning}
+use Rattle.rules_deck.specs.Meaning.{Cause, plain, bounds, Standing, begin, meaning}
+use Rattle.rules_deck.specs.Cost.{meaningSteps}
 use Rattle.rules_deck.specs.Translation.{Held, name, array, hidden, isArray, holds, cellOf, baseOf, heldOf, namesFrom, translate}
 use Rattle.rules_deck.specs.Accepted.{Among}
 use Rattle.rules_deck.specs.Cells.{key, Has, Holds, SameMark}
-use Rattle.rules_deck.specs.Seen.{statementsOf, meaningRead, meaningOf, haltOf, namesIn, deckNames, deckDims, deckLevels, namedValues, rightStoreOf, rightStore, series, sum}
+use Rattle.rules_deck.specs.Seen.{statementsOf, meaningRead, meaningOf, haltOf, deckSteps, InStatement, namesIn, deckNames, deckDims, deckLevels, namedValues, rightStoreOf, rightStore, series, sum}
 use Rattle.rules_deck.proofs.TestLaws.{among-append}
 use Rattle.rules_deck.proofs.MapNames.{entryOf, noDims}
 use Rattle.rules_deck.proofs.ArrayLaws.{arraysHeld, arrays-held}
@@ -39,8 +40,8 @@ use Rattle.rules_deck.proofs.NeverAbove.{never-above}
 use Rattle.rules_deck.proofs.SoundDeck.{sound}
 use Rattle.rules_deck.proofs.Sequence.{same-sequence, dimension-empty}
 use Rattle.rules_deck.proofs.Simulation.{halts-alike, halts-meant, ends-entered}
-use Rattle.promises.specs.Promises.{Alike, HaltsAlike, Meant, MeansAlike, NeverHalts, EndsAfterDo, OneEntry, NamesOnce, CompiledPasses, CompiledRuns, NeverAbove}
-use Rattle.promises.proofs.Runs.{Same, series-run}
+use Rattle.promises.specs.Promises.{Alike, HaltedAlike, HaltsAlike, Meant, MeansAlike, NeverHalts, EndsAfterDo, OneEntry, NamesOnce, CompiledPasses, CompiledRuns, NeverAbove}
+use Rattle.promises.proofs.Runs.{series-run}
 use Rattle.promises.proofs.Made.{Made, made, right, reads-back, checks, named-has, holds-named}
 
 some-same : {A : Type 0} {x y : A} → some x ≡ some y → x ≡ y
@@ -90,46 +91,76 @@ module _ {k : ℕ} {deck object : List ℕ} (m : Made k deck object) (store : Li
   meant-as : (n : ℕ) {x : Outcome Cause Standing} → meaningOf k deck (namedValues object store) n ≡ some x → meaning (record { digits = k }) (m .statements) (namedValues object store) n ≡ x
   meant-as n e = some-same (sym (means n) ∙ e)
 
-  -- a halted machine's answer is as the standing says
-  alike : (a : ℕ) (h : Cause) (t : State) (s : Standing) → run (step o) a (fresh store) ≡ halt (haltOf h) t → Holds (heldOf (m .statements)) (s .values) (t .store) → SameMark (m .statements) (s .lost) (t .mark)
-      → (r : Ran) → Same r (running object store freshLent a) → Alike object h s r
+  steps-mean : (n : ℕ) → deckSteps k deck (namedValues object store) n ≡ meaningSteps (record { digits = k }) (m .statements) n (begin (namedValues object store))
+  unfolding deckSteps
+  steps-mean n = ap (λ r. meaningSteps (record { digits = k }) (statementsOf r) n (begin (namedValues object store))) (m .reads)
+
+  answers : (a : ℕ) (x : Out State) → run (step o) a (fresh store) ≡ x → running object store freshLent a ≡ ran o (steps (step o) a (fresh store)) x
+  answers a x e = runs a ∙ ap (ran o (steps (step o) a (fresh store))) e
+
+  -- an answer whose store holds a standing's values, and whose mark means its loss
+  alike : (r : Ran) (t : State) (s : Standing) → r .refusal ≡ accepted → r .store ≡ t .store → r .sequence ≡ sequenceOf (o .lines) (t .mark) → Holds (heldOf (m .statements)) (s .values) (t .store)
+      → SameMark (m .statements) (s .lost) (t .mark) → Alike object s r
   unfolding translate
-  alike a h t s e v w r same =
-      let q : running object store freshLent a ≡ ran o (steps (step o) a (fresh store)) (halt (haltOf h) t) = runs a ∙ ap (ran o (steps (step o) a (fresh store))) e in
+  alike r t s e f g v w =
       record {
-        accepts = same .refusal ∙ ap (λ x. x .refusal) q;
-        halts = same .halt ∙ ap (λ x. x .halt) q;
-        values = λ x c f. let h = named-has m x c f in ap (λ z. cell z c) (same .store ∙ ap (λ x. x .store) q) ∙ ap (cell (t .store)) (sym (h .1)) ∙ v .same x (h .0);
-        lost = same .sequence ∙ ap (λ x. x .sequence) q ∙ same-sequence (m .statements) (dimension-empty k (m .statements) (right m)) (s .lost) (t .mark) w;
+        accepts = e;
+        values = λ x c n. let h = named-has m x c n in ap (λ z. cell z c) f ∙ ap (cell (t .store)) (sym (h .1)) ∙ v .same x (h .0);
+        lost = g ∙ same-sequence (m .statements) (dimension-empty k (m .statements) (right m)) (s .lost) (t .mark) w;
       }
 
+  halted-alike : (a n : ℕ) (h : Cause) (t : State) (s : Standing) → run (step o) a (fresh store) ≡ halt (haltOf h) t → steps (step o) a (fresh store) ≡ n → InStatement (m .statements) (s .at) (t .index)
+      → Holds (heldOf (m .statements)) (s .values) (t .store) → SameMark (m .statements) (s .lost) (t .mark) → HaltedAlike k deck object h s n (running object store freshLent a)
+  unfolding given
+  halted-alike a n h t s e f g v w =
+      let q = answers a (halt (haltOf h) t) e in
+      record {
+        alike = alike (running object store freshLent a) t s (ap (λ x. x .refusal) q) (ap (λ x. x .store) q) (ap (λ x. x .sequence) q) v w;
+        halts = ap (λ x. x .halt) q;
+        at = subst (λ x. InStatement (statementsOf x) (s .at) (running object store freshLent a .lent .index)) (sym (m .reads))
+            (subst (λ i. InStatement (m .statements) (s .at) i) (sym (ap (λ x. x .lent .index) q)) g);
+        steps = ap (λ x. x .steps) q ∙ f;
+      }
+
+  serial : (allowances : List ℕ) → series object store freshLent allowances ≡ running object store freshLent (sum allowances)
+  serial = series-run object store freshLent refl (not-refused 0)
+
 pub halts-kept : HaltsAlike
-halts-kept k deck object store c stored n h s e =
+halts-kept k deck object store c stored n h s e allowances =
     let m = made c in
-    let x = halts-alike k (m .statements) (sound (right m)) (namedValues object store) store (starting m store stored) n h s (meant-as m store stored n e) in (
-      _,
-      λ allowances enough. alike m store stored (sum allowances) h (x .at) s (x .halted (sum allowances) enough) (x .values) (x .mark) (series object store freshLent allowances)
-          (series-run object store freshLent refl (not-refused m store stored 0) allowances),
+    let a = sum allowances in
+    let x = halts-alike k (m .statements) (sound (right m)) (namedValues object store) store (starting m store stored) n h s (meant-as m store stored n e) in
+    let count = steps-mean m store stored n in (
+      λ enough. subst (λ r. HaltedAlike k deck object h s (deckSteps k deck (namedValues object store) n) r) (sym (serial m store stored allowances))
+          (let l : meaningSteps (record { digits = k }) (m .statements) n (begin (namedValues object store)) ≤ a = omega arith in
+          halted-alike m store stored a _ h (x .at) s (x .halted a l) (x .took a l ∙ sym count) (x .among) (x .values) (x .mark)),
+      λ fewer. let l : a < meaningSteps (record { digits = k }) (m .statements) n (begin (namedValues object store)) = omega arith in
+          let (t, g) = x .before a l in
+          ap (λ r. r .halt) (serial m store stored allowances ∙ answers m store stored a (go t) g),
     )
 
 -- a run that halts other than by 2 is the machine's, halted
-module _ {k : ℕ} {deck object : List ℕ} (m : Made k deck object) (store : List ℤ) (stored : rightStore object store ≡ true) (r : Ran) (a : ℕ) (same : Same r (running object store freshLent a)) where
-  meant : (r .halt ≡ 2 → ⊥) → Meant k deck object store r
-  meant other = by (run (step o) a (fresh store)) refl
+module _ {k : ℕ} {deck object : List ℕ} (m : Made k deck object) (store : List ℤ) (stored : rightStore object store ≡ true) (a : ℕ) where
+  meant : (running object store freshLent a .halt ≡ 2 → ⊥) → Meant k deck object store (running object store freshLent a)
+  meant other = by (run (step (translate k (m .statements))) a (fresh store)) refl
     where
-      o : Object
-      o = translate k (m .statements)
-
-      by : (x : Out State) → run (step (translate k (m .statements))) a (fresh store) ≡ x → Meant k deck object store r
-      by (go t) e = absurd (other (same .halt ∙ ap (λ x. x .halt) (runs m store stored a ∙ ap (ran (translate k (m .statements)) (steps (step (translate k (m .statements))) a (fresh store))) e)))
+      by : (x : Out State) → run (step (translate k (m .statements))) a (fresh store) ≡ x → Meant k deck object store (running object store freshLent a)
+      by (go t) e = absurd (other (ap (λ r. r .halt) (answers m store stored a (go t) e)))
       by (halt h t) e =
           let x = halts-meant k (m .statements) (sound (right m)) (namedValues object store) store (starting m store stored) a h t e in
-          record { count = x .count; how = x .how; end = x .at; halts = means m store stored (x .count) ∙ ap some (x .halted); alike = alike m store stored a (x .how) t (x .at) (e ∙ ap (λ i. halt i t) (sym (x .told))) (x .values) (x .mark) r same }
+          record {
+            count = x .count;
+            how = x .how;
+            end = x .at;
+            halts = means m store stored (x .count) ∙ ap some (x .halted);
+            alike = halted-alike m store stored a _ (x .how) t (x .at) (e ∙ ap (λ i. halt i t) (sym (x .told))) (x .took ∙ sym (steps-mean m store stored (x .count))) (x .among) (x .values) (x .mark);
+          }
 
 pub means-kept : MeansAlike
 means-kept k deck object store c stored allowances other =
     let m = made c in
-    meant m store stored (series object store freshLent allowances) (sum allowances) (series-run object store freshLent refl (not-refused m store stored 0) allowances) other
+    let q = serial m store stored allowances in
+    subst (λ r. Meant k deck object store r) (sym q) (meant m store stored (sum allowances) (λ e. other (ap (λ r. r .halt) q ∙ e)))
 
 pub never-kept : NeverHalts
 never-kept k deck object store c stored never allowances = by (ℕ-discrete (series object store freshLent allowances .halt) 2)

@@ -18,6 +18,7 @@ use Rattle.rules_deck.proofs.OneForm.{no-two-forms}
 use Rattle.rules_deck.proofs.CompiledWritable.{compiled-writable}
 use Rattle.rules_deck.proofs.Proved.{decks-right}
 use Rattle.promises.specs.Promises.{Kept, RefusalKeeps, RoundTrip}
+use Rattle.promises.proofs.Runs.{series-run}
 use Rattle.promises.proofs.Made.{made, right}
 use Rattle.promises.proofs.Machine.{goes-on-kept, never-refused-kept, steps-kept, heights-kept, no-fault-kept, tests-nothing-kept, cells-past-kept, bench-is-run-kept}
 use Rattle.promises.proofs.Decks.{halts-kept, means-kept, never-kept, ends-kept, names-kept, passes-kept, runs-kept, above-kept}
@@ -49,6 +50,7 @@ kept =
       endsAfterDo = ends-kept;
       namesOnce = names-kept;
       goesOn = goes-on-kept;
+      seriesIsRun = series-run;
       neverRefused = never-refused-kept;
       stepsTrue = steps-kept;
       heightsExactly = heights-kept;

@@ -32,7 +32,7 @@ use Rattle.rules_deck.specs.Meaning.{Cause, Key, bounds, Standing}
 use Rattle.rules_deck.specs.Translation.{filled}
 use Rattle.rules_deck.specs.Compile.{deckOf, compiling}
 use Rattle.rules_deck.specs.Accepted.{Among}
-use Rattle.rules_deck.specs.Seen.{statementsOf, meaningOf, haltOf, deckNames, deckDims, deckLevels, objectIn, namedCell, namedValues, rightStore, series, sum}
+use Rattle.rules_deck.specs.Seen.{statementsOf, meaningOf, haltOf, deckSteps, InStatement, deckNames, deckDims, deckLevels, objectIn, namedCell, namedValues, rightStore, series, sum}
 use Rattle.rules_deck.specs.Worked.{decks, DecksRight}
 
 -- compiling the deck with k digits gives the object
@@ -41,20 +41,29 @@ pub record Compiled (k : ℕ) (deck object : List ℕ) : Type 0 where
   pub accepts : compiling k deck output .refusal ≡ accepted
   pub writes : objectIn (compiling k deck output) ≡ object
 
--- ---- 1, 2. A run halts as the deck means: same halt, same named values, same first statement that lost digits
+-- ---- 1, 2. A run does as the deck means
 
-pub record Alike (object : List ℕ) (h : Cause) (m : Standing) (r : Ran) : Type 0 where
+-- the answer has the meaning's named values, and its first statement that lost digits
+pub record Alike (object : List ℕ) (m : Standing) (r : Ran) : Type 0 where
   pub accepts : r .refusal ≡ accepted
-  pub halts : r .halt ≡ haltNumber (haltOf h)
   pub values : (x : Key) (c : ℕ) → namedCell object x ≡ some c → cell (r .store) c ≡ m .values x
   pub lost : r .sequence ≡ m .lost
 
--- If the meaning, which starts from the named values alone, halts, then runs one after the other that are long enough together halt alike.
+-- and the same halt, at a word of the statement at which the meaning halted, after n steps
+pub record HaltedAlike (k : ℕ) (deck object : List ℕ) (h : Cause) (m : Standing) (n : ℕ) (r : Ran) : Type 0 where
+  pub alike : Alike object m r
+  pub halts : r .halt ≡ haltNumber (haltOf h)
+  pub at : InStatement (statementsOf (deckOf k deck)) (m .at) (r .lent .index)
+  pub steps : r .steps ≡ n
+
+-- If the meaning, which starts from the named values alone, halts, then runs one after the other halt alike, after just the steps that its statements take; allowed fewer, they halt by 2.
 abbrev pub HaltsAlike : Type 0
 HaltsAlike =
     (k : ℕ) (deck object : List ℕ) (store : List ℤ) → Compiled k deck object → rightStore object store ≡ true → (n : ℕ) (h : Cause) (m : Standing) →
-    meaningOf k deck (namedValues object store) n ≡ some (halt h m) →
-    (enough : ℕ) × ((allowances : List ℕ) → enough ≤ sum allowances → Alike object h m (series object store freshLent allowances))
+    meaningOf k deck (namedValues object store) n ≡ some (halt h m) → (allowances : List ℕ) →
+    (deckSteps k deck (namedValues object store) n ≤ sum allowances →
+    HaltedAlike k deck object h m (deckSteps k deck (namedValues object store) n) (series object store freshLent allowances)) ×
+    (sum allowances < deckSteps k deck (namedValues object store) n → series object store freshLent allowances .halt ≡ 2)
 
 -- the meaning halts, and the run with it
 pub record Meant (k : ℕ) (deck object : List ℕ) (store : List ℤ) (r : Ran) : Type 0 where
@@ -62,7 +71,7 @@ pub record Meant (k : ℕ) (deck object : List ℕ) (store : List ℤ) (r : Ran)
   pub how : Cause
   pub end : Standing
   pub halts : meaningOf k deck (namedValues object store) count ≡ some (halt how end)
-  pub alike : Alike object how end r
+  pub alike : HaltedAlike k deck object how end (deckSteps k deck (namedValues object store) count) r
 
 -- If runs one after the other halt other than by 2, the meaning halts alike.
 abbrev pub MeansAlike : Type 0
@@ -112,6 +121,12 @@ GoesOn =
     (object : List ℕ) (store : List ℤ) (l : Lent) → length (l .places) ≡ limits .stack → (a b : ℕ) →
     running object store l a .refusal ≡ accepted → running object store l a .halt ≡ 2 →
     running object store l (a + b) ≡ afterSteps (running object store l a .steps) (running object (running object store l a .store) (running object store l a .lent) b)
+
+-- Runs one after the other are one run of all their allowances together.
+abbrev pub SeriesIsRun : Type 0
+SeriesIsRun =
+    (object : List ℕ) (store : List ℤ) (l : Lent) → length (l .places) ≡ limits .stack → running object store l 0 .refusal ≡ accepted → (allowances : List ℕ) →
+    series object store l allowances ≡ running object store l (sum allowances)
 
 -- What a run leaves is never refused.
 abbrev pub NeverRefused : Type 0
@@ -234,6 +249,7 @@ pub record Kept : Type 0 where
   pub endsAfterDo : EndsAfterDo
   pub namesOnce : NamesOnce
   pub goesOn : GoesOn
+  pub seriesIsRun : SeriesIsRun
   pub neverRefused : NeverRefused
   pub stepsTrue : StepsTrue
   pub heightsExactly : HeightsExactly

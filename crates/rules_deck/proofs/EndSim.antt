@@ -29,18 +29,18 @@ use Rattle.rules_deck.proofs.Ranges.{range-last}
 use Rattle.rules_deck.proofs.MachineRuns.{ruled, Runs, stay, and-then, on}
 use Rattle.rules_deck.proofs.Standings.{Bound, Inside, Stands, inside-put, inside-body}
 
--- From machine state t, inside the statement at j₀, the machine comes to what the meaning comes to, in n steps, which are no more than the statement has words from there.
+-- From machine state t, inside the statement at j₀, the machine comes to what the meaning comes to, in n steps, which are no more than the statement has words from there; a halt is at that statement and at the last word reached.
 pub data Sim (k : ℕ) (deck : List Statement) (j₀ : ℕ) (t : State) (n : ℕ) : Outcome Cause Standing → Type 0 where
   goes : {j lost m : ℕ} {env : Values} {inside : ℕ → Bounds} {c : List ℤ} → Runs k deck n t (go (state (addressAt deck j) [] c m)) → t .index + n ≤ addressAt deck (suc j₀)
       → Stands deck j env inside lost c m → (zero < n) ⊎ (j ≡ suc j₀) → Sim k deck j₀ t n (go (standing j env inside lost))
-  halts : {h : Cause} {j lost p m : ℕ} {env : Values} {inside : ℕ → Bounds} {s c : List ℤ} → Runs k deck n t (halt (haltOf h) (state p s c m)) → t .index + n ≤ addressAt deck (suc j₀)
-      → Holds (heldOf deck) env c → SameMark deck lost m → Sim k deck j₀ t n (halt h (standing j env inside lost))
+  halts : {h : Cause} {lost p m : ℕ} {env : Values} {inside : ℕ → Bounds} {s c : List ℤ} → Runs k deck n t (halt (haltOf h) (state p s c m)) → t .index + n ≤ addressAt deck (suc j₀)
+      → suc p ≡ t .index + n → Holds (heldOf deck) env c → SameMark deck lost m → Sim k deck j₀ t n (halt h (standing j₀ env inside lost))
 
 -- some steps first
 pub first : {k : ℕ} {deck : List Statement} {j n n₂ : ℕ} {s t : State} {o : Outcome Cause Standing} → Runs k deck n s (go t) → s .index + n ≡ t .index → Sim k deck j t n₂ o → Sim k deck j s (n + n₂) o
 first r e (goes r′ l st (inl z)) = goes (and-then r r′) (omega arith) st (inl (omega arith))
 first r e (goes r′ l st (inr q)) = goes (and-then r r′) (omega arith) st (inr q)
-first r e (halts r′ l h m) = halts (and-then r r′) (omega arith) h m
+first r e (halts {p = i} r′ l p h m) = halts {p = i} (and-then r r′) (omega arith) (omega arith) h m
 
 -- ---- the statement's main part is done, the DOs that end with it follow
 

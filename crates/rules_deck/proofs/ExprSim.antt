@@ -34,10 +34,10 @@ known-left m k = record { has = λ v a. k .has v (among-left m a) }
 pub known-right : {held : List Held} (l : List Name) {m : List Name} → Known held (l ++ m) → Known held m
 known-right l k = record { has = λ v a. k .has v (among-right l a) }
 
--- The code from `pc` up to `pc′` pushes the value, in as many steps as it has words; or some of it leads to the halt. In n steps.
+-- The code from `pc` up to `pc′` pushes the value, in as many steps as it has words; or some of it leads to the halt, at the last word reached. In n steps.
 pub data Gives (k : ℕ) (deck : List Statement) (pc pc′ : ℕ) (s c : List ℤ) (m n : ℕ) : Evaluated → Type 0 where
   gives : {v : ℤ} {b : Bool} {m′ : ℕ} → Runs k deck n (state pc s c m) (go (state pc′ (v ∷ s) c m′)) → pc + n ≡ pc′ → Marked pc pc′ m m′ b → Gives k deck pc pc′ s c m n (val v b)
-  stops : {h : Cause} {b : Bool} {p m′ : ℕ} {s′ : List ℤ} → Runs k deck n (state pc s c m) (halt (haltOf h) (state p s′ c m′)) → pc + n ≤ pc′ → Marked pc pc′ m m′ b → Gives k deck pc pc′ s c m n (bad h b)
+  stops : {h : Cause} {b : Bool} {p m′ : ℕ} {s′ : List ℤ} → Runs k deck n (state pc s c m) (halt (haltOf h) (state p s′ c m′)) → pc + n ≤ pc′ → suc p ≡ pc + n → Marked pc pc′ m m′ b → Gives k deck pc pc′ s c m n (bad h b)
 
 module _ {k : ℕ} {deck : List Statement} (fit : Fitting deck) {pc p₂ m : ℕ} {s c : List ℤ} where
   opGives : (r : Result) {n m₂ : ℕ} {v w : ℤ} {d : Bool} → pc ≤ p₂ → Runs k deck n (state pc s c m) (go (state p₂ (w ∷ v ∷ s) c m₂)) → pc + n ≡ p₂ → Marked pc p₂ m m₂ d
@@ -46,7 +46,7 @@ module _ {k : ℕ} {deck : List Statement} (fit : Fitting deck) {pc p₂ m : ℕ
       gives (and-then p (on fit f (ap (λ r. operated r (state p₂ (w ∷ v ∷ s) c m₂) s) a) stay)) (omega arith)
       (marked-then (widen (omega arith) (omega arith) q) (widen l (omega arith) (marked-one e m₂ p₂)))
   opGives byZero {m₂ = m₂} {v = v} {w = w} l p z q f a =
-      stops (and-then p (out fit f (ap (λ r. operated r (state p₂ (w ∷ v ∷ s) c m₂) s) a))) (omega arith) (widen (omega arith) (omega arith) q)
+      stops {p = p₂} (and-then p (out fit f (ap (λ r. operated r (state p₂ (w ∷ v ∷ s) c m₂) s) a))) (omega arith) (omega arith) (widen (omega arith) (omega arith) q)
 
   -- the first operand has run, the second has run or halts
   secondGives : {p₁ n n₂ m₁ : ℕ} {v : ℤ} {d : Bool} {rb : Evaluated} {o : Op} → pc ≤ p₁ → p₁ ≤ p₂ → Runs k deck n (state pc s c m) (go (state p₁ (v ∷ s) c m₁)) → pc + n ≡ p₁
@@ -54,17 +54,17 @@ module _ {k : ℕ} {deck : List Statement} (fit : Fitting deck) {pc p₂ m : ℕ
       → Gives k deck pc (suc p₂) s c m (joinedSteps (val v d) rb n n₂) (joined (ruled k) o (val v d) rb)
   secondGives l₁ l₂ p z q (gives p′ z′ q′) f =
       opGives (apply (ruled k) _ _ _) (omega arith) (and-then p p′) (omega arith) (marked-then (widen (omega arith) l₂ q) (widen l₁ (omega arith) q′)) f refl
-  secondGives l₁ l₂ p z q (stops p′ z′ q′) f =
-      stops (and-then p p′) (omega arith) (marked-then (widen (omega arith) (omega arith) q) (widen l₁ (omega arith) q′))
+  secondGives l₁ l₂ p z q (stops {p = i} p′ z′ y′ q′) f =
+      stops {p = i} (and-then p p′) (omega arith) (omega arith) (marked-then (widen (omega arith) (omega arith) q) (widen l₁ (omega arith) q′))
 
   joinGives : {p₁ n n₂ : ℕ} {ra rb : Evaluated} {o : Op} → pc ≤ p₁ → p₁ ≤ p₂ → Gives k deck pc p₁ s c m n ra → ((v : ℤ) (m′ : ℕ) → Gives k deck p₁ p₂ (v ∷ s) c m′ n₂ rb)
       → getElem? (codeOf deck) p₂ ≡ some (OP o) → Gives k deck pc (suc p₂) s c m (joinedSteps ra rb n n₂) (joined (ruled k) o ra rb)
-  joinGives l₁ l₂ (stops p z q) g f = stops p (omega arith) (widen (omega arith) (omega arith) q)
+  joinGives l₁ l₂ (stops p z y q) g f = stops p (omega arith) y (widen (omega arith) (omega arith) q)
   joinGives l₁ l₂ (gives p z q) g f = secondGives l₁ l₂ p z q (g _ _) f
 
   negGives : {n : ℕ} {r : Evaluated} → Gives k deck pc p₂ s c m n r → getElem? (codeOf deck) p₂ ≡ some NEG → Gives k deck pc (suc p₂) s c m (andOne r n) (negated r)
   negGives (gives p z q) f = gives (and-then p (on fit f refl stay)) (omega arith) (widen (omega arith) (omega arith) q)
-  negGives (stops p z q) f = stops p (omega arith) (widen (omega arith) (omega arith) q)
+  negGives (stops p z y q) f = stops p (omega arith) y (widen (omega arith) (omega arith) q)
 
 -- ---- elements: the entry finds the place that the subscripts find
 
@@ -84,7 +84,7 @@ module _ (deck : List Statement) {env : Values} {c : List ℤ} (h : Holds (heldO
   elem-sim : {k pc m : ℕ} {s : List ℤ} → Fitting deck → (v : Name) (ss : Subscripts) → getElem? (codeOf deck) pc ≡ some (LDE (elementEntry (heldOf deck) (dimsOf deck) v ss))
       → (o : Option ℕ) → placeOf c (elementEntry (heldOf deck) (dimsOf deck) v ss) ≡ o → placeIn env (dimsOf deck v) ss ≡ o → Gives k deck pc (suc pc) s c m 1 (elementValue env v o)
   elem-sim {pc = pc} {m = m} {s = s} fit v ss a none e i =
-      stops (out fit a (ap (λ o. elementLoaded o (elementEntry (heldOf deck) (dimsOf deck) v ss) (state pc s c m)) e)) (omega arith) (quiet refl)
+      stops {p = pc} (out fit a (ap (λ o. elementLoaded o (elementEntry (heldOf deck) (dimsOf deck) v ss) (state pc s c m)) e)) (omega arith) (omega arith) (quiet refl)
   elem-sim {pc = pc} {m = m} {s = s} fit v ss a (some p) e i =
       let q : cell c (baseOf (heldOf deck) v + p) ≡ env (elementAt v p) = h .same (elementAt v p) (element-has deck env v ss p i) in
       gives (on fit a (ap (λ o. elementLoaded o (elementEntry (heldOf deck) (dimsOf deck) v ss) (state pc s c m)) e ∙ ap (λ x. go (state (suc pc) (x ∷ s) c m)) q) stay) (omega arith) (quiet refl)

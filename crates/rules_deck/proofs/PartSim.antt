@@ -120,7 +120,7 @@ module _ (k : ℕ) {deck : List Statement} (sound : Sound deck) {j lost m : ℕ}
       (ends-sim k sound
       (ready e z (holds-put (st .holds) (plain v) x h) (same-mark j (omega arith) (omega arith) q (st .mark)) (inside-put (st .around) (plain v) x h))
       (endings deck number) ending b l)
-  assign-cell v e z h (stops r y q) a b l = halts r (omega arith) (st .holds) (same-mark j (omega arith) (omega arith) q (st .mark))
+  assign-cell v e z h (stops r y x q) a b l = halts r (omega arith) x (st .holds) (same-mark j (omega arith) (omega arith) q (st .mark))
 
   -- the value is on the stack, the place is still to be found
   stored-sim : (v : Name) (ss : Subscripts) (o : Option ℕ) {x : ℤ} {n p m′ : ℕ} {d : Bool} → isEnd f ≡ false → doOf j f ≡ []
@@ -130,7 +130,7 @@ module _ (k : ℕ) {deck : List Statement} (sound : Sound deck) {j lost m : ℕ}
       → suc p + length (endings deck number) ≡ addressAt deck (suc j)
       → Sim k deck j (state (addressAt deck j) [] c m) (storedSteps deck (endings deck number) j env inside v x o n) (stored (ruled k) deck (endings deck number) j env inside lost v x d o)
   stored-sim v ss none {x} {p = p} {m′ = m′} e z r y q u w a b l =
-      halts (and-then r (out (sound .fitting) a (ap (λ o. elementStored o (elementEntry (heldOf deck) (dimsOf deck) v ss) (state p (x ∷ []) c m′)) u))) (omega arith) (st .holds)
+      halts {p = p} (and-then r (out (sound .fitting) a (ap (λ o. elementStored o (elementEntry (heldOf deck) (dimsOf deck) v ss) (state p (x ∷ []) c m′)) u))) (omega arith) (omega arith) (st .holds)
       (same-mark j (omega arith) (omega arith) q (st .mark))
   stored-sim v ss (some i) {x} {p = p} {m′ = m′} e z r y q u w a b l =
       let h = element-has deck env v ss i w in
@@ -144,7 +144,7 @@ module _ (k : ℕ) {deck : List Statement} (sound : Sound deck) {j lost m : ℕ}
       → suc p + length (endings deck number) ≡ addressAt deck (suc j)
       → Sim k deck j (state (addressAt deck j) [] c m) (assignedSteps deck (endings deck number) j env inside (element v ss) r n) (assigned (ruled k) deck (endings deck number) j env inside lost (element v ss) r)
   assign-element v ss e z h (gives r y q) a b l = stored-sim v ss (placeIn env (dimsOf deck v) ss) e z r y q (place-value deck (st .holds) v ss h) refl a b l
-  assign-element v ss e z h (stops r y q) a b l = halts r (omega arith) (st .holds) (same-mark j (omega arith) (omega arith) q (st .mark))
+  assign-element v ss e z h (stops r y x q) a b l = halts r (omega arith) x (st .holds) (same-mark j (omega arith) (omega arith) q (st .mark))
 
   -- ---- jumps
 
@@ -154,14 +154,14 @@ module _ (k : ℕ) {deck : List Statement} (sound : Sound deck) {j lost m : ℕ}
   tested-sim n₁ n₂ n₃ x (gives {v = v} {m′ = m′} r y q) a l =
       goes (and-then r (on (sound .fitting) a (ap (λ t. go (state t [] c m′)) (sign3-map (λ n. addressOf deck (valueOf n)) v n₁ n₂ n₃)) stay)) (omega arith)
       (jumped (sign3 v n₁ n₂ n₃) (x _ (sign3-among v n₁ n₂ n₃)) (same-mark j (omega arith) (omega arith) q (st .mark))) (inl (omega arith))
-  tested-sim n₁ n₂ n₃ x (stops r y q) a l = halts r (omega arith) (st .holds) (same-mark j (omega arith) (omega arith) q (st .mark))
+  tested-sim n₁ n₂ n₃ x (stops r y z q) a l = halts r (omega arith) z (st .holds) (same-mark j (omega arith) (omega arith) q (st .mark))
 
   pub chosen-sim : (ns : List Digits) (v : ℤ) (o : Option Digits) → ((n : Digits) → Among n ns → Among n (formExits f)) → exit ns v ≡ o
       → Runs k deck 1 (state (addressAt deck j) [] c m) (go (state (suc (addressAt deck j)) (v ∷ []) c m))
       → getElem? (codeOf deck) (suc (addressAt deck j)) ≡ some (BRC (map (λ n. addressOf deck (valueOf n)) ns)) → addressAt deck j + 2 ≤ addressAt deck (suc j)
       → Sim k deck j (state (addressAt deck j) [] c m) 2 (chosen (ruled k) deck (endings deck number) j env inside lost o)
   chosen-sim ns v none x e r a l =
-      halts (and-then r (out (sound .fitting) a (ap (λ o. branched o (state (suc (addressAt deck j)) (v ∷ []) c m)) (exit-map (λ n. addressOf deck (valueOf n)) ns v ∙ ap (Option·map (λ n. addressOf deck (valueOf n))) e)))) (omega arith)
+      halts {p = suc (addressAt deck j)} (and-then r (out (sound .fitting) a (ap (λ o. branched o (state (suc (addressAt deck j)) (v ∷ []) c m)) (exit-map (λ n. addressOf deck (valueOf n)) ns v ∙ ap (Option·map (λ n. addressOf deck (valueOf n))) e)))) (omega arith) (omega arith)
       (st .holds) (st .mark)
   chosen-sim ns v (some n) x e r a l =
       goes (and-then r (on (sound .fitting) a (ap (λ o. branched o (state (suc (addressAt deck j)) (v ∷ []) c m)) (exit-map (λ n. addressOf deck (valueOf n)) ns v ∙ ap (Option·map (λ n. addressOf deck (valueOf n))) e)) stay)) (omega arith)
@@ -175,7 +175,7 @@ module _ (k : ℕ) {deck : List Statement} (sound : Sound deck) {j lost m : ℕ}
       → At (codeOf deck) (suc p) (map (doInstr deck DOE) (endings deck number)) → suc p + length (endings deck number) ≡ addressAt deck (suc j)
       → Sim k deck j (state (addressAt deck j) [] c m) (begunSteps deck (endings deck number) j env inside v b m₁ m₂ m₃ n) (begun (ruled k) deck (endings deck number) j env inside lost v b m₁ m₂ m₃ d)
   begun-sim g v false {m₁} {m₂} {m₃} {p = p} {m′ = m′} i e s r y q a b l =
-      halts (and-then r (out (sound .fitting) a (ap (λ t. Machine.begun t (loopEntry deck (record { position = j; last = g; variable = v })) m₁ m₂ m₃ (state p (m₃ ∷ m₂ ∷ m₁ ∷ []) c m′)) s))) (omega arith)
+      halts {p = p} (and-then r (out (sound .fitting) a (ap (λ t. Machine.begun t (loopEntry deck (record { position = j; last = g; variable = v })) m₁ m₂ m₃ (state p (m₃ ∷ m₂ ∷ m₁ ∷ []) c m′)) s))) (omega arith) (omega arith)
       (st .holds) (same-mark j (omega arith) (omega arith) q (st .mark))
   begun-sim g v true {m₁} {m₂} {m₃} {p = p} {m′ = m′} i e s r y q a b l =
       let D : Do = record { position = j; last = g; variable = v } in
@@ -204,8 +204,8 @@ module _ (k : ℕ) {deck : List Statement} (sound : Sound deck) {j lost m : ℕ}
         → Sim k deck j (state (addressAt deck j) [] c m) (readSteps deck (endings deck number) j env inside v (val x d₁) (val w d₂) r n₁ n₂ n₃) (read (ruled k) deck (endings deck number) j env inside lost v (val x d₁) (val w d₂) r)
     third-sim x w d₁ d₂ n₁ n₂ r y q (gives {v = z} r′ y′ q′) =
         begun-sim g v (allPositive x w z) i e refl (and-then r r′) (omega arith) (marked-then (widen (omega arith) l₃ q) (widen (omega arith) (omega arith) q′)) a b l
-    third-sim x w d₁ d₂ n₁ n₂ r y q (stops r′ y′ q′) =
-        halts (and-then r r′) (omega arith) (st .holds)
+    third-sim x w d₁ d₂ n₁ n₂ r y q (stops {p = o} r′ y′ x′ q′) =
+        halts {p = o} (and-then r r′) (omega arith) (omega arith) (st .holds)
         (same-mark j (omega arith) (omega arith) (marked-then (widen (omega arith) l₃ q) (widen {lo = addressAt deck j} {hi = p₃} (omega arith) (omega arith) q′)) (st .mark))
 
     second-sim : (x : ℤ) (d₁ : Bool) {n₁ n₂ n₃ m′ : ℕ} {r r₃ : Evaluated} → Runs k deck n₁ (state (addressAt deck j) [] c m) (go (state p₁ (x ∷ []) c m′)) → addressAt deck j + n₁ ≡ p₁
@@ -213,12 +213,12 @@ module _ (k : ℕ) {deck : List Statement} (sound : Sound deck) {j lost m : ℕ}
         → Sim k deck j (state (addressAt deck j) [] c m) (readSteps deck (endings deck number) j env inside v (val x d₁) r r₃ n₁ n₂ n₃) (read (ruled k) deck (endings deck number) j env inside lost v (val x d₁) r r₃)
     second-sim x d₁ {n₁} {n₂} r y q (gives {v = w} {b = d₂} r′ y′ q′) g₃ =
         third-sim x w d₁ d₂ n₁ n₂ (and-then r r′) (omega arith) (marked-then (widen (omega arith) l₂ q) (widen (omega arith) (omega arith) q′)) (g₃ w _)
-    second-sim x d₁ r y q (stops r′ y′ q′) g₃ =
-        halts (and-then r r′) (omega arith) (st .holds)
+    second-sim x d₁ r y q (stops {p = o} r′ y′ x′ q′) g₃ =
+        halts {p = o} (and-then r r′) (omega arith) (omega arith) (st .holds)
         (same-mark j (omega arith) (omega arith) (marked-then (widen (omega arith) l₂ q) (widen {lo = addressAt deck j} {hi = p₂} (omega arith) (omega arith) q′)) (st .mark))
 
     pub read-sim : {n₁ n₂ n₃ : ℕ} {r₁ r₂ r₃ : Evaluated} → Gives k deck (addressAt deck j) p₁ [] c m n₁ r₁ → ((x : ℤ) (m′ : ℕ) → Gives k deck p₁ p₂ (x ∷ []) c m′ n₂ r₂)
         → ((x w : ℤ) (m′ : ℕ) → Gives k deck p₂ p₃ (w ∷ x ∷ []) c m′ n₃ r₃)
         → Sim k deck j (state (addressAt deck j) [] c m) (readSteps deck (endings deck number) j env inside v r₁ r₂ r₃ n₁ n₂ n₃) (read (ruled k) deck (endings deck number) j env inside lost v r₁ r₂ r₃)
     read-sim (gives {v = x} {b = d₁} r y q) g₂ g₃ = second-sim x d₁ r y q (g₂ x _) (g₃ x)
-    read-sim (stops r y q) g₂ g₃ = halts r (omega arith) (st .holds) (same-mark j (omega arith) (omega arith) q (st .mark))
+    read-sim (stops r y x q) g₂ g₃ = halts r (omega arith) x (st .holds) (same-mark j (omega arith) (omega arith) q (st .mark))

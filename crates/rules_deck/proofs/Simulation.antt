@@ -13,7 +13,7 @@ use lib.IntN.{ℤ}
 use Rattle.rules_shared.specs.Runs.{Outcome, Halt, Out, go, halt, then, run, stepsFrom, steps}
 use Rattle.rules_shared.specs.Choose.{positive}
 use Rattle.rules_object.specs.Machine.{State, state, fresh, step}
-use Rattle.rules_shared.proofs.RunLaws.{halt-same, Steps, one, last, more, same-halt, onward, steps-more, steps-most}
+use Rattle.rules_shared.proofs.RunLaws.{halt-same, Steps, one, last, more, same-halt, onward, steps-more, steps-some, steps-most}
 use Rattle.rules_deck.specs.Trees.{Statement}
 use Rattle.rules_deck.specs.Deck.{Do, endings}
 use Rattle.rules_deck.specs.Meaning.{Cause, Values, Bounds, notEntered, bounds, Standing, standing, begin, meaningStep, meaning}
@@ -23,7 +23,7 @@ use Rattle.rules_deck.specs.Whole.{endsWell, lastOf}
 use Rattle.rules_deck.specs.Cells.{Holds, SameMark, unmarked}
 use Rattle.rules_deck.specs.Accepted.{Among}
 use Rattle.rules_deck.specs.Sound.{Sound}
-use Rattle.rules_deck.specs.Seen.{haltOf}
+use Rattle.rules_deck.specs.Seen.{haltOf, InStatement}
 use Rattle.rules_deck.proofs.DoLaws.{among-endings}
 use Rattle.rules_deck.proofs.Addresses.{address-zero}
 use Rattle.rules_deck.proofs.MachineRuns.{ruled, Runs, stay, and-then}
@@ -37,27 +37,31 @@ use Rattle.rules_deck.proofs.StatementSim.{step-sim}
 data Comes (k : ℕ) (deck : List Statement) (t : State) (n : ℕ) : Outcome Cause Standing → Type 0 where
   going : {j lost m : ℕ} {env : Values} {inside : ℕ → Bounds} {c : List ℤ} → Runs k deck n t (go (state (addressAt deck j) [] c m)) → Stands deck j env inside lost c m
       → Comes k deck t n (go (standing j env inside lost))
-  ended : {h : Cause} {j lost p m : ℕ} {env : Values} {inside : ℕ → Bounds} {s c : List ℤ} → Runs k deck n t (halt (haltOf h) (state p s c m)) → Holds (heldOf deck) env c → SameMark deck lost m
+  ended : {h : Cause} {j lost p m : ℕ} {env : Values} {inside : ℕ → Bounds} {s c : List ℤ} → Runs k deck n t (halt (haltOf h) (state p s c m)) → addressAt deck j ≤ p → p < addressAt deck (suc j) → Holds (heldOf deck) env c → SameMark deck lost m
       → Comes k deck t n (halt h (standing j env inside lost))
 
 module _ {k : ℕ} {deck : List Statement} where
   after-run : {a b : ℕ} {s t : State} {o : Outcome Cause Standing} → Runs k deck a s (go t) → Comes k deck t b o → Comes k deck s (a + b) o
   after-run r (going p st) = going (and-then r p) st
-  after-run r (ended p h m) = ended (and-then r p) h m
+  after-run r (ended p l u h m) = ended (and-then r p) l u h m
 
-  then-comes : {j n : ℕ} {t : State} {o : Outcome Cause Standing} (f : Standing → Outcome Cause Standing) (g : Standing → ℕ) → Sim k deck j t n o
+  some-steps : {n : ℕ} {s t : State} {h : Halt} → Runs k deck n s (halt h t) → 1 ≤ n
+  some-steps {n} {s} {t} {h} r = omega (arith, r .took, steps-some (step (translate k deck)) n s t h (r .is .eq))
+
+  then-comes : {j n : ℕ} {t : State} {o : Outcome Cause Standing} (f : Standing → Outcome Cause Standing) (g : Standing → ℕ) → t .index ≡ addressAt deck j → Sim k deck j t n o
       → ((j lost m : ℕ) (env : Values) (inside : ℕ → Bounds) (c : List ℤ) → Stands deck j env inside lost c m
       → Comes k deck (state (addressAt deck j) [] c m) (g (standing j env inside lost)) (f (standing j env inside lost)))
       → Comes k deck t (n + stepsFrom o g) (then o f)
-  then-comes f g (goes r l st p) h = after-run r (h _ _ _ _ _ _ st)
-  then-comes {n = n} {t} f g (halts {h = i} {j} {lost} {env = env} {inside} r l h m) w =
-      subst (λ a. Comes k deck t a (halt i (standing j env inside lost))) (sym (add-zero n)) (ended r h m)
+  then-comes f g e (goes r l st p) h = after-run r (h _ _ _ _ _ _ st)
+  then-comes {j} {n} {t} f g e (halts {h = i} {lost} {env = env} {inside} r l p h m) w =
+      let z = some-steps r in
+      subst (λ a. Comes k deck t a (halt i (standing j env inside lost))) (sym (add-zero n)) (ended r (omega arith) (omega arith) h m)
 
 comes : (k : ℕ) {deck : List Statement} → Sound deck → (n j lost m : ℕ) (env : Values) (inside : ℕ → Bounds) (c : List ℤ) → Stands deck j env inside lost c m
     → Comes k deck (state (addressAt deck j) [] c m) (meaningSteps (ruled k) deck n (standing j env inside lost)) (run (meaningStep (ruled k) deck) n (standing j env inside lost))
 comes k sound zero j lost m env inside c st = going stay st
 comes k {deck} sound (suc n) j lost m env inside c st =
-    then-comes (λ t. run (meaningStep (ruled k) deck) n t) (λ t. meaningSteps (ruled k) deck n t) (step-sim k sound st) (comes k sound n)
+    then-comes (λ t. run (meaningStep (ruled k) deck) n t) (λ t. meaningSteps (ruled k) deck n t) refl (step-sim k sound st) (comes k sound n)
 
 -- ---- backward: if the machine halts, so does the meaning
 
@@ -79,7 +83,7 @@ module _ {k : ℕ} {deck : List Statement} where
       → N * suc (length deck) + (length deck - j) < suc F → Steps (step (translate k deck)) N t (halt h t′) → Sim k deck j t n o
       → ((j N lost m : ℕ) (env : Values) (inside : ℕ → Bounds) (c : List ℤ) → Stands deck j env inside lost c m → N * suc (length deck) + (length deck - j) < F
       → Steps (step (translate k deck)) N (state (addressAt deck j) [] c m) (halt h t′) → Halts k deck (standing j env inside lost)) → Halts k deck (standing j env inside lost)
-  back-step e l b r (halts p w h m) g = record { count = 1; how = _; at = _; is = last e }
+  back-step e l b r (halts p w q h m) g = record { count = 1; how = _; at = _; is = last e }
   back-step {j} {N} {F} {n = n} e l b r (goes {j = j′} p w st c) g =
       let (i, q, r′) = onward (p .is) r in
       let x = g j′ i _ _ _ _ _ st (by-count i q c) r′ in
@@ -113,6 +117,7 @@ pub record Alike (k : ℕ) (deck : List Statement) (store : List ℤ) (h : Cause
   pub halted : (n : ℕ) → count ≤ n → run (step (translate k deck)) n (fresh store) ≡ halt (haltOf h) at
   pub took : (n : ℕ) → count ≤ n → steps (step (translate k deck)) n (fresh store) ≡ count
   pub before : (n : ℕ) → n < count → (t : State) × (run (step (translate k deck)) n (fresh store) ≡ go t)
+  pub among : InStatement deck (m .at) (at .index)
   pub values : Holds (heldOf deck) (m .values) (at .store)
   pub mark : SameMark deck (m .lost) (at .mark)
 
@@ -124,6 +129,7 @@ pub record Meant (k : ℕ) (deck : List Statement) (env : Values) (h : Halt) (t 
   pub halted : meaning (ruled k) deck env count ≡ halt how at
   pub told : haltOf how ≡ h
   pub took : taken ≡ meaningSteps (ruled k) deck count (begin env)
+  pub among : InStatement deck (at .at) (t .index)
   pub values : Holds (heldOf deck) (at .values) (t .store)
   pub mark : SameMark deck (at .lost) (t .mark)
 
@@ -147,7 +153,7 @@ module _ {k : ℕ} {deck : List Statement} {s t : State} {n : ℕ} {h : Halt} (r
           absurd (omega (arith, r .took, steps-most f N s u i e))
 
 alike : {k : ℕ} {deck : List Statement} {store : List ℤ} {h : Cause} {m : Standing} {n : ℕ} → Comes k deck (fresh store) n (halt h m) → Alike k deck store h m n
-alike (ended r v m) = record { at = _; halted = enough r; took = taken r; before = early r; values = v; mark = m }
+alike (ended r l u v m) = record { at = _; halted = enough r; took = taken r; before = early r; among = (l, u); values = v; mark = m }
 
 stood : {k : ℕ} {deck : List Statement} {store : List ℤ} {m : Standing} {n : ℕ} → Comes k deck (fresh store) n (go m) → Stood k deck store m n
 stood (going r st) = record { at = _; goes = r .is .eq; index = refl; stack = refl; values = st .holds; mark = st .mark; around = st .around }
@@ -206,6 +212,7 @@ module _ (k : ℕ) (deck : List Statement) (sound : Sound deck) (env : Values) (
         halted = x .is .eq;
         told = q .0;
         took = sym (steps-more f n count (fresh store) t h e) ∙ y .took (n + count) (omega arith);
+        among = subst (λ (u : State). InStatement deck (x .at .at) (u .index)) (q .1) (y .among);
         values = subst (λ (u : State). Holds (heldOf deck) (x .at .values) (u .store)) (q .1) (y .values);
         mark = subst (λ (u : State). SameMark deck (x .at .lost) (u .mark)) (q .1) (y .mark);
       }

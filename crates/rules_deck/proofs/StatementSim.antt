@@ -82,8 +82,8 @@ module _ (k : ℕ) {deck : List Statement} (sound : Sound deck) {j lost m : ℕ}
       (λ u w m′. expr-sim (sound .fitting) (st .holds) (third p₃) (third-known p₃ n₃) _ (at-left c₃ _ a₃) (w ∷ u ∷ []) m′)
   exec-sim number continue at a l =
       ends-sim k sound (ready k sound st at refl refl (st .holds) (st .mark) (st .around)) (endings deck number) (ending k sound st at) a (omega arith)
-  exec-sim number stop at a l = halts (out (sound .fitting) (at-head a) refl) (omega arith) (st .holds) (st .mark)
-  exec-sim number end at a l = halts (out (sound .fitting) (at-head a) refl) (omega arith) (st .holds) (st .mark)
+  exec-sim number stop at a l = halts {p = addressAt deck j} (out (sound .fitting) (at-head a) refl) (omega arith) (omega arith) (st .holds) (st .mark)
+  exec-sim number end at a l = halts {p = addressAt deck j} (out (sound .fitting) (at-head a) refl) (omega arith) (omega arith) (st .holds) (st .mark)
   exec-sim number (dimension arrays) at a l =
       ends-sim k sound (ready k sound st at refl refl (st .holds) (st .mark) (st .around)) (endings deck number) (ending k sound st at) a (omega arith)
 
@@ -110,7 +110,7 @@ module _ (k : ℕ) {deck : List Statement} (sound : Sound deck) {j lost m : ℕ}
 
 within : {k : ℕ} {deck : List Statement} {j n : ℕ} {t : State} {o : Outcome Cause Standing} → Sim k deck j t n o → t .index + n ≤ addressAt deck (suc j)
 within (goes r l st p) = l
-within (halts r l h m) = l
+within (halts r l p h m) = l
 
 -- no more steps than the statement has words
 pub steps-most : (k : ℕ) {deck : List Statement} → Sound deck → {j lost m : ℕ} {env : Values} {inside : ℕ → Bounds} {c : List ℤ} → Stands deck j env inside lost c m

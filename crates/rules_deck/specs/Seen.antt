@@ -1,6 +1,6 @@
 -- How a caller sees a deck: its meaning from its bytes, its values through body 7, and runs one after the other. The promises are said in these words.
 -- Assumes nothing.
-use Prim.Native.Nat.{ℕ, _+_, max}
+use Prim.Native.Nat.{ℕ, suc, _+_, _≤_, _<_, max}
 use mathlib.Core.Bool.{Bool, false, _&&_, cond}
 use mathlib.Core.List.{List, [], _∷_, _++_}
 use mathlib.Core.Option.{Option, none, some}
@@ -14,10 +14,13 @@ use Rattle.rules_object.specs.Machine.{cell}
 use Rattle.rules_object.specs.Check.{span}
 use Rattle.rules_shared.specs.Output.{Written}
 use Rattle.rules_object.specs.Calls.{Lent, Ran, right50, right51, running}
+use Rattle.rules_object.specs.Safe.{afterSteps}
 use Rattle.rules_deck.specs.Trees.{Name, Statement, formNames, formLevels}
 use Rattle.rules_deck.specs.Cards.{withoutBlanks}
 use Rattle.rules_deck.specs.Deck.{sameName, Dims, dimsOf}
-use Rattle.rules_deck.specs.Meaning.{Cause, stopReached, endReached, zeroDivisor, wrongSubscript, wrongExit, wrongParameter, Key, plain, elementAt, Values, Standing, meaning}
+use Rattle.rules_deck.specs.Meaning.{Cause, stopReached, endReached, zeroDivisor, wrongSubscript, wrongExit, wrongParameter, Key, plain, elementAt, Values, Standing, begin, meaning}
+use Rattle.rules_deck.specs.Cost.{meaningSteps}
+use Rattle.rules_deck.specs.Translation.{addressAt}
 use Rattle.rules_deck.specs.Compile.{Read, notRead, read, deckOf}
 
 -- ---- the deck
@@ -44,6 +47,14 @@ haltOf zeroDivisor = divideByZero
 haltOf wrongSubscript = badSubscript
 haltOf wrongExit = badExit
 haltOf wrongParameter = badParameter
+
+-- how many steps of a run these statements take
+unfoldable pub deckSteps : ℕ → List ℕ → Values → ℕ → ℕ
+deckSteps k bytes env n = meaningSteps (record { digits = k }) (statementsOf (deckOf k bytes)) n (begin env)
+
+-- the index is that of a word of the statement at position j: of its own code, or of the ends of the DOs whose last statement it is
+abbrev pub InStatement : List Statement → ℕ → ℕ → Type 0
+InStatement deck j index = (addressAt deck j ≤ index) × (index < addressAt deck (suc j))
 
 abbrev pub namesIn : List Statement → List Name
 namesIn [] = []
@@ -110,10 +121,10 @@ rightStoreOf (some o) store = right50 o store && right51 o store
 unfoldable pub rightStore : List ℕ → List ℤ → Bool
 rightStore object store = rightStoreOf (readObject object) store
 
--- runs one after the other, each with the last one's state and store, until one halts other than by 2
+-- runs one after the other, each with the last one's state and store, until one halts other than by 2; their steps are added
 abbrev pub goOn : List ℕ → Ran → List ℕ → Ran
 goOn object r [] = r
-goOn object r (a ∷ allowances) = goOn object (cond (eqb (r .halt) 2) (running object (r .store) (r .lent) a) r) allowances
+goOn object r (a ∷ allowances) = goOn object (cond (eqb (r .halt) 2) (afterSteps (r .steps) (running object (r .store) (r .lent) a)) r) allowances
 
 unfoldable pub series : List ℕ → List ℤ → Lent → List ℕ → Ran
 series object store l allowances = goOn object (running object store l 0) allowances
