@@ -8,7 +8,7 @@ use native.Mathlib.Omega.{arith}
 use mathlib.Core.Bool.{Bool, true, false, _||_, cond}
 use mathlib.Core.List.{List, [], _∷_}
 use mathlib.Core.Option.{some}
-use lib.ListN.{getElem?}
+use lib.ListN.{length, getElem?}
 use lib.IntN.{ℤ}
 use Rattle.rules_shared.specs.Runs.{Outcome, Out, go, halt, run, steps}
 use Rattle.rules_shared.specs.Choose.{positive}
@@ -17,6 +17,7 @@ use Rattle.rules_object.specs.Bytes.{readObject}
 use Rattle.rules_object.specs.Machine.{State, fresh, cell, step}
 use Rattle.rules_shared.specs.Refusals.{accepted}
 use Rattle.rules_object.specs.Calls.{checking, given, right50, right51, sequenceOf, Ran, ran, runFrom, running, taken}
+use Rattle.rules_shared.proofs.RunLaws.{steps-go}
 use Rattle.rules_object.proofs.Passed.{Passed, check-passed, both}
 use Rattle.rules_object.proofs.Lents.{long-enough, fresh-stands, stands-52}
 use Rattle.rules_object.proofs.Accepts.{Accepts, accepts-run}
@@ -26,7 +27,7 @@ use Rattle.rules_deck.specs.Trees.{Name, Statement, formNames}
 use Rattle.rules_deck.specs.Deck.{Do, sameName, Dims, dimsIn, dimsOf, endings}
 use Rattle.rules_deck.specs.Meaning.{Cause, plain, bounds, Standing, begin, meaning}
 use Rattle.rules_deck.specs.Cost.{meaningSteps}
-use Rattle.rules_deck.specs.Translation.{Held, name, array, hidden, isArray, holds, cellOf, baseOf, heldOf, namesFrom, translate}
+use Rattle.rules_deck.specs.Translation.{Held, name, array, hidden, isArray, holds, cellOf, baseOf, heldOf, addressAt, namesFrom, translate}
 use Rattle.rules_deck.specs.Accepted.{Among}
 use Rattle.rules_deck.specs.Cells.{key, Has, Holds, SameMark}
 use Rattle.rules_deck.specs.Seen.{statementsOf, meaningRead, meaningOf, haltOf, deckSteps, InStatement, namesIn, deckNames, deckDims, deckLevels, namedValues, rightStoreOf, rightStore, series, sum}
@@ -39,8 +40,8 @@ use Rattle.rules_deck.proofs.CompiledWritable.{compiled-passes}
 use Rattle.rules_deck.proofs.NeverAbove.{never-above}
 use Rattle.rules_deck.proofs.SoundDeck.{sound}
 use Rattle.rules_deck.proofs.Sequence.{same-sequence, dimension-empty}
-use Rattle.rules_deck.proofs.Simulation.{halts-alike, halts-meant, ends-entered}
-use Rattle.promises.specs.Promises.{Alike, HaltedAlike, HaltsAlike, Meant, MeansAlike, NeverHalts, EndsAfterDo, OneEntry, NamesOnce, CompiledPasses, CompiledRuns, NeverAbove}
+use Rattle.rules_deck.proofs.Simulation.{goes-alike, halts-alike, halts-meant, ends-entered}
+use Rattle.promises.specs.Promises.{Alike, HaltedAlike, HaltsAlike, GoesAlike, Meant, MeansAlike, NeverHalts, EndsAfterDo, OneEntry, NamesOnce, CompiledPasses, CompiledRuns, NeverAbove}
 use Rattle.promises.proofs.Runs.{series-run}
 use Rattle.promises.proofs.Made.{Made, made, right, reads-back, checks, named-has, holds-named}
 
@@ -138,6 +139,23 @@ halts-kept k deck object store c stored n h s e allowances =
           let (t, g) = x .before a l in
           ap (λ r. r .halt) (serial m store stored allowances ∙ answers m store stored a (go t) g),
     )
+
+pub goes-kept : GoesAlike
+unfolding given
+goes-kept k deck object store c stored n s e allowances just =
+    let m = made c in
+    let count = steps-mean m store stored n in
+    let x = goes-alike k (m .statements) (sound (right m)) (namedValues object store) store (starting m store stored) n s (meant-as m store stored n e) in
+    let f = step (translate k (m .statements)) in
+    let g : run f (sum allowances) (fresh store) ≡ go (x .at) = ap (λ a. run f a (fresh store)) (just ∙ count) ∙ x .goes in
+    let q = serial m store stored allowances ∙ answers m store stored (sum allowances) (go (x .at)) g in
+    record {
+      alike = alike m store stored (series object store freshLent allowances) (x .at) s (ap (λ r. r .refusal) q) (ap (λ r. r .store) q) (ap (λ r. r .sequence) q) (x .values) (x .mark);
+      halts = ap (λ r. r .halt) q;
+      at = ap (λ r. r .lent .index) q ∙ x .index ∙ ap (λ r. addressAt (statementsOf r) (s .at)) (sym (m .reads));
+      height = ap (λ r. r .lent .height) q ∙ ap length (x .stack);
+      steps = ap (λ r. r .steps) q ∙ steps-go f (sum allowances) (fresh store) (x .at) g ∙ just;
+    }
 
 -- a run that halts other than by 2 is the machine's, halted
 module _ {k : ℕ} {deck object : List ℕ} (m : Made k deck object) (store : List ℤ) (stored : rightStore object store ≡ true) (a : ℕ) where

@@ -21,7 +21,7 @@ use Rattle.promises.specs.Promises.{Kept, RefusalKeeps, RoundTrip}
 use Rattle.promises.proofs.Runs.{series-run}
 use Rattle.promises.proofs.Made.{made, right}
 use Rattle.promises.proofs.Machine.{goes-on-kept, never-refused-kept, steps-kept, heights-kept, no-fault-kept, tests-nothing-kept, cells-past-kept, bench-is-run-kept}
-use Rattle.promises.proofs.Decks.{halts-kept, means-kept, never-kept, ends-kept, names-kept, passes-kept, runs-kept, above-kept}
+use Rattle.promises.proofs.Decks.{halts-kept, means-kept, goes-kept, never-kept, ends-kept, names-kept, passes-kept, runs-kept, above-kept}
 
 compile-keeps : (k : ℕ) (deck output : List ℕ) → (compiling k deck output .refusal ≡ accepted → ⊥) → compiling k deck output ≡ notWritten (compiling k deck output .refusal) output
 unfolding compiling write
@@ -46,6 +46,7 @@ kept =
     record {
       haltsAlike = halts-kept;
       meansAlike = means-kept;
+      goesAlike = goes-kept;
       neverHalts = never-kept;
       endsAfterDo = ends-kept;
       namesOnce = names-kept;

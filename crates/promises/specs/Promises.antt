@@ -29,7 +29,7 @@ use Rattle.rules_deck.specs.Trees.{Name, Statement}
 use Rattle.rules_deck.specs.Deck.{Do, endings}
 use Rattle.rules_deck.specs.Grammar.{readings}
 use Rattle.rules_deck.specs.Meaning.{Cause, Key, bounds, Standing}
-use Rattle.rules_deck.specs.Translation.{filled}
+use Rattle.rules_deck.specs.Translation.{addressAt, filled}
 use Rattle.rules_deck.specs.Compile.{deckOf, compiling}
 use Rattle.rules_deck.specs.Accepted.{Among}
 use Rattle.rules_deck.specs.Seen.{statementsOf, meaningOf, haltOf, deckSteps, InStatement, deckNames, deckDims, deckLevels, objectIn, namedCell, namedValues, rightStore, series, sum}
@@ -78,6 +78,21 @@ abbrev pub MeansAlike : Type 0
 MeansAlike =
     (k : ℕ) (deck object : List ℕ) (store : List ℤ) → Compiled k deck object → rightStore object store ≡ true → (allowances : List ℕ) →
     (series object store freshLent allowances .halt ≡ 2 → ⊥) → Meant k deck object store (series object store freshLent allowances)
+
+-- or the run goes on, at the first word of the statement that comes next in the meaning, after n steps
+pub record StandsAlike (k : ℕ) (deck object : List ℕ) (m : Standing) (n : ℕ) (r : Ran) : Type 0 where
+  pub alike : Alike object m r
+  pub halts : r .halt ≡ 2
+  pub at : r .lent .index ≡ addressAt (statementsOf (deckOf k deck)) (m .at)
+  pub height : r .lent .height ≡ 0
+  pub steps : r .steps ≡ n
+
+-- While the meaning goes on, runs that are allowed just the steps that its statements take stand where it stands.
+abbrev pub GoesAlike : Type 0
+GoesAlike =
+    (k : ℕ) (deck object : List ℕ) (store : List ℤ) → Compiled k deck object → rightStore object store ≡ true → (n : ℕ) (m : Standing) →
+    meaningOf k deck (namedValues object store) n ≡ some (go m) → (allowances : List ℕ) → sum allowances ≡ deckSteps k deck (namedValues object store) n →
+    StandsAlike k deck object m (deckSteps k deck (namedValues object store) n) (series object store freshLent allowances)
 
 -- A deck that never halts is never made to halt.
 abbrev pub NeverHalts : Type 0
@@ -245,6 +260,7 @@ pub record Table : Type 0 where
 pub record Kept : Type 0 where
   pub haltsAlike : HaltsAlike
   pub meansAlike : MeansAlike
+  pub goesAlike : GoesAlike
   pub neverHalts : NeverHalts
   pub endsAfterDo : EndsAfterDo
   pub namesOnce : NamesOnce
