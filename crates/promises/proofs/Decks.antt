@@ -2,7 +2,7 @@
 -- Assumes nothing.
 use mathlib.Core.Path.{_≡_, refl, sym, ap, _∙_, subst}
 use mathlib.Core.Logic.{_⊎_, inl, inr}
-use Prim.Native.Nat.{ℕ, suc, _+_, _*_, _≤_, _<_}
+use Prim.Native.Nat.{ℕ, zero, suc, _+_, _*_, _≤_, _<_}
 use native.Mathlib.Decide.{ℕ-discrete}
 use native.Mathlib.Omega.{arith}
 use mathlib.Core.Bool.{Bool, true, false, _||_, cond}
@@ -12,7 +12,7 @@ use lib.ListN.{length, getElem?}
 use lib.IntN.{ℤ}
 use Rattle.rules_shared.specs.Runs.{Outcome, Out, go, halt, run, steps}
 use Rattle.rules_shared.specs.Choose.{positive}
-use Rattle.rules_object.specs.Object.{Object}
+use Rattle.rules_object.specs.Object.{Named, Object}
 use Rattle.rules_object.specs.Bytes.{readObject}
 use Rattle.rules_object.specs.Machine.{State, fresh, cell, step}
 use Rattle.rules_shared.specs.Refusals.{accepted}
@@ -27,21 +27,21 @@ use Rattle.rules_deck.specs.Trees.{Name, Statement, formNames}
 use Rattle.rules_deck.specs.Deck.{Do, sameName, Dims, dimsIn, dimsOf, endings}
 use Rattle.rules_deck.specs.Meaning.{Cause, plain, bounds, Standing, begin, meaning}
 use Rattle.rules_deck.specs.Cost.{meaningSteps}
-use Rattle.rules_deck.specs.Translation.{Held, name, array, hidden, isArray, holds, cellOf, baseOf, heldOf, addressAt, namesFrom, translate}
+use Rattle.rules_deck.specs.Translation.{Held, name, array, hidden, isArray, holds, cellOf, baseOf, heldOf, addressAt, filled, namesFrom, translate}
 use Rattle.rules_deck.specs.Accepted.{Among}
 use Rattle.rules_deck.specs.Cells.{key, Has, Holds, SameMark}
 use Rattle.rules_deck.specs.Seen.{statementsOf, meaningRead, meaningOf, haltOf, deckSteps, InStatement, namesIn, deckNames, deckDims, deckLevels, namedValues, rightStoreOf, rightStore, series, sum}
-use Rattle.rules_deck.proofs.TestLaws.{among-append}
+use Rattle.rules_deck.proofs.TestLaws.{among-left, among-right, among-append}
 use Rattle.rules_deck.proofs.MapNames.{entryOf, noDims}
 use Rattle.rules_deck.proofs.ArrayLaws.{arraysHeld, arrays-held}
 use Rattle.rules_deck.proofs.MapOnce.{never-both}
-use Rattle.rules_deck.proofs.BodySeven.{InDeck, name-entry}
+use Rattle.rules_deck.proofs.BodySeven.{InDeck, name-entry, entry-name, names-ordered}
 use Rattle.rules_deck.proofs.CompiledWritable.{compiled-passes}
 use Rattle.rules_deck.proofs.NeverAbove.{never-above}
 use Rattle.rules_deck.proofs.SoundDeck.{sound}
 use Rattle.rules_deck.proofs.Sequence.{same-sequence, dimension-empty}
 use Rattle.rules_deck.proofs.Simulation.{goes-alike, halts-alike, halts-meant, ends-entered}
-use Rattle.promises.specs.Promises.{Alike, HaltedAlike, HaltsAlike, GoesAlike, Meant, MeansAlike, NeverHalts, EndsAfterDo, OneEntry, NamesOnce, CompiledPasses, CompiledRuns, NeverAbove}
+use Rattle.promises.specs.Promises.{Alike, HaltedAlike, HaltsAlike, GoesAlike, Meant, MeansAlike, NeverHalts, EndsAfterDo, EntryOf, OneEntry, NamesOnce, CompiledPasses, CompiledRuns, NeverAbove}
 use Rattle.promises.proofs.Runs.{series-run}
 use Rattle.promises.proofs.Made.{Made, made, right, reads-back, checks, named-has, holds-named}
 
@@ -210,6 +210,14 @@ among-in (s ∷ deck) v a = by (among-append (formNames (s .form)) (namesIn deck
     by (inl b) f = record { position = 0; statement = s; at = refl; among = b }
     by (inr b) f = let i = f b in record { position = suc (i .position); statement = i .statement; at = i .at; among = i .among }
 
+in-among : (deck : List Statement) (v : Name) → InDeck deck v → Among v (namesIn deck)
+in-among deck v i = by deck (i .position) (i .at)
+  where
+    by : (deck : List Statement) (j : ℕ) → getElem? deck j ≡ some (i .statement) → Among v (namesIn deck)
+    by [] j e = let z : _≡_ {A = ℕ} 0 1 = cc in absurd (omega arith)
+    by (s ∷ deck) zero e = among-left (namesIn deck) (subst (λ (x : Statement). Among v (formNames (x .form))) (sym (some-same e)) (i .among))
+    by (s ∷ deck) (suc j) e = among-right (formNames (s .form)) (by deck j e)
+
 -- a name that is no array has no dimensions
 no-dims : (held : List Held) (v : Name) → holds (isArray v) held ≡ false → dimsIn (arraysHeld held) v ≡ noDims
 no-dims [] v e = refl
@@ -221,7 +229,7 @@ no-dims (array a ∷ held) v e = by (sameName (a .name) v) e (no-dims held v)
     by true e f = absurd (true-not-false e)
 no-dims (hidden q ∷ held) v e = no-dims held v e
 
-module _ {k : ℕ} {deck object : List ℕ} (m : Made k deck object) (o : Object) (r : readObject object ≡ some o) (v : Name) where
+module _ {k : ℕ} {deck object : List ℕ} (m : Made k deck object) (o : Object) (r : readObject object ≡ some o) where
   is : o ≡ translate k (m .statements)
   is = some-same (sym r ∙ reads-back m)
 
@@ -229,6 +237,7 @@ module _ {k : ℕ} {deck object : List ℕ} (m : Made k deck object) (o : Object
   unfolding translate
   names = ap (λ x. x .names) is
 
+module _ {k : ℕ} {deck object : List ℕ} (m : Made k deck object) (o : Object) (r : readObject object ≡ some o) (v : Name) where
   dims : deckDims k deck v ≡ dimsOf (m .statements) v
   unfolding deckDims
   dims = ap (λ x. dimsOf (statementsOf x) v) (m .reads)
@@ -241,7 +250,7 @@ module _ {k : ℕ} {deck object : List ℕ} (m : Made k deck object) (o : Object
 
   once : (first : ℕ) (d : Dims) → deckDims k deck v ≡ d → Rattle.rules_deck.proofs.BodySeven.OneEntry (m .statements) v (entryOf v first d) → OneEntry k deck v (o .names)
   once first d e x =
-      subst (λ l. OneEntry k deck v l) (sym names)
+      subst (λ l. OneEntry k deck v l) (sym (names m o r))
       (record { at = x .index; entry = entryOf v first d; there = x .is; is = record { named = refl; rows = ap (λ z. z .rows) (sym e); columns = ap (λ z. z .columns) (sym e) }; only = x .only })
 
   one : InDeck (m .statements) v → OneEntry k deck v (o .names)
@@ -253,9 +262,26 @@ module _ {k : ℕ} {deck object : List ℕ} (m : Made k deck object) (o : Object
       by (inl x) = once _ noDims (dims ∙ plain-dims (x .0)) (x .1)
       by (inr x) = once _ _ dims (x .1)
 
+  -- an entry with the name's bytes is the name's
+  its : InDeck (m .statements) v → (i : ℕ) (e : Named) → getElem? (o .names) i ≡ some e → e .name ≡ filled v → EntryOf k deck v e
+  its d i e f n =
+      let x = one d in
+      let q : x .entry ≡ e = some-same (sym (x .there) ∙ ap (λ j. getElem? (o .names) j) (sym (x .only i e f n)) ∙ f) in
+      subst (λ (y : Named). EntryOf k deck v y) q (x .is)
+
 pub names-kept : NamesOnce
 unfolding deckNames
-names-kept k deck object c o r v a = let m = made c in one m o r v (among-in (m .statements) v (subst (λ x. Among v (namesIn (statementsOf x))) (m .reads) a))
+names-kept k deck object c o r =
+    let m = made c in
+    let l = names m o r in
+    record {
+      each = λ v a. one m o r v (among-in (m .statements) v (subst (λ x. Among v (namesIn (statementsOf x))) (m .reads) a));
+      others = λ i e f.
+          let x = entry-name (m .statements) i e (ap (λ n. getElem? n i) (sym l) ∙ f) in
+          (x .0, (subst (λ y. Among (x .0) (namesIn (statementsOf y))) (sym (m .reads)) (in-among (m .statements) (x .0) (x .1)), its m o r (x .0) (x .1) i e f (x .2)));
+      order = λ i j e later h f g.
+          names-ordered k (m .statements) (right m) i j e later h (ap (λ n. getElem? n i) (sym l) ∙ f) (ap (λ n. getElem? n j) (sym l) ∙ g);
+    }
 
 -- ---- everything compiled passes
 

@@ -17,7 +17,7 @@ use Rattle.rules_object.specs.Bytes.{objectBytes, readObject}
 use Rattle.rules_shared.specs.Lists.{Each}
 use Rattle.rules_object.specs.Writable.{IsByte, Writable}
 use Rattle.rules_object.specs.Machine.{State, cell, step}
-use Rattle.rules_object.specs.Check.{right41, flowOf, benchStep}
+use Rattle.rules_object.specs.Check.{span, right41, flowOf, benchStep}
 use Rattle.rules_object.specs.Flow.{Valid, NoTable, Reached, PathsAgree}
 use Rattle.rules_object.specs.Heights.{heights, heightAt}
 use Rattle.rules_shared.specs.Refusals.{refusal, accepted}
@@ -79,7 +79,7 @@ MeansAlike =
     (k : ℕ) (deck object : List ℕ) (store : List ℤ) → Compiled k deck object → rightStore object store ≡ true → (allowances : List ℕ) →
     (series object store freshLent allowances .halt ≡ 2 → ⊥) → Meant k deck object store (series object store freshLent allowances)
 
--- or the run goes on, at the first word of the statement that comes next in the meaning, after n steps
+-- or the allowance is used, at the first word of the statement that comes next in the meaning, after n steps
 pub record StandsAlike (k : ℕ) (deck object : List ℕ) (m : Standing) (n : ℕ) (r : Ran) : Type 0 where
   pub alike : Alike object m r
   pub halts : r .halt ≡ 2
@@ -114,7 +114,6 @@ pub record EntryOf (k : ℕ) (deck : List ℕ) (v : Name) (e : Named) : Type 0 w
   pub rows : e .rows ≡ deckDims k deck v .rows
   pub columns : e .columns ≡ deckDims k deck v .columns
 
--- the names of body 7 of an object's bytes
 pub record OneEntry (k : ℕ) (deck : List ℕ) (v : Name) (names : List Named) : Type 0 where
   pub at : ℕ
   pub entry : Named
@@ -122,11 +121,14 @@ pub record OneEntry (k : ℕ) (deck : List ℕ) (v : Name) (names : List Named) 
   pub is : EntryOf k deck v entry
   pub only : (i : ℕ) (other : Named) → getElem? names i ≡ some other → other .name ≡ filled v → i ≡ at
 
--- Each name of the deck has exactly one entry of body 7, with its dimensions: 0 and 0 for a plain one, columns 0 for one dimension.
+pub record NamesOf (k : ℕ) (deck : List ℕ) (names : List Named) : Type 0 where
+  pub each : (v : Name) → Among v (deckNames k deck) → OneEntry k deck v names
+  pub others : (i : ℕ) (e : Named) → getElem? names i ≡ some e → (v : Name) × (Among v (deckNames k deck) × EntryOf k deck v e)
+  pub order : (i j : ℕ) (e later : Named) → i < j → getElem? names i ≡ some e → getElem? names j ≡ some later → e .first + span (e .rows) (e .columns) ≤ later .first
+
+-- Body 7 has one entry for each name of the deck, with its dimensions (0 and 0 for a plain one, columns 0 for one dimension), no other entry, and an entry's cells before those of the next.
 abbrev pub NamesOnce : Type 0
-NamesOnce =
-    (k : ℕ) (deck object : List ℕ) → Compiled k deck object → (o : Object) → readObject object ≡ some o → (v : Name) → Among v (deckNames k deck) →
-    OneEntry k deck v (o .names)
+NamesOnce = (k : ℕ) (deck object : List ℕ) → Compiled k deck object → (o : Object) → readObject object ≡ some o → NamesOf k deck (o .names)
 
 -- ---- 3. A run can be split
 

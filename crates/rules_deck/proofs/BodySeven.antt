@@ -1,6 +1,6 @@
--- Body 7 of an accepted deck: each name of the deck has one entry, with its first cell and its dimensions, inside the cells.
+-- Body 7 of an accepted deck: each name of the deck has one entry, with its first cell and its dimensions, inside the cells and in their order.
 -- Assumes nothing.
-use Prim.Native.Nat.{ℕ, zero, suc, _+_, _≤_}
+use Prim.Native.Nat.{ℕ, zero, suc, _+_, _≤_, _<_}
 use mathlib.Core.Path.{_≡_, refl, sym, ap, _∙_, subst}
 use mathlib.Core.Bool.{Bool, true, false, _&&_, _||_, cond}
 use mathlib.Core.Logic.{_⊎_, inl, inr}
@@ -14,6 +14,7 @@ use borrow.Author.Tests.{leb-true}
 use Rattle.rules_shared.specs.Limits.{limits}
 use Rattle.rules_shared.specs.Lists.{all}
 use Rattle.rules_object.specs.Object.{Named}
+use Rattle.rules_object.specs.Check.{span}
 use Rattle.rules_deck.specs.Trees.{Name, Array, array, arrayNames, Form, assign, goTo, computed, ifs, loop, continue, stop, end, dimension, Statement, formNames}
 use Rattle.rules_deck.specs.Tokens.{isDigit, isLetter, isLetterOrDigit}
 use Rattle.rules_deck.specs.Deck.{sameName, Dims, Declared, declare, arraysIn, dimsIn, dimsOf}
@@ -30,7 +31,7 @@ use Rattle.rules_deck.proofs.Names.{name-same}
 use Rattle.rules_deck.proofs.TestLaws.{all-among, among-left, among-append}
 use Rattle.rules_deck.proofs.ArrayLaws.{arrays-held, holds-left}
 use Rattle.rules_deck.proofs.DeckCells.{Grown, grown-same, grown-held, plain-has}
-use Rattle.rules_deck.proofs.MapNames.{namesIn, noDims, names-append, name-among, array-among, at-among, distinct-index, Listed, entryOf, plain-listed, array-listed, name-at, Inside, entry-inside, NoBlank, filled-inj}
+use Rattle.rules_deck.proofs.MapNames.{namesIn, noDims, names-append, name-among, array-among, at-among, distinct-index, Listed, entryOf, plain-listed, array-listed, name-at, Inside, entry-inside, entries-ordered, NoBlank, filled-inj}
 use Rattle.rules_deck.proofs.Covered.{Covered, plainly, of-element, form-covered, plain-names, array-names, declared-names}
 use Rattle.rules_deck.proofs.MapOnce.{once-held, before-held}
 
@@ -254,3 +255,8 @@ entry-name deck i e f =
 -- every entry lies inside the cells
 pub names-inside : (k : ℕ) (deck : List Statement) → Accepted k deck → (i : ℕ) (e : Named) → getElem? (namesFrom 0 (heldOf deck)) i ≡ some e → Inside (cellCount (heldOf deck)) e
 names-inside k deck c i e f = subst (λ (n : ℕ). Inside n e) (zero-add (cellCount (heldOf deck))) (entry-inside (heldOf deck) 0 i e (once-held k deck c .full) f)
+
+-- and before those after it
+pub names-ordered : (k : ℕ) (deck : List Statement) → Accepted k deck → (i j : ℕ) (e l : Named) → i < j → getElem? (namesFrom 0 (heldOf deck)) i ≡ some e
+    → getElem? (namesFrom 0 (heldOf deck)) j ≡ some l → e .first + span (e .rows) (e .columns) ≤ l .first
+names-ordered k deck c i j e l h f g = entries-ordered (heldOf deck) 0 i j e l (once-held k deck c .full) h f g

@@ -1,6 +1,6 @@
--- The names of a map, and its entries of body 7: where each stands, that it lies inside the cells, that a name's eight bytes tell it.
+-- The names of a map, and its entries of body 7: where each stands, that it lies inside the cells, in their order, that a name's eight bytes tell it.
 -- Assumes nothing.
-use Prim.Native.Nat.{ℕ, zero, suc, _+_, _*_, _≤_}
+use Prim.Native.Nat.{ℕ, zero, suc, _+_, _*_, _≤_, _<_}
 use mathlib.Core.Path.{_≡_, refl, sym, ap, subst}
 use mathlib.Core.Bool.{Bool, true, false, _||_, cond, false≢true}
 use mathlib.Core.Logic.{_⊎_, inl, inr}
@@ -203,6 +203,31 @@ entry-inside (array a ∷ held) at zero e g f =
     (record { within = omega (arith, span-size (a .dims .rows) (a .dims .columns) r); either = inr r })
 entry-inside (array a ∷ held) at (suc i) e g f = inside-more (omega arith) (entry-inside held (at + arraySize (a .dims)) i e (full-tail g) f)
 entry-inside (hidden q ∷ held) at i e g f = inside-more (omega arith) (entry-inside held (at + 2) i e (full-tail g) f)
+
+-- ---- entries stand in cell order
+
+entry-from : (held : List Held) (at i : ℕ) (e : Named) → getElem? (namesFrom at held) i ≡ some e → at ≤ e .first
+entry-from [] at i e f = absurd (let z : _≡_ {A = ℕ} 0 1 = cc in omega arith)
+entry-from (name v ∷ held) at zero e f = subst (λ (x : Named). at ≤ x .first) (some-inj f) (omega arith)
+entry-from (name v ∷ held) at (suc i) e f = omega (arith, entry-from held (suc at) i e f)
+entry-from (array a ∷ held) at zero e f = subst (λ (x : Named). at ≤ x .first) (some-inj f) (omega arith)
+entry-from (array a ∷ held) at (suc i) e f = omega (arith, entry-from held (at + arraySize (a .dims)) i e f)
+entry-from (hidden q ∷ held) at i e f = omega (arith, entry-from held (at + 2) i e f)
+
+-- the cells of an entry come before those of all entries after it
+pub entries-ordered : (held : List Held) (at i j : ℕ) (e l : Named) → Full held → i < j → getElem? (namesFrom at held) i ≡ some e → getElem? (namesFrom at held) j ≡ some l
+    → e .first + span (e .rows) (e .columns) ≤ l .first
+entries-ordered [] at i j e l g h f k = absurd (let z : _≡_ {A = ℕ} 0 1 = cc in omega arith)
+entries-ordered (name v ∷ held) at i zero e l g h f k = absurd (omega arith)
+entries-ordered (name v ∷ held) at zero (suc j) e l g h f k =
+    subst (λ (x : Named). x .first + span (x .rows) (x .columns) ≤ l .first) (some-inj f) (omega (arith, entry-from held (suc at) j l k))
+entries-ordered (name v ∷ held) at (suc i) (suc j) e l g h f k = entries-ordered held (suc at) i j e l (full-tail g) (omega arith) f k
+entries-ordered (array a ∷ held) at i zero e l g h f k = absurd (omega arith)
+entries-ordered (array a ∷ held) at zero (suc j) e l g h f k =
+    subst (λ (x : Named). x .first + span (x .rows) (x .columns) ≤ l .first) (some-inj f)
+    (omega (arith, entry-from held (at + arraySize (a .dims)) j l k, span-size (a .dims .rows) (a .dims .columns) (g .rows a here)))
+entries-ordered (array a ∷ held) at (suc i) (suc j) e l g h f k = entries-ordered held (at + arraySize (a .dims)) i j e l (full-tail g) (omega arith) f k
+entries-ordered (hidden q ∷ held) at i j e l g h f k = entries-ordered held (at + 2) i j e l (full-tail g) h f k
 
 -- ---- eight bytes tell a name
 
