@@ -90,7 +90,7 @@ abbrev pub mayEndAt : Option Statement → Bool
 mayEndAt none = false
 mayEndAt (some s) = mayEnd (s .form)
 
--- the DO d stands in the range of an outer one and ends after it
+-- ranges cross: the DO d stands in the range of an outer one and ends after it
 abbrev pub crosses : List Statement → Do → Do → Bool
 crosses deck d outer = inRange deck outer (d .position) && ltb (lastOf deck outer) (lastOf deck d)
 

@@ -1,4 +1,4 @@
--- P1 to P8 of 01 as decks, and beside them a division of each sign: what each means, and what compiling and running it answers.
+-- P1 to P8 of 01 as decks, and beside them two divisions with a negative number: what each means, and what compiling and running it answers.
 -- Assumes nothing.
 use mathlib.Core.Path.{_≡_}
 use Prim.Native.Nat.{ℕ}
