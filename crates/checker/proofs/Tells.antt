@@ -7,7 +7,8 @@ use native.Mathlib.Omega.{arith}
 use lib.ListN.{take}
 use Rattle.rules_shared.specs.Refusals.{refusal}
 use Rattle.rules_object.specs.Calls.{refused, passed, checked, verdict, checking}
-use Rattle.rules_object.proofs.Passed.{Passed, check-passed}
+use Rattle.rules_object.specs.Passed.{Passed}
+use Rattle.rules_object.proofs.Passed.{check-passed}
 use Rattle.object.specs.Layout.{objectAt, Placed}
 use Rattle.checker.specs.declared.Verdict.{Verdict}
 use Rattle.checker.specs.Verdicts.{passing, checkedAs, Besides, Says}

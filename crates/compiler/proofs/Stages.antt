@@ -18,7 +18,8 @@ use Rattle.rules_deck.specs.Compile.{Read, notRead, read, readFrom, readCarded,
 use Rattle.rules_deck.specs.Accepted.{Accepted, Among, here, there}
 use Rattle.rules_deck.proofs.AcceptedDeck.{accepted}
 use Rattle.rules_deck.proofs.DeckCells.{plain-has}
-use Rattle.rules_deck.proofs.MapNames.{namesIn, name-among}
+use Rattle.rules_deck.specs.Cells.{namesHeld}
+use Rattle.rules_deck.proofs.MapNames.{name-among}
 use Rattle.rules_deck.proofs.BodySeven.{all-here}
 use Rattle.rules_deck.proofs.Readers.{All}
 use Rattle.cards.specs.declared.Judged.{Judged}
@@ -60,7 +61,7 @@ index-of : {A : Type 0} {x : A} {l : List A} → Among x l → (j : ℕ) × (get
 index-of here = (0, refl)
 index-of (there a) = let i = index-of a in (suc (i .0), i .1)
 
-pub sets-told : (deck : List Statement) → All Told (namesIn (heldOf deck)) → All SetsTold deck
+pub sets-told : (deck : List Statement) → All Told (namesHeld (heldOf deck)) → All SetsTold deck
 sets-told deck h =
     all-of deck (λ s a. all-of (formSets (s .form)) (λ v b.
     let i = index-of a in
@@ -70,7 +71,7 @@ sets-told deck h =
 
 module _ {k : ℕ} {deck : List Statement} {n : Counts} {names constants elements dos loops code rows jumps : List ℕ} (h : Holds k deck n names constants elements dos loops code rows jumps) where
   pub told : All SetsTold deck
-  told = sets-told deck (subst (λ l. All Told (namesIn l)) (draft-held deck) (h .kept .held .told))
+  told = sets-told deck (subst (λ l. All Told (namesHeld l)) (draft-held deck) (h .kept .held .told))
 
   pub whole-refused : {after : List ℕ} {number : ℕ} {place : Sequence} (output : List ℕ) (v : Verdict) → whole.Judged deck after (n .jumps) v → v ≡ verdict.Refused number place
       → answer (Refused number (place .0)) output ≡ writeRead k output (judgeRead (read deck))

@@ -12,8 +12,7 @@ use Rattle.rules_deck.specs.Deck.{Dims, Declared, dimsIn}
 use Rattle.rules_deck.specs.Translation.{Held, name, array, hidden, arraySize, cellCount, isName, holds}
 use Rattle.rules_deck.specs.Judge.{nameCount, Reference, rightReference}
 use Rattle.rules_deck.proofs.Readers.{All}
-use Rattle.rules_deck.proofs.MapNames.{namesIn, NoBlank}
-use Rattle.rules_deck.proofs.ArrayLaws.{arraysHeld}
+use Rattle.rules_deck.specs.Cells.{namesHeld, arraysHeld}
 use Rattle.tokens.specs.Words.{nameWord}
 use Rattle.draft.specs.Parts.{Item, itemsNames, itemsConstants, itemsPlain, itemsReferences}
 
@@ -31,7 +30,7 @@ dimsHeld held v = dimsIn (arraysHeld held) v
 -- of at most six characters, each a byte and none a blank: its eight bytes tell it
 pub record Told (v : Name) : Type 0 where
   pub short : length v ≤ limits .nameLength
-  pub solid : NoBlank v
+  pub solid : All (λ (c : ℕ). c ≡ 32 → ⊥) v
   pub bytes : All (λ (c : ℕ). c < 256) v
 
 -- its value is the one that the reader gives
@@ -49,7 +48,7 @@ pub record Lists (held : List Held) (table : List ℕ) (names cells : ℕ) : Typ
   pub cells-are : cells ≡ cellCount held
   pub names-fit : names ≤ limits .names
   pub cells-fit : cells ≤ limits .cells
-  pub told : All Told (namesIn held)
+  pub told : All Told (namesHeld held)
   pub rows : All SomeRows (arraysHeld held)
 
 -- names and cells within their limits

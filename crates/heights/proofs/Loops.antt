@@ -9,7 +9,7 @@ use native.Mathlib.Omega.{arith}
 use lib.ListN.{length, take, set}
 use Rattle.rules_object.specs.Flow.{Flow, at, PathsAgree}
 use Rattle.rules_object.specs.Heights.{heights}
-use Rattle.rules_object.proofs.Filling.{nevers, Filling, Went}
+use Rattle.rules_object.specs.Filling.{nevers, Filling, Went}
 use Rattle.rules_object.proofs.Fills.{disagree-none, nevers-set, start, ends}
 use Rattle.rules_object.proofs.OneTable.{least-is, no-table-is}
 use Rattle.heights.specs.Judged.{Fresh, answered}

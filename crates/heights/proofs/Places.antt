@@ -13,7 +13,7 @@ use Rattle.rules_object.specs.Object.{Object}
 use Rattle.rules_object.specs.Machine.{Instr, operationOf, operandOf, meant, decode}
 use Rattle.rules_object.specs.Check.{right41, right43, popsTable, pushesTable, operationNumber, successors, instruction, flowOf}
 use Rattle.rules_object.specs.Flow.{at}
-use Rattle.rules_object.proofs.Filling.{Filling}
+use Rattle.rules_object.specs.Filling.{Filling}
 use Rattle.rules_object.proofs.Fills.{there}
 use Rattle.rules_object.proofs.Passed.{both}
 use Rattle.word.specs.Word.{wordAt}

@@ -7,7 +7,7 @@ use mathlib.Core.Option.{Option, none, some}
 use Prim.Native.Nat.{ℕ, _<_}
 use lib.ListN.{length, getD, take}
 use Rattle.rules_object.specs.Check.{right41, right43}
-use Rattle.rules_object.proofs.Filling.{Blank}
+use Rattle.rules_object.specs.Filling.{Blank}
 use Rattle.object.specs.Layout.{Placed, objectAt}
 use Rattle.object.specs.declared.Layout.{Layout}
 

@@ -4,7 +4,7 @@ use mathlib.Core.Path.{_≡_}
 use mathlib.Core.List.{List}
 use Prim.Native.Nat.{ℕ, _+_, _<_}
 use Rattle.rules_object.specs.Flow.{Flow, after, PathsAgree}
-use Rattle.rules_object.proofs.Filling.{nevers, Filling, Visiting, Went}
+use Rattle.rules_object.specs.Filling.{nevers, Filling, Visiting, Went}
 use Rattle.heights.specs.declared.Met.{Met}
 use Rattle.heights.specs.declared.Met.the-variants.{On, No}
 

@@ -5,7 +5,7 @@ ghost use lib.ListN.{length};
 ghost use Rattle.rules_object.specs.Check.{flowOf};
 ghost use Rattle.rules_object.specs.Flow.{at};
 ghost use Rattle.rules_object.specs.Heights.{heights};
-ghost use Rattle.rules_object.proofs.Filling.{nevers, Filling};
+ghost use Rattle.rules_object.specs.Filling.{nevers, Filling};
 ghost use Rattle.object.specs.Layout.{objectAt};
 ghost use Rattle.heights.specs.Judged.{Judged, Fresh, answered};
 ghost use Rattle.heights.specs.Walk.{Meets, Visited};

@@ -18,9 +18,8 @@ use Rattle.rules_object.specs.Machine.{cell, ruleOf}
 use Rattle.rules_object.specs.Flow.{at}
 use Rattle.rules_shared.specs.Refusals.{Refusal, refusal, orElse, unless}
 use Rattle.rules_shared.specs.Lists.{all}
-use Rattle.rules_object.specs.Calls.{right50, right51, right52, Lent}
+use Rattle.rules_object.specs.Calls.{right50, right51, right52, Lent, refused50to52}
 use Rattle.rules_object.proofs.Passed.{some-none, or-none}
-use Rattle.rules_object.proofs.Accepts.{refused5}
 use Rattle.object.specs.declared.Layout.{Layout}
 use Rattle.object.specs.Layout.{objectAt}
 use Rattle.object.proofs.Entries.{code-length}
@@ -118,7 +117,7 @@ module _ (e : Layout) (s table : List ℕ) (i h m : ℕ) (places : List ℤ) whe
 -- ---- 50 to 52 together
 
 module _ (o : Object) (table : List ℕ) (store : List ℤ) (l : Lent) where
-  pub first-store : (n : ℕ) → numbered n ≡ refusedStore o store → (n ≡ 0 → ⊥) → numbered n ≡ refused5 o table store l
+  pub first-store : (n : ℕ) → numbered n ≡ refusedStore o store → (n ≡ 0 → ⊥) → numbered n ≡ refused50to52 o table store l
   unfolding refusedStore
   first-store zero q z = absurd (z refl)
   first-store (suc n) q z = by (unless (right50 o store) 50) (unless (right51 o store) 51) q
@@ -128,7 +127,7 @@ module _ (o : Object) (table : List ℕ) (store : List ℤ) (l : Lent) where
       by none (some r) q = q
       by (some r) b q = q
 
-  pub then-state : (n : ℕ) → numbered n ≡ refusedStore o store → n ≡ 0 → refused5 o table store l ≡ unless (right52 o table l) 52
+  pub then-state : (n : ℕ) → numbered n ≡ refusedStore o store → n ≡ 0 → refused50to52 o table store l ≡ unless (right52 o table l) 52
   unfolding refusedStore
   then-state n q z =
       let e : orElse (unless (right50 o store) 50) (unless (right51 o store) 51) ≡ none = sym q ∙ ap numbered z in

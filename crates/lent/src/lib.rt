@@ -7,8 +7,7 @@ ghost use lib.IntN.{ℤ};
 ghost use Rattle.number.specs.Number.{Rule, ceiling, fits};
 ghost use Rattle.rules_object.specs.Machine.{ruleOf};
 ghost use Rattle.rules_shared.specs.Lists.{all};
-ghost use Rattle.rules_object.specs.Calls.{right52};
-ghost use Rattle.rules_object.proofs.Accepts.{refused5};
+ghost use Rattle.rules_object.specs.Calls.{right52, refused50to52};
 ghost use Rattle.object.specs.Layout.{objectAt};
 ghost use Rattle.arithmetic.specs.Performed.{lentOf};
 ghost use Rattle.lent.specs.Lending.{lent, numbered, refusedStore, Cleared};
@@ -90,7 +89,7 @@ pub fn lent_wrong(
     places: &[i64],
 ) -> u32
     requires { ⌜ (e .«code_count» ≤ 4096) × (length (now places) ≡ 40) ⌝ }
-    ensures { λ r. ⌜ ((s : List ℕ) → p ≡ ceiling (ruleOf (objectAt e s)) → numbered r ≡ refused5 (objectAt e s) (take (e .«code_count») (now (table .entry))) (now (store .entry)) (lent index height mark (now (places .entry)))) ⌝ }
+    ensures { λ r. ⌜ ((s : List ℕ) → p ≡ ceiling (ruleOf (objectAt e s)) → numbered r ≡ refused50to52 (objectAt e s) (take (e .«code_count») (now (table .entry))) (now (store .entry)) (lent index height mark (now (places .entry)))) ⌝ }
 {
     let wrong = store_wrong(e, p, store);
     if wrong != 0 {

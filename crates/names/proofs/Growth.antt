@@ -16,8 +16,8 @@ use Rattle.rules_deck.specs.Translation.{Held, name, array, hidden, arraySize, 
 use Rattle.rules_deck.specs.Judge.{nameCount}
 use Rattle.rules_deck.proofs.CardsLaws.{cases}
 use Rattle.rules_deck.proofs.Readers.{All, all-none, all-append}
-use Rattle.rules_deck.proofs.MapNames.{namesIn, names-append}
-use Rattle.rules_deck.proofs.ArrayLaws.{arraysHeld}
+use Rattle.rules_deck.specs.Cells.{namesHeld, arraysHeld}
+use Rattle.rules_deck.proofs.MapNames.{names-append}
 use Rattle.tokens.specs.Words.{nameWord}
 use Rattle.draft.specs.Names.{heldWords, Told, SomeRows, Lists, namesFit}
 use Rattle.names.proofs.Tests.{and-false}
@@ -59,7 +59,7 @@ arrays-append (hidden q ∷ a) b = arrays-append a b
 -- ---- the table grows
 
 pub lists-more : {held : List Held} {t t′ : List ℕ} {n n′ cells cells′ : ℕ} (more : List Held) → Lists held t n cells → take (4 * n′) t′ ≡ take (4 * n) t ++ heldWords cells more
-    → n′ ≡ n + nameCount more → cells′ ≡ cells + cellCount more → n′ ≤ limits .names → cells′ ≤ limits .cells → All Told (namesIn more) → All SomeRows (arraysHeld more)
+    → n′ ≡ n + nameCount more → cells′ ≡ cells + cellCount more → n′ ≤ limits .names → cells′ ≤ limits .cells → All Told (namesHeld more) → All SomeRows (arraysHeld more)
     → Lists (held ++ more) t′ n′ cells′
 lists-more {held} {t} {t′} {n} {n′} {cells} {cells′} more l w en ec fn fc told rows =
     record {

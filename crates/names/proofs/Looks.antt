@@ -14,7 +14,7 @@ use Rattle.rules_deck.specs.Deck.{sameName, Dims, width}
 use Rattle.rules_deck.specs.Translation.{Held, name, array, hidden, arraySize, cellCount, isName, isArray, firstCell, holds, cellOf, baseOf}
 use Rattle.rules_deck.specs.Judge.{nameCount, Reference, rightCount, rightReference}
 use Rattle.rules_deck.proofs.Readers.{All, all-more}
-use Rattle.rules_deck.proofs.ArrayLaws.{arraysHeld}
+use Rattle.rules_deck.specs.Cells.{arraysHeld}
 use Rattle.tokens.specs.Words.{nameWord}
 use Rattle.draft.specs.Names.{heldWords, dimsHeld, Told, SomeRows, Lists}
 use Rattle.names.specs.Find.{firstEntry}

@@ -13,8 +13,7 @@ use Rattle.rules_deck.specs.Deck.{sameName, Dims}
 use Rattle.rules_deck.specs.Translation.{Held, name, array, hidden, arraySize, isName, isArray, firstCell, holds}
 use Rattle.rules_deck.specs.Judge.{nameCount}
 use Rattle.rules_deck.proofs.Readers.{All, all-more}
-use Rattle.rules_deck.proofs.MapNames.{namesIn}
-use Rattle.rules_deck.proofs.ArrayLaws.{arraysHeld}
+use Rattle.rules_deck.specs.Cells.{namesHeld, arraysHeld}
 use Rattle.tokens.specs.Words.{nameWord}
 use Rattle.draft.specs.Names.{heldWords, dimsHeld, Told, SomeRows}
 use Rattle.names.specs.Find.{ofKind, isEntry, firstEntry}
@@ -97,7 +96,7 @@ ArrayAt words n held at v =
     Spot words n (firstEntry true (nameWord v) n words) (holds (isArray v) held) (at + firstCell (isArray v) held) (dimsHeld held v .rows) (dimsHeld held v .columns)
 
 module _ (v : Name) (tv : Told v) (rest : List ℕ) where
-  pub spot-plain : (held : List Held) (at : ℕ) → All Told (namesIn held) → All SomeRows (arraysHeld held)
+  pub spot-plain : (held : List Held) (at : ℕ) → All Told (namesHeld held) → All SomeRows (arraysHeld held)
       → PlainAt (heldWords at held ++ rest) (nameCount held) held at v
   unfolding firstEntry
   spot-plain [] at told some = spot-none rest (at + 0) 0 0
@@ -118,7 +117,7 @@ module _ (v : Name) (tv : Told v) (rest : List ℕ) where
       spot-as (spot-step false (nameWord (a .name)) at (a .dims .rows) (a .dims .columns) s) (index-as _ false _ e) refl (omega arith) refl refl
   spot-plain (hidden q ∷ held) at told some = spot-as (spot-plain held (at + 2) told some) refl refl (omega arith) refl refl
 
-  pub spot-array : (held : List Held) (at : ℕ) → All Told (namesIn held) → All SomeRows (arraysHeld held)
+  pub spot-array : (held : List Held) (at : ℕ) → All Told (namesHeld held) → All SomeRows (arraysHeld held)
       → ArrayAt (heldWords at held ++ rest) (nameCount held) held at v
   unfolding firstEntry
   spot-array [] at told some = spot-none rest (at + 0) 0 0
@@ -145,7 +144,7 @@ skip k n words m e h = ap (λ (b : Bool). cond b 0 (suc (firstEntry k 0 n (drop 
 no-word : (k : Bool) (w : Name) (r : ℕ) → Told w → (eqb (nameWord w) 0 && ofKind k r) ≡ false
 no-word k w r t = ap (λ (b : Bool). b && ofKind k r) (ne-eqb (nameWord w) 0 (some-word w t))
 
-pub spot-nothing : (k : Bool) (rest : List ℕ) (held : List Held) (at : ℕ) → All Told (namesIn held)
+pub spot-nothing : (k : Bool) (rest : List ℕ) (held : List Held) (at : ℕ) → All Told (namesHeld held)
     → firstEntry k 0 (nameCount held) (heldWords at held ++ rest) ≡ nameCount held
 unfolding firstEntry
 spot-nothing k rest [] at told = refl

@@ -18,7 +18,8 @@ use Rattle.rules_object.specs.Machine.{State, fresh, cell, step}
 use Rattle.rules_shared.specs.Refusals.{accepted}
 use Rattle.rules_object.specs.Calls.{checking, given, right50, right51, sequenceOf, Ran, ran, runFrom, running, taken}
 use Rattle.rules_shared.proofs.RunLaws.{steps-go}
-use Rattle.rules_object.proofs.Passed.{Passed, check-passed, both}
+use Rattle.rules_object.specs.Passed.{Passed}
+use Rattle.rules_object.proofs.Passed.{check-passed, both}
 use Rattle.rules_object.proofs.Lents.{long-enough, fresh-stands, stands-52}
 use Rattle.rules_object.proofs.Accepts.{Accepts, accepts-run}
 use Rattle.rules_object.proofs.Refusals.{from-accepts}
@@ -29,11 +30,11 @@ use Rattle.rules_deck.specs.Meaning.{Cause, plain, bounds, Standing, begin, mea
 use Rattle.rules_deck.specs.Cost.{meaningSteps}
 use Rattle.rules_deck.specs.Translation.{Held, name, array, hidden, isArray, holds, cellOf, baseOf, heldOf, addressAt, filled, namesFrom, translate}
 use Rattle.rules_deck.specs.Accepted.{Among}
-use Rattle.rules_deck.specs.Cells.{key, Has, Holds, SameMark}
+use Rattle.rules_deck.specs.Cells.{key, Has, Holds, SameMark, arraysHeld}
 use Rattle.rules_deck.specs.Seen.{statementsOf, meaningRead, meaningOf, haltOf, deckSteps, InStatement, namesIn, deckNames, deckDims, deckLevels, namedValues, rightStoreOf, rightStore, series, sum}
 use Rattle.rules_deck.proofs.TestLaws.{among-left, among-right, among-append}
 use Rattle.rules_deck.proofs.MapNames.{entryOf, noDims}
-use Rattle.rules_deck.proofs.ArrayLaws.{arraysHeld, arrays-held}
+use Rattle.rules_deck.proofs.ArrayLaws.{arrays-held}
 use Rattle.rules_deck.proofs.MapOnce.{never-both}
 use Rattle.rules_deck.proofs.BodySeven.{InDeck, name-entry, entry-name, names-ordered}
 use Rattle.rules_deck.proofs.CompiledWritable.{compiled-passes}

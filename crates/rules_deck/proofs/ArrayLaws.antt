@@ -9,18 +9,12 @@ use Rattle.rules_deck.specs.Trees.{Name, Array, Form, assign, goTo, comp
 use Rattle.rules_deck.specs.Deck.{sameName, Declared, declare, arraysIn, arraysOf, dimsIn, dimsOf}
 use Rattle.rules_deck.specs.Translation.{Held, name, array, hidden, arraySize, isName, isArray, holds, appear, formPlain, hiddenIn, brings, heldFrom, heldOf}
 use Rattle.rules_deck.specs.Judge.{Reference, rightCount, rightReference}
-use Rattle.rules_deck.specs.Cells.{sizeOf}
+use Rattle.rules_deck.specs.Cells.{arraysHeld, sizeOf}
 use Rattle.rules_deck.specs.Accepted.{Among, here, there}
 use Rattle.rules_deck.proofs.CardsLaws.{cases}
 use Rattle.rules_deck.proofs.TestLaws.{or-neither, or-either, or-one, name-same}
 
 -- ---- the arrays of a map
-
-abbrev pub arraysHeld : List Held → List Declared
-arraysHeld [] = []
-arraysHeld (name v ∷ held) = arraysHeld held
-arraysHeld (array a ∷ held) = a ∷ arraysHeld held
-arraysHeld (hidden q ∷ held) = arraysHeld held
 
 arrays-append : (a b : List Held) → arraysHeld (a ++ b) ≡ arraysHeld a ++ arraysHeld b
 arrays-append [] b = refl

@@ -22,7 +22,7 @@ use Rattle.rules_deck.specs.Meaning.{plain}
 use Rattle.rules_deck.specs.Translation.{Held, name, hidden, cellCount, isName, isArray, holds, cellOf, baseOf, appear, formPlain, hiddenIn, brings, heldFrom, heldOf, filled, namesFrom}
 use Rattle.rules_deck.specs.Judge.{startsInteger, right11, Reference, rightReference, rightCount, formReferences, right16}
 use Rattle.rules_deck.specs.Accepted.{Among, here, there, Accepted}
-use Rattle.rules_deck.specs.Cells.{key, Has}
+use Rattle.rules_deck.specs.Cells.{key, Has, namesHeld}
 use Rattle.rules_deck.proofs.CardsLaws.{cases}
 use Rattle.rules_deck.proofs.Readers.{All, all-more, all-map, IsName, is-name, both-true, digit-bounds, letter-bounds}
 use Rattle.rules_deck.proofs.ReadForms.{read-names}
@@ -31,7 +31,7 @@ use Rattle.rules_deck.proofs.Names.{name-same}
 use Rattle.rules_deck.proofs.TestLaws.{all-among, among-left, among-append}
 use Rattle.rules_deck.proofs.ArrayLaws.{arrays-held, holds-left}
 use Rattle.rules_deck.proofs.DeckCells.{Grown, grown-same, grown-held, plain-has}
-use Rattle.rules_deck.proofs.MapNames.{namesIn, noDims, names-append, name-among, array-among, at-among, distinct-index, Listed, entryOf, plain-listed, array-listed, name-at, Inside, entry-inside, entries-ordered, NoBlank, filled-inj}
+use Rattle.rules_deck.proofs.MapNames.{noDims, names-append, name-among, array-among, at-among, distinct-index, Listed, entryOf, plain-listed, array-listed, name-at, Inside, entry-inside, entries-ordered, NoBlank, filled-inj}
 use Rattle.rules_deck.proofs.Covered.{Covered, plainly, of-element, form-covered, plain-names, array-names, declared-names}
 use Rattle.rules_deck.proofs.MapOnce.{once-held, before-held}
 
@@ -92,22 +92,22 @@ pub record InDeck (deck : List Statement) (v : Name) : Type 0 where
   pub at : getElem? deck position ≡ some statement
   pub among : Among v (formNames (statement .form))
 
-appear-names : (vs : List Name) (held : List Held) (v : Name) → Among v (namesIn (appear held vs)) → Among v (namesIn held) ⊎ Among v vs
+appear-names : (vs : List Name) (held : List Held) (v : Name) → Among v (namesHeld (appear held vs)) → Among v (namesHeld held) ⊎ Among v vs
 appear-names [] held v a = inl a
 appear-names (w ∷ vs) held v a =
     go (appear-names vs (cond (holds (isName w) held) held (held ++ (name w ∷ []))) v a)
   where
-    one : Among v (namesIn held) ⊎ Among v (w ∷ []) → Among v (namesIn held) ⊎ Among v (w ∷ vs)
+    one : Among v (namesHeld held) ⊎ Among v (w ∷ []) → Among v (namesHeld held) ⊎ Among v (w ∷ vs)
     one (inl b) = inl b
     one (inr b) = inr (among-left vs b)
 
-    go : Among v (namesIn (cond (holds (isName w) held) held (held ++ (name w ∷ [])))) ⊎ Among v vs → Among v (namesIn held) ⊎ Among v (w ∷ vs)
+    go : Among v (namesHeld (cond (holds (isName w) held) held (held ++ (name w ∷ [])))) ⊎ Among v vs → Among v (namesHeld held) ⊎ Among v (w ∷ vs)
     go (inl b) =
-        cases (λ l. Among v (namesIn l) → Among v (namesIn held) ⊎ Among v (w ∷ vs)) (holds (isName w) held) held (held ++ (name w ∷ [])) (λ e i. inl i)
-        (λ e i. one (among-append (namesIn held) (w ∷ []) (subst (λ (l : List Name). Among v l) (names-append held (name w ∷ [])) i))) b
+        cases (λ l. Among v (namesHeld l) → Among v (namesHeld held) ⊎ Among v (w ∷ vs)) (holds (isName w) held) held (held ++ (name w ∷ [])) (λ e i. inl i)
+        (λ e i. one (among-append (namesHeld held) (w ∷ []) (subst (λ (l : List Name). Among v l) (names-append held (name w ∷ [])) i))) b
     go (inr b) = inr (there b)
 
-hidden-names : (q : ℕ) (f : Form) → namesIn (hiddenIn q f) ≡ []
+hidden-names : (q : ℕ) (f : Form) → namesHeld (hiddenIn q f) ≡ []
 hidden-names q (assign t e) = refl
 hidden-names q (goTo n) = refl
 hidden-names q (computed ns v) = refl
@@ -118,39 +118,39 @@ hidden-names q stop = refl
 hidden-names q end = refl
 hidden-names q (dimension arrays) = refl
 
-brings-names : (q : ℕ) (f : Form) (held : List Held) (v : Name) → Among v (namesIn (brings q f held)) → Among v (namesIn held) ⊎ Among v (formNames f)
+brings-names : (q : ℕ) (f : Form) (held : List Held) (v : Name) → Among v (namesHeld (brings q f held)) → Among v (namesHeld held) ⊎ Among v (formNames f)
 brings-names q f held v a =
-    go (among-append (namesIn (appear held (formPlain f))) (namesIn (hiddenIn q f ++ arrays)) (subst (λ (l : List Name). Among v l) (names-append (appear held (formPlain f)) (hiddenIn q f ++ arrays)) a))
+    go (among-append (namesHeld (appear held (formPlain f))) (namesHeld (hiddenIn q f ++ arrays)) (subst (λ (l : List Name). Among v l) (names-append (appear held (formPlain f)) (hiddenIn q f ++ arrays)) a))
   where
     arrays : List Held
     arrays = map (λ a. Held.array (declare a)) (arraysIn f)
 
-    plains : Among v (namesIn held) ⊎ Among v (formPlain f) → Among v (namesIn held) ⊎ Among v (formNames f)
+    plains : Among v (namesHeld held) ⊎ Among v (formPlain f) → Among v (namesHeld held) ⊎ Among v (formNames f)
     plains (inl b) = inl b
     plains (inr b) = inr (plain-names f b)
 
-    go : Among v (namesIn (appear held (formPlain f))) ⊎ Among v (namesIn (hiddenIn q f ++ arrays)) → Among v (namesIn held) ⊎ Among v (formNames f)
+    go : Among v (namesHeld (appear held (formPlain f))) ⊎ Among v (namesHeld (hiddenIn q f ++ arrays)) → Among v (namesHeld held) ⊎ Among v (formNames f)
     go (inl b) = plains (appear-names (formPlain f) held v b)
     go (inr b) =
         inr (array-names f (subst (λ (l : List Name). Among v l)
-        (names-append (hiddenIn q f) arrays ∙ ap (λ (l : List Name). l ++ namesIn arrays) (hidden-names q f) ∙ declared-names (arraysIn f)) b))
+        (names-append (hiddenIn q f) arrays ∙ ap (λ (l : List Name). l ++ namesHeld arrays) (hidden-names q f) ∙ declared-names (arraysIn f)) b))
 
 later : {deck : List Statement} {v : Name} (s : Statement) → InDeck deck v → InDeck (s ∷ deck) v
 later s i = record { position = suc (i .position); statement = i .statement; at = i .at; among = i .among }
 
-names-from : (q : ℕ) (deck : List Statement) (held : List Held) (v : Name) → Among v (namesIn (heldFrom q deck held)) → Among v (namesIn held) ⊎ InDeck deck v
+names-from : (q : ℕ) (deck : List Statement) (held : List Held) (v : Name) → Among v (namesHeld (heldFrom q deck held)) → Among v (namesHeld held) ⊎ InDeck deck v
 names-from q [] held v a = inl a
 names-from q (s ∷ deck) held v a = go (names-from (suc q) deck (brings q (s .form) held) v a)
   where
-    own : Among v (namesIn held) ⊎ Among v (formNames (s .form)) → Among v (namesIn held) ⊎ InDeck (s ∷ deck) v
+    own : Among v (namesHeld held) ⊎ Among v (formNames (s .form)) → Among v (namesHeld held) ⊎ InDeck (s ∷ deck) v
     own (inl b) = inl b
     own (inr b) = inr (record { position = 0; statement = s; at = refl; among = b })
 
-    go : Among v (namesIn (brings q (s .form) held)) ⊎ InDeck deck v → Among v (namesIn held) ⊎ InDeck (s ∷ deck) v
+    go : Among v (namesHeld (brings q (s .form) held)) ⊎ InDeck deck v → Among v (namesHeld held) ⊎ InDeck (s ∷ deck) v
     go (inl b) = own (brings-names q (s .form) held v b)
     go (inr i) = inr (later s i)
 
-pub held-name : (deck : List Statement) (v : Name) → Among v (namesIn (heldOf deck)) → InDeck deck v
+pub held-name : (deck : List Statement) (v : Name) → Among v (namesHeld (heldOf deck)) → InDeck deck v
 unfolding heldOf
 held-name deck v a = go (names-from 0 deck [] v a)
   where
@@ -208,14 +208,14 @@ solid k deck c v i =
     name-solid (all-here (read-names (j .text) (i .statement .form) (j .form)) (i .among))
 
 module _ (k : ℕ) (deck : List Statement) (c : Accepted k deck) where
-  one-entry : (v : Name) (at : ℕ) (d : Dims) → Among v (namesIn (heldOf deck)) → Listed (namesFrom 0 (heldOf deck)) (entryOf v at d) → OneEntry deck v (entryOf v at d)
+  one-entry : (v : Name) (at : ℕ) (d : Dims) → Among v (namesHeld (heldOf deck)) → Listed (namesFrom 0 (heldOf deck)) (entryOf v at d) → OneEntry deck v (entryOf v at d)
   one-entry v at d a l = record { index = l .index; is = l .is; only = only }
     where
       -- the name at an index whose entry has the bytes of v is v
-      told : (j : ℕ) (x : Named) → getElem? (namesFrom 0 (heldOf deck)) j ≡ some x → x .name ≡ filled v → getElem? (namesIn (heldOf deck)) j ≡ some v
+      told : (j : ℕ) (x : Named) → getElem? (namesFrom 0 (heldOf deck)) j ≡ some x → x .name ≡ filled v → getElem? (namesHeld (heldOf deck)) j ≡ some v
       told j x e f =
           let n = name-at (heldOf deck) 0 j x e in
-          let i = held-name deck (n .of) (at-among (namesIn (heldOf deck)) j (n .of) (n .is)) in
+          let i = held-name deck (n .of) (at-among (namesHeld (heldOf deck)) j (n .of) (n .is)) in
           let m = held-name deck v a in
           n .is ∙ ap some (filled-inj (n .of) v (name-length k deck c (n .of) i) (name-length k deck c v m) (solid k deck c (n .of) i) (solid k deck c v m) (sym (n .named) ∙ f))
 
@@ -250,7 +250,7 @@ module _ (k : ℕ) (deck : List Statement) (c : Accepted k deck) where
 pub entry-name : (deck : List Statement) (i : ℕ) (e : Named) → getElem? (namesFrom 0 (heldOf deck)) i ≡ some e → (v : Name) × InDeck deck v × (e .name ≡ filled v)
 entry-name deck i e f =
     let n = name-at (heldOf deck) 0 i e f in
-    (n .of, held-name deck (n .of) (at-among (namesIn (heldOf deck)) i (n .of) (n .is)), n .named)
+    (n .of, held-name deck (n .of) (at-among (namesHeld (heldOf deck)) i (n .of) (n .is)), n .named)
 
 -- every entry lies inside the cells
 pub names-inside : (k : ℕ) (deck : List Statement) → Accepted k deck → (i : ℕ) (e : Named) → getElem? (namesFrom 0 (heldOf deck)) i ≡ some e → Inside (cellCount (heldOf deck)) e

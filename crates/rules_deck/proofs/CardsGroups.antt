@@ -1,4 +1,4 @@
--- The statements said once more, a first card at a time, for code that takes them so: its text, then the continuations up to the next first card.
+-- The statements are their cards grouped: a first card's text, then that of the continuations up to the next first card.
 -- Assumes nothing.
 use Prim.Native.Nat.{ℕ, suc}
 use mathlib.Core.Path.{_≡_, refl, sym, ap, _∙_, subst}
@@ -9,19 +9,8 @@ use lib.ListN.{length}
 use lib.Seq.{append-snoc}
 use borrow.Author.Tests.{eqb-true}
 use Rattle.rules_shared.specs.Limits.{limits}
-use Rattle.rules_deck.specs.Cards.{cardsOf, textColumns, comment, firstCard, Punched, numberOf, Reading, nothingRead, wrongCard, started, extended, afterCard, Carded, cardsRefused, statements, cardByCard, rightDigits, rightLength, counted, carded}
+use Rattle.rules_deck.specs.Cards.{cardsOf, textColumns, Punched, numberOf, Reading, nothingRead, wrongCard, started, extended, afterCard, Carded, cardsRefused, statements, cardByCard, rightDigits, rightLength, counted, carded, following, grouped}
 use Rattle.rules_deck.proofs.CardsLaws.{Stands, as-comment, as-first, as-continuation, stands, cases}
-
--- the columns 7-72 of the continuations before the next first card
-abbrev pub following : List (List ℕ) → List ℕ
-following [] = []
-following (card ∷ cards) = cond (comment card) (following cards) (cond (firstCard card) [] (textColumns card ++ following cards))
-
-abbrev pub grouped : List (List ℕ) → List Punched
-grouped [] = []
-grouped (card ∷ cards) =
-    cond (comment card) (grouped cards)
-    (cond (firstCard card) (record { number = numberOf card; raw = textColumns card ++ following cards } ∷ grouped cards) (grouped cards))
 
 -- ---- putting text after the last statement
 

@@ -10,7 +10,7 @@ use Rattle.rules_deck.specs.Translation.{Held, exprPlain, targetPlain, f
 use Rattle.rules_deck.specs.Judge.{Reference, exprReferences, targetReferences, formReferences}
 use Rattle.rules_deck.specs.Accepted.{Among, here, there}
 use Rattle.rules_deck.proofs.TestLaws.{among-left, among-right, among-append}
-use Rattle.rules_deck.proofs.MapNames.{namesIn}
+use Rattle.rules_deck.specs.Cells.{namesHeld}
 
 pub data Covered (plain : List Name) (references : List Reference) (v : Name) : Type 0 where
   plainly : Among v plain → Covered plain references v
@@ -121,6 +121,6 @@ pub array-names : {v : Name} (f : Form) → Among v (arrayNames (arraysIn f)) �
 unfolding formNames
 array-names (dimension arrays) a = a
 
-pub declared-names : (arrays : List Array) → namesIn (map (λ a. Held.array (declare a)) arrays) ≡ arrayNames arrays
+pub declared-names : (arrays : List Array) → namesHeld (map (λ a. Held.array (declare a)) arrays) ≡ arrayNames arrays
 declared-names [] = refl
 declared-names (array v r c ∷ arrays) = ap (λ (l : List Name). v ∷ l) (declared-names arrays)

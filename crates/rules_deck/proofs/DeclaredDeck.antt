@@ -20,7 +20,8 @@ use Rattle.rules_deck.specs.Accepted.{Among, here, there, takenBefore, A
 use Rattle.rules_deck.proofs.CardsLaws.{and-both}
 use Rattle.rules_deck.proofs.TestLaws.{or-neither, among-none, same-name, all-among, among-append, among-map, at-before}
 use Rattle.rules_deck.proofs.TakenLaws.{before-next, kept, held-all}
-use Rattle.rules_deck.proofs.ArrayLaws.{arraysHeld, arrays-brings, arrays-held, Means, means-in, holds-left, brings-keeps, brings-names, no-array}
+use Rattle.rules_deck.specs.Cells.{arraysHeld}
+use Rattle.rules_deck.proofs.ArrayLaws.{arrays-brings, arrays-held, Means, means-in, holds-left, brings-keeps, brings-names, no-array}
 
 -- ---- 15, for one array of a DIMENSION
 

@@ -13,28 +13,22 @@ use Rattle.rules_object.specs.Check.{span}
 use Rattle.rules_deck.specs.Trees.{Name}
 use Rattle.rules_deck.specs.Deck.{sameName, Dims, dimsIn, Declared, width}
 use Rattle.rules_deck.specs.Translation.{Held, name, array, hidden, arraySize, cellCount, isName, isArray, firstCell, holds, filled, namesFrom}
+use Rattle.rules_deck.specs.Cells.{namesHeld, arraysHeld}
 use Rattle.rules_deck.specs.Accepted.{Among, here, there}
 use Rattle.rules_deck.proofs.Readers.{All, all-none, all-more}
 use Rattle.rules_deck.proofs.Names.{same-name, name-same}
 use Rattle.rules_deck.proofs.TestLaws.{or-one, or-either, among-append, only}
-use Rattle.rules_deck.proofs.ArrayLaws.{arraysHeld}
 
 -- ---- the names of a map
 
-abbrev pub namesIn : List Held → List Name
-namesIn [] = []
-namesIn (name v ∷ held) = v ∷ namesIn held
-namesIn (array a ∷ held) = a .name ∷ namesIn held
-namesIn (hidden q ∷ held) = namesIn held
-
-pub names-append : (held more : List Held) → namesIn (held ++ more) ≡ namesIn held ++ namesIn more
+pub names-append : (held more : List Held) → namesHeld (held ++ more) ≡ namesHeld held ++ namesHeld more
 names-append [] more = refl
 names-append (name v ∷ held) more = ap (λ (l : List Name). v ∷ l) (names-append held more)
 names-append (array a ∷ held) more = ap (λ (l : List Name). a .name ∷ l) (names-append held more)
 names-append (hidden q ∷ held) more = names-append held more
 
 -- a name among them is a plain name or an array
-pub among-kind : (held : List Held) {v : Name} → Among v (namesIn held) → (holds (isName v) held ≡ true) ⊎ (holds (isArray v) held ≡ true)
+pub among-kind : (held : List Held) {v : Name} → Among v (namesHeld held) → (holds (isName v) held ≡ true) ⊎ (holds (isArray v) held ≡ true)
 among-kind (name v ∷ held) here = inl (ap (λ (b : Bool). b || holds (isName v) held) (name-same v))
 among-kind (name w ∷ held) {v} (there a) = go (among-kind held a)
   where
@@ -49,22 +43,22 @@ among-kind (array a ∷ held) {v} (there b) = go (among-kind held b)
     go (inr e) = inr (or-either (sameName (a .name) v) (holds (isArray v) held) (inr e))
 among-kind (hidden q ∷ held) a = among-kind held a
 
-pub name-among : (held : List Held) (v : Name) → holds (isName v) held ≡ true → Among v (namesIn held)
+pub name-among : (held : List Held) (v : Name) → holds (isName v) held ≡ true → Among v (namesHeld held)
 name-among [] v e = absurd (false≢true e)
 name-among (name w ∷ held) v e = go (or-one (sameName w v) (holds (isName v) held) e) (name-among held v)
   where
-    go : (sameName w v ≡ true) ⊎ (holds (isName v) held ≡ true) → (holds (isName v) held ≡ true → Among v (namesIn held)) → Among v (w ∷ namesIn held)
-    go (inl p) f = subst (λ (x : Name). Among v (x ∷ namesIn held)) (sym (same-name w v p)) here
+    go : (sameName w v ≡ true) ⊎ (holds (isName v) held ≡ true) → (holds (isName v) held ≡ true → Among v (namesHeld held)) → Among v (w ∷ namesHeld held)
+    go (inl p) f = subst (λ (x : Name). Among v (x ∷ namesHeld held)) (sym (same-name w v p)) here
     go (inr p) f = there (f p)
 name-among (array a ∷ held) v e = there (name-among held v e)
 name-among (hidden q ∷ held) v e = name-among held v e
 
-pub array-among : (held : List Held) (v : Name) → holds (isArray v) held ≡ true → Among v (namesIn held)
+pub array-among : (held : List Held) (v : Name) → holds (isArray v) held ≡ true → Among v (namesHeld held)
 array-among [] v e = absurd (false≢true e)
 array-among (array a ∷ held) v e = go (or-one (sameName (a .name) v) (holds (isArray v) held) e) (array-among held v)
   where
-    go : (sameName (a .name) v ≡ true) ⊎ (holds (isArray v) held ≡ true) → (holds (isArray v) held ≡ true → Among v (namesIn held)) → Among v (a .name ∷ namesIn held)
-    go (inl p) f = subst (λ (x : Name). Among v (x ∷ namesIn held)) (sym (same-name (a .name) v p)) here
+    go : (sameName (a .name) v ≡ true) ⊎ (holds (isArray v) held ≡ true) → (holds (isArray v) held ≡ true → Among v (namesHeld held)) → Among v (a .name ∷ namesHeld held)
+    go (inl p) f = subst (λ (x : Name). Among v (x ∷ namesHeld held)) (sym (same-name (a .name) v p)) here
     go (inr p) f = there (f p)
 array-among (name w ∷ held) v e = there (array-among held v e)
 array-among (hidden q ∷ held) v e = array-among held v e
@@ -161,7 +155,7 @@ some-inj e = cc
 -- every entry is a name's of the map
 pub record NameAt (held : List Held) (i : ℕ) (e : Named) : Type 0 where
   pub of : Name
-  pub is : getElem? (namesIn held) i ≡ some of
+  pub is : getElem? (namesHeld held) i ≡ some of
   pub named : e .name ≡ filled of
 
 pub name-at : (held : List Held) (at i : ℕ) (e : Named) → getElem? (namesFrom at held) i ≡ some e → NameAt held i e

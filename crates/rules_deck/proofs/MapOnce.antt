@@ -19,25 +19,26 @@ use Rattle.rules_deck.proofs.CardsLaws.{cases}
 use Rattle.rules_deck.proofs.Readers.{both-true}
 use Rattle.rules_deck.proofs.Names.{same-name}
 use Rattle.rules_deck.proofs.TestLaws.{or-neither, all-among, among-none, among-append}
-use Rattle.rules_deck.proofs.MapNames.{namesIn, names-append, among-kind, name-among, array-among, Distinct, none-yet, new, distinct-last, Full}
+use Rattle.rules_deck.specs.Cells.{namesHeld}
+use Rattle.rules_deck.proofs.MapNames.{names-append, among-kind, name-among, array-among, Distinct, none-yet, new, distinct-last, Full}
 
 -- ---- once
 
 pub record Once (held : List Held) : Type 0 where
-  pub distinct : Distinct (namesIn held)
+  pub distinct : Distinct (namesHeld held)
   pub full : Full held
 
-array-named : {a : Declared} (held : List Held) → Among (array a) held → Among (a .name) (namesIn held)
+array-named : {a : Declared} (held : List Held) → Among (array a) held → Among (a .name) (namesHeld held)
 array-named (array a ∷ held) here = here
 array-named (name v ∷ held) (there i) = there (array-named held i)
 array-named (array b ∷ held) (there i) = there (array-named held i)
 array-named (hidden q ∷ held) (there i) = array-named held i
 
 -- what has no name
-once-quiet : (held more : List Held) → namesIn more ≡ [] → Once held → Once (held ++ more)
+once-quiet : (held more : List Held) → namesHeld more ≡ [] → Once held → Once (held ++ more)
 once-quiet held more e o =
     record {
-      distinct = subst Distinct (sym (names-append held more ∙ ap (λ (l : List Name). namesIn held ++ l) e ∙ append-nil (namesIn held))) (o .distinct);
+      distinct = subst Distinct (sym (names-append held more ∙ ap (λ (l : List Name). namesHeld held ++ l) e ∙ append-nil (namesHeld held))) (o .distinct);
       full = record { rows = λ a i. go a (among-append held more i) };
     }
   where
@@ -45,7 +46,7 @@ once-quiet held more e o =
     go a (inl i) = o .full .rows a i
     go a (inr i) = absurd (among-none (subst (λ (l : List Name). Among (a .name) l) e (array-named more i)))
 
-unseen : (held : List Held) (v : Name) → holds (isName v) held ≡ false → holds (isArray v) held ≡ false → Among v (namesIn held) → ⊥
+unseen : (held : List Held) (v : Name) → holds (isName v) held ≡ false → holds (isArray v) held ≡ false → Among v (namesHeld held) → ⊥
 unseen held v e f a = go (among-kind held a)
   where
     go : (holds (isName v) held ≡ true) ⊎ (holds (isArray v) held ≡ true) → ⊥
@@ -149,17 +150,17 @@ once-held k deck c = once-from 0 deck [] (record { at = at }) (record { distinct
         subst (λ (l : List Held). (right15 l (s .form) ≡ true) × (right16 l (s .form) ≡ true)) (before-held deck j) (i .passes15, i .passes16)
 
 -- no name is both
-both-kinds : (held : List Held) (v : Name) → Distinct (namesIn held) → holds (isName v) held ≡ true → holds (isArray v) held ≡ true → ⊥
+both-kinds : (held : List Held) (v : Name) → Distinct (namesHeld held) → holds (isName v) held ≡ true → holds (isArray v) held ≡ true → ⊥
 both-kinds [] v d e f = false≢true e
 both-kinds (name w ∷ held) v (new n d) e f = go (sameName w v) refl e (λ q. both-kinds held v d q f)
   where
     go : (b : Bool) → sameName w v ≡ b → (b || holds (isName v) held) ≡ true → (holds (isName v) held ≡ true → ⊥) → ⊥
-    go true p q r = n (subst (λ (x : Name). Among x (namesIn held)) (sym (same-name w v p)) (array-among held v f))
+    go true p q r = n (subst (λ (x : Name). Among x (namesHeld held)) (sym (same-name w v p)) (array-among held v f))
     go false p q r = r q
 both-kinds (array a ∷ held) v (new n d) e f = go (sameName (a .name) v) refl f (λ q. both-kinds held v d e q)
   where
     go : (b : Bool) → sameName (a .name) v ≡ b → (b || holds (isArray v) held) ≡ true → (holds (isArray v) held ≡ true → ⊥) → ⊥
-    go true p q r = n (subst (λ (x : Name). Among x (namesIn held)) (sym (same-name (a .name) v p)) (name-among held v e))
+    go true p q r = n (subst (λ (x : Name). Among x (namesHeld held)) (sym (same-name (a .name) v p)) (name-among held v e))
     go false p q r = r q
 both-kinds (hidden q ∷ held) v d e f = both-kinds held v d e f
 

@@ -17,7 +17,7 @@ use Rattle.rules_object.specs.Check.{flowOf}
 use Rattle.rules_object.specs.Calls.{Lent, taken, given, ran, running}
 use Rattle.rules_object.specs.Safe.{Stands}
 use Rattle.rules_object.proofs.HeightsExact.{height-reached}
-use Rattle.rules_object.proofs.Passed.{Passed}
+use Rattle.rules_object.specs.Passed.{Passed}
 use Rattle.rules_object.proofs.Safe.{run-stands, run-halts}
 use Rattle.rules_object.proofs.Lents.{taken-stands}
 use Rattle.rules_object.proofs.Accepts.{Accepts, Answer, refuses, runs, answer}

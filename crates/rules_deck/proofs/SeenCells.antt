@@ -16,11 +16,11 @@ use Rattle.rules_deck.specs.Deck.{sameName, Declared, width}
 use Rattle.rules_deck.specs.Meaning.{Key, plain, elementAt}
 use Rattle.rules_deck.specs.Translation.{Held, name, array, hidden, arraySize, isName, isArray, firstCell, holds, cellOf, baseOf, heldOf, filled, namesFrom}
 use Rattle.rules_deck.specs.Accepted.{Among, here, there, Accepted}
-use Rattle.rules_deck.specs.Cells.{key, slotCell, sizeOf, Has}
+use Rattle.rules_deck.specs.Cells.{key, slotCell, sizeOf, Has, namesHeld}
 use Rattle.rules_deck.specs.Seen.{orNext, cellIn}
 use Rattle.rules_deck.proofs.Readers.{all-none, all-more}
 use Rattle.rules_deck.proofs.TestLaws.{same-name, clash}
-use Rattle.rules_deck.proofs.MapNames.{namesIn, Distinct, new, Full, NoBlank}
+use Rattle.rules_deck.proofs.MapNames.{Distinct, new, Full, NoBlank}
 use Rattle.rules_deck.proofs.MapOnce.{once-held}
 use Rattle.rules_deck.proofs.BodySeven.{held-name, name-length, solid}
 
@@ -45,11 +45,11 @@ filled-back v h a = padded-back 8 8 v (omega arith) a
 -- ---- the map's names are such names, each once, and its arrays have rows
 
 pub record Told (held : List Held) : Type 0 where
-  pub back : (v : Name) → Among v (namesIn held) → withoutBlanks (filled v) ≡ v
+  pub back : (v : Name) → Among v (namesHeld held) → withoutBlanks (filled v) ≡ v
   pub full : Full held
-  pub once : Distinct (namesIn held)
+  pub once : Distinct (namesHeld held)
 
-told-rest : {held : List Held} (h : Held) → ((w : Name) → Among w (namesIn held) → Among w (namesIn (h ∷ held))) → Distinct (namesIn held) → Told (h ∷ held) → Told held
+told-rest : {held : List Held} (h : Held) → ((w : Name) → Among w (namesHeld held) → Among w (namesHeld (h ∷ held))) → Distinct (namesHeld held) → Told (h ∷ held) → Told held
 told-rest h f d t = record { back = λ w a. t .back w (f w a); full = record { rows = λ a i. t .full .rows a (there i) }; once = d }
 
 distinct-rest : {v : Name} {vs : List Name} → Distinct (v ∷ vs) → Distinct vs
@@ -96,13 +96,13 @@ plain-cell (hidden q ∷ held) at v t = plain-cell held (at + 2) v (after-hidden
 -- ---- elements
 
 -- an array that is not in the map has no cells
-no-size : (held : List Held) (v : Name) → (Among v (namesIn held) → ⊥) → sizeOf held v ≡ 0
+no-size : (held : List Held) (v : Name) → (Among v (namesHeld held) → ⊥) → sizeOf held v ≡ 0
 no-size [] v n = refl
 no-size (name w ∷ held) v n = no-size held v (λ a. n (there a))
 no-size (array a ∷ held) v n = go (sameName (a .name) v) refl (no-size held v (λ i. n (there i)))
   where
     go : (b : Bool) → sameName (a .name) v ≡ b → sizeOf held v ≡ 0 → cond b (arraySize (a .dims)) (sizeOf held v) ≡ 0
-    go true e r = absurd (n (subst (λ w. Among w (namesIn (array a ∷ held))) (same-name (a .name) v e) here))
+    go true e r = absurd (n (subst (λ w. Among w (namesHeld (array a ∷ held))) (same-name (a .name) v e) here))
     go false e r = r
 no-size (hidden q ∷ held) v n = no-size held v n
 
@@ -149,7 +149,7 @@ element-cell (array a ∷ held) at v p t =
     go true e true f r = ap some (omega arith) ∙ sym (ap (λ z. cond z (some (at + 0 + p)) none) f)
     go true e false f r =
         r ∙ ap (λ z. cond z (some (at + arraySize (a .dims) + firstCell (isArray v) held + p)) none)
-        (not-below p (sizeOf held v) (no-size held v (λ i. distinct-first (t .once) (subst (λ w. Among w (namesIn held)) (sym (same-name (a .name) v e)) i))))
+        (not-below p (sizeOf held v) (no-size held v (λ i. distinct-first (t .once) (subst (λ w. Among w (namesHeld held)) (sym (same-name (a .name) v e)) i))))
         ∙ sym (ap (λ z. cond z (some (at + 0 + p)) none) f)
     go false e c f r = r ∙ elements-move held at (arraySize (a .dims)) v p
 element-cell (hidden q ∷ held) at v p t = element-cell held (at + 2) v p (after-hidden q t) ∙ elements-move held at 2 v p

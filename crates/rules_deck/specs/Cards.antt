@@ -174,3 +174,16 @@ counted (statements ps) = cond (leb (length ps) (limits .statements)) (statement
 unfoldable pub carded : ℕ → List ℕ → Carded
 carded k deck =
     cond (rightDigits k) (cond (rightLength deck) (counted (cardByCard 1 nothingRead (cardsOf deck))) (cardsRefused 2 0)) (cardsRefused 1 0)
+
+-- ---- the statements a first card at a time, as code takes them: its text, then that of the continuations up to the next first card
+
+-- the columns 7-72 of the continuations before the next first card
+abbrev pub following : List (List ℕ) → List ℕ
+following [] = []
+following (card ∷ cards) = cond (comment card) (following cards) (cond (firstCard card) [] (textColumns card ++ following cards))
+
+abbrev pub grouped : List (List ℕ) → List Punched
+grouped [] = []
+grouped (card ∷ cards) =
+    cond (comment card) (grouped cards)
+    (cond (firstCard card) (record { number = numberOf card; raw = textColumns card ++ following cards } ∷ grouped cards) (grouped cards))

@@ -8,9 +8,25 @@ use lib.ListN.{length}
 use lib.IntN.{ℤ}
 use Rattle.rules_object.specs.Machine.{cell}
 use Rattle.rules_deck.specs.Trees.{Name, Statement}
-use Rattle.rules_deck.specs.Deck.{sameName}
+use Rattle.rules_deck.specs.Deck.{sameName, Declared}
 use Rattle.rules_deck.specs.Meaning.{Key, plain, elementAt, Values}
 use Rattle.rules_deck.specs.Translation.{Held, name, array, hidden, arraySize, cellCount, isName, isHidden, holds, cellOf, baseOf, limitOf, addressAt}
+
+-- ---- the names and the arrays that have cells
+
+abbrev pub namesHeld : List Held → List Name
+namesHeld [] = []
+namesHeld (name v ∷ held) = v ∷ namesHeld held
+namesHeld (array a ∷ held) = a .name ∷ namesHeld held
+namesHeld (hidden q ∷ held) = namesHeld held
+
+abbrev pub arraysHeld : List Held → List Declared
+arraysHeld [] = []
+arraysHeld (name v ∷ held) = arraysHeld held
+arraysHeld (array a ∷ held) = a ∷ arraysHeld held
+arraysHeld (hidden q ∷ held) = arraysHeld held
+
+-- ---- cells and what they hold
 
 -- a named value, or the limit or the step of the DO at a position
 pub data Slot : Type 0 where

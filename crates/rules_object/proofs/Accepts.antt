@@ -14,8 +14,9 @@ use Rattle.rules_object.specs.Bytes.{readObject}
 use Rattle.rules_object.specs.Heights.{heights}
 use Rattle.rules_shared.specs.Refusals.{Refusal, refusal, atEntry, orElse, unless}
 use Rattle.rules_shared.specs.Lists.{firstBad}
-use Rattle.rules_object.specs.Calls.{refused42, refused43, Checked, refused, passed, judged44, judged, checkedObject, checked, verdict, checking, Lent, taken, right50, right51, right52, notRun, runFrom, orRefused, runChecked, running, benchObject, benching}
-use Rattle.rules_object.proofs.Passed.{or-none, unless-none, Passed, check-passed}
+use Rattle.rules_object.specs.Calls.{refused42, refused43, Checked, refused, passed, judged44, judged, checkedObject, checked, verdict, checking, Lent, taken, right50, right51, right52, refused50to52, notRun, runFrom, orRefused, runChecked, running, benchObject, benching}
+use Rattle.rules_object.specs.Passed.{Passed}
+use Rattle.rules_object.proofs.Passed.{or-none, unless-none, check-passed}
 
 -- ---- a refusal's number
 
@@ -135,9 +136,6 @@ pub record Accepts (bytes : List ℕ) (store : List ℤ) (l : Lent) : Type 0 whe
   pub right51 : right51 object store ≡ true
   pub right52 : right52 object table l ≡ true
 
-abbrev pub refused5 : Object → List ℕ → List ℤ → Lent → Option Refusal
-refused5 o table store l = orElse (unless (right50 o store) 50) (orElse (unless (right51 o store) 51) (unless (right52 o table l) 52))
-
 pub data Answer (bytes : List ℕ) (store : List ℤ) (l : Lent) : Type 0 where
   refuses : (r : Refusal) → 0 < r .number → ((a : ℕ) → running bytes store l a ≡ notRun r l store) → Answer bytes store l
   runs : (x : Accepts bytes store l) → ((a : ℕ) → running bytes store l a ≡ runFrom (x .object) (step (x .object)) a (taken l store)) → Answer bytes store l
@@ -146,7 +144,7 @@ pub answer : (bytes : List ℕ) (store : List ℤ) (l : Lent) → Answer bytes s
 unfolding running
 answer bytes store l = by (judge bytes)
   where
-    test : (o : Object) (table : List ℕ) → checked bytes ≡ passed o table → Passed bytes o table → (r : Option Refusal) → refused5 o table store l ≡ r → If Above r → Answer bytes store l
+    test : (o : Object) (table : List ℕ) → checked bytes ≡ passed o table → Passed bytes o table → (r : Option Refusal) → refused50to52 o table store l ≡ r → If Above r → Answer bytes store l
     test o table e p (some r) q h =
         refuses r h (λ a. ap (λ c. runChecked c store l a) e ∙ ap (λ r. orRefused r l store (runFrom o (step o) a (taken l store))) q)
     test o table e p none q h =
@@ -158,7 +156,7 @@ answer bytes store l = by (judge bytes)
     by : Verdict bytes → Answer bytes store l
     by (bad r e p w) = refuses r p (λ a. ap (λ c. runChecked c store l a) e)
     by (good o table e p) =
-        test o table e p (refused5 o table store l) refl
+        test o table e p (refused50to52 o table store l) refl
         (or-if Above (unless (right50 o store) 50) _ (unless-if Above (right50 o store) 50 (omega arith))
         (or-if Above (unless (right51 o store) 51) _ (unless-if Above (right51 o store) 51 (omega arith)) (unless-if Above (right52 o table l) 52 (omega arith))))
 
@@ -178,7 +176,7 @@ accepts-run {store = store} {l = l} x a =
     let q₁ = ap (λ b. unless b 50) (x .right50) in
     let q₂ = ap (λ b. unless b 51) (x .right51) in
     let q₃ = ap (λ b. unless b 52) (x .right52) in
-    let q : refused5 o table store l ≡ none = rw (q₁, q₂, q₃) refl in
+    let q : refused50to52 o table store l ≡ none = rw (q₁, q₂, q₃) refl in
     ap (λ c. runChecked c store l a) (x .is) ∙ ap (λ r. orRefused r l store (runFrom o (step o) a (taken l store))) q
 
 -- ---- the bench run

@@ -18,7 +18,7 @@ use Rattle.rules_shared.specs.Refusals.{orElse, unless}
 use Rattle.rules_object.specs.Calls.{passed, checking, Lent, taken, given, right50, right51, right52, Ran, ran, runFrom, orRefused, runChecked, running, benchObject, benching}
 use Rattle.rules_object.specs.Safe.{Right, Stands, freshLent}
 use Rattle.rules_shared.proofs.RunLaws.{run-same, steps-same}
-use Rattle.rules_object.proofs.Passed.{Passed}
+use Rattle.rules_object.specs.Passed.{Passed}
 use Rattle.rules_object.proofs.Safe.{step-stands, stands-right, run-halts}
 use Rattle.rules_object.proofs.Lents.{and-true, fresh-stands, taken-stands, stands-52, taken-given}
 use Rattle.rules_object.proofs.Accepts.{checks, Answer, refuses, runs, answer, BenchAnswer, bench-answer}

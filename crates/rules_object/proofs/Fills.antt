@@ -11,7 +11,7 @@ use lib.Seq.{getD-set-same, getD-set-other}
 use borrow.Author.Tests.{eq-eqb, ne-eqb}
 use Rattle.rules_shared.specs.Limits.{limits}
 use Rattle.rules_object.specs.Flow.{Flow, never, at, after, Lead, Fine, Valid, Below, Reached, first, onward, PathsAgree, Least, NoTable}
-use Rattle.rules_object.proofs.Filling.{nevers, Blank, Waits, Filling, Visiting, Went}
+use Rattle.rules_object.specs.Filling.{nevers, Blank, Waits, Filling, Visiting, Went}
 
 -- ---- tables and paths
 

@@ -17,7 +17,8 @@ use Rattle.rules_object.specs.Machine.{Instr, HLT, CON, LOD, STO, LDE, S
 use Rattle.rules_object.specs.Check.{inCells, rightConstant, rightSubscript, rightElement, rightLoop, right43, operandTests, unknownOperation, entryTests, noEntry, entryRight, pops, pushes, successors, instruction, flowOf}
 use Rattle.rules_object.specs.Flow.{at}
 use Rattle.rules_object.specs.Safe.{Within}
-use Rattle.rules_object.proofs.Passed.{Passed, both}
+use Rattle.rules_object.specs.Passed.{Passed}
+use Rattle.rules_object.proofs.Passed.{both}
 
 -- ---- what an instruction uses
 

@@ -15,7 +15,7 @@ use borrow.Author.Tests.{leb-true, leb-false, ltb-true, ltb-false, eqb-true, eqb
 use Rattle.rules_shared.specs.Limits.{limits}
 use Rattle.rules_object.specs.Flow.{Flow, never, at, after, Valid, Reached, PathsAgree, Least, NoTable, Exact, table, refused}
 use Rattle.rules_object.specs.Heights.{Way, way, stop, meets, andOn, spread, visits, fills, found, heightsOf, heights, heightAt}
-use Rattle.rules_object.proofs.Filling.{nevers, Filling, Visiting, Went}
+use Rattle.rules_object.specs.Filling.{nevers, Filling, Visiting, Went}
 use Rattle.rules_object.proofs.Fills.{reached, table-agrees, disagree-none, nevers-set, blank, past, over, clash, same, new, begin, short, finish, start, ends}
 
 -- k successors of a are done

@@ -21,7 +21,8 @@ use Rattle.rules_shared.specs.Lists.{all}
 use Rattle.rules_object.specs.Calls.{Lent, taken, given, right50, right51, right52}
 use Rattle.rules_shared.specs.Lists.{Each}
 use Rattle.rules_object.specs.Safe.{Within, Stands}
-use Rattle.rules_object.proofs.Passed.{Passed, both}
+use Rattle.rules_object.specs.Passed.{Passed}
+use Rattle.rules_object.proofs.Passed.{both}
 
 -- ---- lists of numbers within the digits
 

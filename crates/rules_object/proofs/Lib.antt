@@ -1,4 +1,3 @@
-pub mod Filling
 pub mod Fills
 pub mod HeightsExact
 pub mod OneTable

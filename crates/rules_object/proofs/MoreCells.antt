@@ -22,7 +22,7 @@ use Rattle.rules_shared.specs.Lists.{all}
 use Rattle.rules_object.specs.Calls.{Lent, taken, given, right50, right51, right52, Ran, ran, runFrom, orRefused, runChecked, running}
 use Rattle.rules_object.specs.Safe.{withCells, ranWithCells}
 use Rattle.rules_shared.proofs.RunLaws.{mapOut}
-use Rattle.rules_object.proofs.Passed.{Passed}
+use Rattle.rules_object.specs.Passed.{Passed}
 use Rattle.rules_object.proofs.Lents.{long-enough, taken-stands}
 use Rattle.rules_object.proofs.PastCells.{run-past-cells, steps-past-cells}
 use Rattle.rules_object.proofs.Accepts.{Verdict, bad, good, judge, Answer, refuses, runs, answer}

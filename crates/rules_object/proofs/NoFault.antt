@@ -11,7 +11,8 @@ use Rattle.rules_object.specs.Object.{Object}
 use Rattle.rules_object.specs.Machine.{State, fresh}
 use Rattle.rules_object.specs.Calls.{passed, checked, Lent, taken, right50, right51, right52}
 use Rattle.rules_object.specs.Safe.{Stands, NoFault}
-use Rattle.rules_object.proofs.Passed.{Passed, check-passed}
+use Rattle.rules_object.specs.Passed.{Passed}
+use Rattle.rules_object.proofs.Passed.{check-passed}
 use Rattle.rules_object.proofs.Safe.{run-stands, run-halts}
 use Rattle.rules_object.proofs.Lents.{fresh-stands, taken-stands}
 use Rattle.rules_object.proofs.BenchRuns.{bench-is-run, bench-steps}

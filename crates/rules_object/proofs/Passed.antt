@@ -10,12 +10,12 @@ use lib.ListN.{length, getD}
 use Rattle.rules_object.specs.Object.{Object}
 use Rattle.rules_object.specs.Machine.{noElement, noLoop}
 use Rattle.rules_object.specs.Check.{right41, rightConstant, rightElement, rightLoop, right43, flowOf}
-use Rattle.rules_object.specs.Flow.{Least}
 use Rattle.rules_object.specs.Heights.{heights}
 use Rattle.rules_shared.specs.Refusals.{Refusal, atEntry, orElse, unless}
 use Rattle.rules_shared.specs.Lists.{firstBad}
 use Rattle.rules_object.specs.Calls.{refused42, refused43, refused, passed, judged44, judged, checkedObject, checked}
 use Rattle.rules_object.specs.Bytes.{readObject}
+use Rattle.rules_object.specs.Passed.{Passed}
 use Rattle.rules_object.proofs.HeightsExact.{heights-some}
 
 -- ---- answers that are none
@@ -52,16 +52,6 @@ pub both : (a b : Bool) → (a && b) ≡ true → (a ≡ true) × (b ≡ true)
 both true true e = (refl, refl)
 both true false e = absurd (let z : _≡_ {A = ℕ} 0 1 = cc in omega arith)
 both false b e = absurd (let z : _≡_ {A = ℕ} 0 1 = cc in omega arith)
-
-pub record Passed (bytes : List ℕ) (o : Object) (table : List ℕ) : Type 0 where
-  pub reads : readObject bytes ≡ some o
-  pub right : right41 o ≡ true
-  pub constants : (i : ℕ) → i < length (o .constants) → rightConstant o (getD (o .constants) i 0) ≡ true
-  pub elements : (i : ℕ) → i < length (o .elements) → rightElement o (getD (o .elements) i noElement) ≡ true
-  pub dos : (i : ℕ) → i < length (o .dos) → rightLoop o (getD (o .dos) i noLoop) ≡ true
-  pub words : (a : ℕ) → a < length (o .code) → right43 o (getD (o .code) a 0) ≡ true
-  pub least : Least (flowOf o) table
-  pub sized : length table ≡ length (o .code)
 
 refused-passed : {r : Refusal} {o : Object} {table : List ℕ} → refused r ≡ passed o table → ⊥
 refused-passed e = let z : _≡_ {A = ℕ} 0 1 = cc in omega arith

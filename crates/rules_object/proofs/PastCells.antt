@@ -17,7 +17,7 @@ use Rattle.rules_object.specs.Machine.{Instr, HLT, CON, LOD, STO, LDE, S
 use Rattle.rules_object.specs.Check.{instruction}
 use Rattle.rules_object.specs.Safe.{Stands, withCells}
 use Rattle.rules_shared.proofs.RunLaws.{mapOut, run-map, steps-map}
-use Rattle.rules_object.proofs.Passed.{Passed}
+use Rattle.rules_object.specs.Passed.{Passed}
 use Rattle.rules_object.proofs.GoodWords.{GoodElement, GoodLoop, Good, word-good}
 use Rattle.rules_object.proofs.Safe.{place-below, step-stands}
 

@@ -22,7 +22,7 @@ use Rattle.rules_object.specs.Check.{pops, pushes, instruction}
 use Rattle.rules_shared.specs.Lists.{Each}
 use Rattle.rules_object.specs.Safe.{elementCell, elementCells, touchedBy, touches, Right, Within, Stands}
 use Rattle.rules_shared.proofs.RunLaws.{run-keeps, halted}
-use Rattle.rules_object.proofs.Passed.{Passed}
+use Rattle.rules_object.specs.Passed.{Passed}
 use Rattle.rules_object.proofs.Numbers.{top-within, under-within, set-within, TurnWithin, turn-within, under-length}
 use Rattle.rules_object.proofs.GoodWords.{GoodElement, GoodLoop, Good, word-good, Led, Leads, word-leads}
 

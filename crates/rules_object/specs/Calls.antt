@@ -95,6 +95,10 @@ right52 o table l =
     ltb (l .index) (length (o .code)) && (leb (at table (l .index)) (limits .stack) && (eqb (l .height) (at table (l .index)) &&
     (all (fits (ruleOf o)) (take (l .height) (l .places)) && leb (l .mark) (length (o .code)))))
 
+-- the lowest number that a store and a state are refused by
+abbrev pub refused50to52 : Object → List ℕ → List ℤ → Lent → Option Refusal
+refused50to52 o table store l = orElse (unless (right50 o store) 50) (orElse (unless (right51 o store) 51) (unless (right52 o table l) 52))
+
 -- ---- run and bench run
 
 -- the sequence number of the last entry with an address at or before that of a mark, else 0
@@ -137,8 +141,7 @@ orRefused none l store a = a
 abbrev pub runChecked : Checked → List ℤ → Lent → ℕ → Ran
 runChecked (refused r) store l allowance = notRun r l store
 runChecked (passed o table) store l allowance =
-    orRefused (orElse (unless (right50 o store) 50) (orElse (unless (right51 o store) 51) (unless (right52 o table l) 52))) l store
-    (runFrom o (step o) allowance (taken l store))
+    orRefused (refused50to52 o table store l) l store (runFrom o (step o) allowance (taken l store))
 
 -- the call `run`
 unfoldable pub running : List ℕ → List ℤ → Lent → ℕ → Ran

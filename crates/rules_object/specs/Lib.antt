@@ -4,7 +4,9 @@ pub mod Writable
 pub mod Machine
 pub mod Flow
 pub mod Heights
+pub mod Filling
 pub mod Check
 pub mod Calls
+pub mod Passed
 pub mod Safe
 pub mod Small

@@ -18,10 +18,10 @@ use Rattle.rules_object.specs.Bytes.{readObject}
 use Rattle.rules_object.specs.Check.{right41, benchStep}
 use Rattle.rules_object.specs.Safe.{NoFault, Stands}
 use Rattle.rules_shared.specs.Refusals.{Refusal, orElse, unless}
-use Rattle.rules_object.specs.Calls.{Checked, passed, Lent, taken, right50, right51, right52, sequenceOf, runFrom, orRefused, runChecked, running, benchObject, benching}
+use Rattle.rules_object.specs.Calls.{Checked, passed, Lent, taken, right50, right51, right52, sequenceOf, runFrom, orRefused, runChecked, running, benchObject, benching, refused50to52}
 use Rattle.rules_object.specs.Calls as book
-use Rattle.rules_object.proofs.Passed.{Passed, both, or-none, unless-none}
-use Rattle.rules_object.proofs.Accepts.{refused5}
+use Rattle.rules_object.specs.Passed.{Passed}
+use Rattle.rules_object.proofs.Passed.{both, or-none, unless-none}
 use Rattle.rules_object.proofs.Lents.{taken-stands}
 use Rattle.rules_object.proofs.NoFault.{stands-no-fault}
 use Rattle.object.specs.declared.Layout.{Layout}
@@ -129,13 +129,13 @@ module _ (e : Layout) (s table : List ℕ) (store : List ℤ) (i h m : ℕ) (pla
   abbrev L : Lent
   L = lent i h m places
 
-  pub run-refused : (n : ℕ) → numbered n ≡ refused5 O T store L → (n ≡ 0 → ⊥) → Ends (runChecked (passing e s table) store L a) (refusedRan n 0 0) L store
+  pub run-refused : (n : ℕ) → numbered n ≡ refused50to52 O T store L → (n ≡ 0 → ⊥) → Ends (runChecked (passing e s table) store L a) (refusedRan n 0 0) L store
   unfolding passing
   run-refused zero q z = absurd (z refl)
   run-refused (suc n) q z = record { is = ap (λ (x : Option Refusal). orRefused x L store (runFrom O (step O) a (taken L store))) (sym q) }
 
-  module _ (P : Passed s O T) (placed : Placed e s) (forty : length places ≡ 40) (n : ℕ) (told : numbered n ≡ refused5 O T store L) (none-wrong : n ≡ 0) where
-    none-left : refused5 O T store L ≡ none
+  module _ (P : Passed s O T) (placed : Placed e s) (forty : length places ≡ 40) (n : ℕ) (told : numbered n ≡ refused50to52 O T store L) (none-wrong : n ≡ 0) where
+    none-left : refused50to52 O T store L ≡ none
     none-left = sym told ∙ ap numbered none-wrong
 
     rest : orElse (unless (right51 O store) 51) (unless (right52 O T L) 52) ≡ none

@@ -6,7 +6,7 @@ ghost use Prim.Native.Nat.{_≤_};
 ghost use lib.ListN.{take};
 ghost use lib.IntN.{ℤ};
 ghost use Rattle.rules_object.specs.Calls.{runChecked, running, benchObject, benching};
-ghost use Rattle.rules_object.proofs.Passed.{Passed};
+ghost use Rattle.rules_object.specs.Passed.{Passed};
 ghost use Rattle.object.specs.Layout.{Placed, objectAt};
 ghost use Rattle.heights.specs.Judged.{Fresh};
 ghost use Rattle.checker.specs.Verdicts.{passing};

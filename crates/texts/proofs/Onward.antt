@@ -8,9 +8,9 @@ use native.Mathlib.Omega.{arith}
 use native.Mathlib.Numerals.{add-one}
 use lib.ListN.{length, take, drop, length-drop}
 use lib.Seq.{drop-drop}
-use Rattle.rules_deck.specs.Cards.{cardsOf, textColumns, textOf, Punched, numberOf}
+use Rattle.rules_deck.specs.Cards.{cardsOf, textColumns, textOf, Punched, numberOf, following, grouped}
 use Rattle.rules_deck.proofs.CardsLaws.{Each, RightStatement}
-use Rattle.rules_deck.proofs.CardsGroups.{following, grouped, statements-grouped}
+use Rattle.rules_deck.proofs.CardsGroups.{statements-grouped}
 use Rattle.cards.specs.declared.Number.{Number}
 use Rattle.texts.specs.declared.Taken.{Taken}
 use Rattle.texts.specs.declared.Taken.the-variants.{Statement, End}

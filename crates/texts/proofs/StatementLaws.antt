@@ -10,9 +10,9 @@ use lib.ListN.{length, drop, length-append}
 use lib.Seq.{drop-nil, drop-drop}
 use borrow.Author.Tests.{eqb-true}
 use Rattle.rules_shared.specs.Limits.{limits}
-use Rattle.rules_deck.specs.Cards.{cardsOf, textColumns, comment, firstCard, textOf, Punched, numberOf, rightNumber, Reading, nothingRead, wrongCard, afterCard, Carded, cardsRefused, statements, cardByCard, rightDigits, rightLength, counted, carded}
+use Rattle.rules_deck.specs.Cards.{cardsOf, textColumns, comment, firstCard, textOf, Punched, numberOf, rightNumber, Reading, nothingRead, wrongCard, afterCard, Carded, cardsRefused, statements, cardByCard, rightDigits, rightLength, counted, carded, following, grouped}
 use Rattle.rules_deck.proofs.CardsLaws.{Each, also, RightStatement, Stands, as-comment, as-first, as-continuation, stands, statements-right}
-use Rattle.rules_deck.proofs.CardsGroups.{following, grouped, statements-grouped}
+use Rattle.rules_deck.proofs.CardsGroups.{statements-grouped}
 use Rattle.cards.specs.declared.Columns.the-variants as columns
 use Rattle.texts.specs.declared.Reached.{Reached}
 use Rattle.texts.specs.declared.Taken.the-variants.{Statement, End}

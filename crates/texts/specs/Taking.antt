@@ -6,8 +6,7 @@ use mathlib.Core.Bool.{Bool, false, cond}
 use mathlib.Core.List.{List, [], _∷_}
 use lib.ListN.{length, drop}
 use lib.Seq.{sets}
-use Rattle.rules_deck.specs.Cards.{cardsOf, textColumns, comment, firstCard, textOf, Punched, statements, carded}
-use Rattle.rules_deck.proofs.CardsGroups.{following, grouped}
+use Rattle.rules_deck.specs.Cards.{cardsOf, textColumns, comment, firstCard, textOf, Punched, statements, carded, following, grouped}
 use Rattle.texts.specs.declared.Reached.{Reached}
 use Rattle.texts.specs.declared.Taken.{Taken}
 use Rattle.texts.specs.declared.Taken.the-variants.{Statement, End}

@@ -2,7 +2,7 @@
 use Prim.Native.Nat.{_-_, _+_}
 use native.Mathlib.Omega.{arith}
 use Rattle.rules_object.specs.Check.{flowOf}
-use Rattle.rules_object.proofs.Filling.{nevers}
+use Rattle.rules_object.specs.Filling.{nevers}
 use Rattle.object.specs.Layout.{objectAt}
 use Rattle.heights.proofs.Places.{flow-length, code-within}
 use Rattle.heights.proofs.Loops.{Round, first-round, last-one, visited, stuck, filled, not-filled}
