@@ -7,7 +7,7 @@ use mathlib.Core.Option.{Option, none, some}
 use Prim.Native.Nat.{ℕ, _<_}
 use lib.ListN.{take, replicate, length-replicate}
 use lib.Seq.{getD-take}
-use Rattle.rules_object.specs.Flow.{never, at}
+use Rattle.rules_object.specs.Flow.{never, heightAt}
 use Rattle.rules_object.proofs.Fills.{blank}
 use Rattle.heights.specs.Judged.{Fresh, answered}
 
@@ -23,5 +23,5 @@ unfolding answered
 answered-no n table r a e = a ∙ ap (answered n table) e
 
 -- a height is read where it stands
-pub height-left : (n : ℕ) (table : List ℕ) (a : ℕ) → a < n → at (take n table) a ≡ at table a
+pub height-left : (n : ℕ) (table : List ℕ) (a : ℕ) → a < n → heightAt (take n table) a ≡ heightAt table a
 height-left n table a l = getD-take n table a 0 l

@@ -7,8 +7,8 @@ use mathlib.Core.Option.{some}
 use Prim.Native.Nat.{ℕ, _+_, _-_, _≤_, _<_}
 use native.Mathlib.Omega.{arith}
 use lib.ListN.{length, take, set}
-use Rattle.rules_object.specs.Flow.{Flow, at, PathsAgree}
-use Rattle.rules_object.specs.Heights.{heights}
+use Rattle.rules_object.specs.Flow.{Flow, PathsAgree}
+use Rattle.rules_object.specs.Heights.{heights, waiting}
 use Rattle.rules_object.specs.Filling.{nevers, Filling, Went}
 use Rattle.rules_object.proofs.Fills.{disagree-none, nevers-set, start, ends}
 use Rattle.rules_object.proofs.OneTable.{least-is, no-table-is}
@@ -41,7 +41,7 @@ pub record Round (F : Flow) (H W : List ℕ) (top : ℕ) : Type 0 where
   pub filling : Filling F H W top
   pub few : nevers H + top ≤ 4096
 
-pub first-round : (F : Flow) (H W : List ℕ) → Fresh H → 0 < F .n → F .n ≤ 4096 → at W 0 ≡ 0 → length W ≡ 4096 → Round F (set H 0 0) W 1
+pub first-round : (F : Flow) (H W : List ℕ) → Fresh H → 0 < F .n → F .n ≤ 4096 → waiting W 0 ≡ 0 → length W ≡ 4096 → Round F (set H 0 0) W 1
 first-round F H W f begins fits first-waits long =
     let z = f .long in
     let c = f .blank .count in

@@ -12,7 +12,7 @@ use Rattle.rules_shared.specs.Limits.{limits}
 use Rattle.rules_object.specs.Object.{Object}
 use Rattle.rules_object.specs.Machine.{Instr, operationOf, operandOf, meant, decode}
 use Rattle.rules_object.specs.Check.{right41, right43, popsTable, pushesTable, operationNumber, successors, instruction, flowOf}
-use Rattle.rules_object.specs.Flow.{at}
+use Rattle.rules_object.specs.Heights.{waiting}
 use Rattle.rules_object.specs.Filling.{Filling}
 use Rattle.rules_object.proofs.Fills.{there}
 use Rattle.rules_object.proofs.Passed.{both}
@@ -29,7 +29,7 @@ unfolding flowOf
 flow-length e s = code-length e s
 
 -- what waits last is inside the code
-pub waits-inside : (e : Layout) (s H W : List ℕ) (b : ℕ) {a : ℕ} → at W b ≡ a → Filling (flowOf (objectAt e s)) H W (b + 1) → a < e .«code_count»
+pub waits-inside : (e : Layout) (s H W : List ℕ) (b : ℕ) {a : ℕ} → waiting W b ≡ a → Filling (flowOf (objectAt e s)) H W (b + 1) → a < e .«code_count»
 waits-inside e s H W b {a} is f = omega (arith, there (flowOf (objectAt e s)) H W b a is f .0, flow-length e s)
 
 within : (o : Object) → right41 o ≡ true → length (o .code) ≤ limits .code

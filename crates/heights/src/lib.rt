@@ -3,8 +3,7 @@ ghost use mathlib.Core.Path.{_≡_};
 ghost use Prim.Native.Nat.{_+_, _≤_, _<_};
 ghost use lib.ListN.{length};
 ghost use Rattle.rules_object.specs.Check.{flowOf};
-ghost use Rattle.rules_object.specs.Flow.{at};
-ghost use Rattle.rules_object.specs.Heights.{heights};
+ghost use Rattle.rules_object.specs.Heights.{heights, waiting};
 ghost use Rattle.rules_object.specs.Filling.{nevers, Filling};
 ghost use Rattle.object.specs.Layout.{objectAt};
 ghost use Rattle.heights.specs.Judged.{Judged, Fresh, answered};
@@ -91,7 +90,7 @@ fn visit(o: &[u8], e: Layout, table: &mut Table, work: &mut Work, start: usize) 
 // From a table that is NEVER throughout, and instruction 0 first in the worklist.
 fn fill(o: &[u8], e: Layout, table: &mut Table, work: &mut Work) -> bool
     requires { ⌜ Judged e (now o) ⌝ }
-    requires { ⌜ Fresh (now table) × ((at (now work) 0 ≡ 0) × (length (now work) ≡ 4096)) ⌝ }
+    requires { ⌜ Fresh (now table) × ((waiting (now work) 0 ≡ 0) × (length (now work) ≡ 4096)) ⌝ }
     ensures { λ r. ⌜ heights (flowOf (objectAt e (now (o .entry)))) ≡ answered (e .«code_count») (now (table .exit)) r ⌝ }
 {
     table[0] = 0;

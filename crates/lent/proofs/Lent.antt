@@ -15,7 +15,7 @@ use borrow.Author.Tests.{lt-ltb, le-ltb, le-leb, lt-leb, eq-eqb, ne-eqb}
 use Rattle.number.specs.Number.{Rule, ceiling, fits}
 use Rattle.rules_object.specs.Object.{Object}
 use Rattle.rules_object.specs.Machine.{cell, ruleOf}
-use Rattle.rules_object.specs.Flow.{at}
+use Rattle.rules_object.specs.Flow.{heightAt}
 use Rattle.rules_shared.specs.Refusals.{Refusal, refusal, orElse, unless}
 use Rattle.rules_shared.specs.Lists.{all}
 use Rattle.rules_object.specs.Calls.{right50, right51, right52, Lent, refused50to52}
@@ -93,7 +93,7 @@ module _ (e : Layout) (s table : List ℕ) (i h m : ℕ) (places : List ℤ) whe
   outside l = rw (le-ltb i (length (O .code)) (omega (arith, code-length e s)))
 
   module _ (inside : i < e .«code_count») where
-    here : at T i ≡ getD table i 0
+    here : heightAt T i ≡ getD table i 0
     here = getD-take (e .«code_count») table i 0 inside
 
     in-code : ltb i (length (O .code)) ≡ true

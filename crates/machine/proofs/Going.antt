@@ -13,7 +13,7 @@ use Rattle.rules_object.specs.Machine.{State, ruleOf, act, step}
 use Rattle.rules_object.specs.Check.{instruction, benchStep}
 use Rattle.rules_object.specs.Calls.{taken, sequenceOf, ran, halted, runFrom}
 use Rattle.rules_object.specs.Calls as book
-use Rattle.rules_object.specs.Safe.{Right, NoFault}
+use Rattle.rules_object.specs.Safe.{Right, Faultless}
 use Rattle.object.specs.declared.Layout.{Layout}
 use Rattle.object.specs.Layout.{objectAt}
 use Rattle.arithmetic.specs.declared.Regs.{Regs}
@@ -129,7 +129,7 @@ module _ (guarded : Bool) (e : Layout) (s : List ℕ) (p allowance : ℕ) (start
   abbrev t₀ : State
   t₀ = stateOf start st₀ so₀
 
-  pub begins : Held e s p start st₀ so₀ → (guarded ≡ false → NoFault O t₀) → Going guarded e s p allowance start st₀ so₀ start st₀ so₀ 0
+  pub begins : Held e s p start st₀ so₀ → (guarded ≡ false → Faultless O t₀) → Going guarded e s p allowance start st₀ so₀ start st₀ so₀ 0
   begins h w =
       let n : allowance ≡ allowance - 0 = omega arith in
       let m : steps F allowance t₀ ≡ 0 + steps F allowance t₀ = omega arith in
@@ -186,5 +186,5 @@ module _ (guarded : Bool) (e : Layout) (s : List ℕ) (p allowance : ℕ) (start
 
 -- ---- a run of an object that passes is its bench run
 
-pub run-bench : (o : Object) (t : State) → NoFault o t → (n : ℕ) → runFrom o (benchStep o) n t ≡ runFrom o (step o) n t
+pub run-bench : (o : Object) (t : State) → Faultless o t → (n : ℕ) → runFrom o (benchStep o) n t ≡ runFrom o (step o) n t
 run-bench o t h n = ap₂ (λ k b. ran o k b) (h .counted n) (h .guarded n)

@@ -5,7 +5,7 @@ ghost use Rattle.rules_object.specs.Machine.{ruleOf};
 ghost use Rattle.rules_object.specs.Machine as book;
 ghost use Rattle.rules_object.specs.Check.{instruction, benchStep};
 ghost use Rattle.rules_object.specs.Calls.{runFrom, sequenceOf};
-ghost use Rattle.rules_object.specs.Safe.{NoFault};
+ghost use Rattle.rules_object.specs.Safe.{Faultless};
 ghost use Rattle.object.specs.Layout.{objectAt, Placed};
 ghost use Rattle.arithmetic.specs.Performed.{after, performed, stateOf};
 ghost use Rattle.operations.specs.Ready.{Held};
@@ -47,7 +47,7 @@ fn turns(
     seen: &mut Seen,
 ) -> Ran
     requires { ⌜ Held e (now o) p start (now stack) (now store) ⌝ }
-    requires { ⌜ (guarded ≡ false → NoFault (objectAt e (now o)) (stateOf start (now stack) (now store))) ⌝ }
+    requires { ⌜ (guarded ≡ false → Faultless (objectAt e (now o)) (stateOf start (now stack) (now store))) ⌝ }
     requires { ⌜ Sees (objectAt e (now o)) (now seen) ⌝ }
     ensures { λ q. ⌜ answer (objectAt e (now (o .entry))) q (now (stack .exit)) (now (store .exit)) ≡ runFrom (objectAt e (now (o .entry))) (benchStep (objectAt e (now (o .entry)))) allowance (stateOf start (now (stack .entry)) (now (store .entry))) ⌝ }
 {
@@ -95,7 +95,7 @@ pub fn run(
     allowance: u32,
 ) -> Ran
     requires { ⌜ Held e (now o) p start (now stack) (now store) ⌝ }
-    requires { ⌜ NoFault (objectAt e (now o)) (stateOf start (now stack) (now store)) ⌝ }
+    requires { ⌜ Faultless (objectAt e (now o)) (stateOf start (now stack) (now store)) ⌝ }
     ensures { λ q. ⌜ answer (objectAt e (now (o .entry))) q (now (stack .exit)) (now (store .exit)) ≡ runFrom (objectAt e (now (o .entry))) (book.step (objectAt e (now (o .entry)))) allowance (stateOf start (now (stack .entry)) (now (store .entry))) ⌝ }
 {
     let mut seen = [0u8; 4096];

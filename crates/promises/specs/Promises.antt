@@ -18,13 +18,13 @@ use Rattle.rules_shared.specs.Lists.{Each}
 use Rattle.rules_object.specs.Writable.{IsByte, Writable}
 use Rattle.rules_object.specs.Machine.{State, cell, step}
 use Rattle.rules_object.specs.Check.{span, right41, flowOf, benchStep}
-use Rattle.rules_object.specs.Flow.{Valid, NoTable, Reached, PathsAgree}
-use Rattle.rules_object.specs.Heights.{heights, heightAt}
+use Rattle.rules_object.specs.Flow.{heightAt, Valid, NoTable, Reached, PathsAgree}
+use Rattle.rules_object.specs.Heights.{heights}
 use Rattle.rules_shared.specs.Refusals.{refusal, accepted}
 use Rattle.rules_shared.specs.Output.{notWritten}
 use Rattle.rules_object.specs.Calls.{refused42, refused43, checking, Lent, taken, Ran, notRun, running, benching, mapping}
 use Rattle.rules_object.specs.Safe.{Right, ranWithCells, afterSteps, freshLent}
-use Rattle.rules_object.specs.Small.{HLT, CON, ADD, JMP, object, plain}
+use Rattle.rules_object.specs.Small.{wordHLT, wordCON, wordADD, wordJMP, object, codeOnly}
 use Rattle.rules_deck.specs.Trees.{Name, Statement}
 use Rattle.rules_deck.specs.Deck.{Do, endings}
 use Rattle.rules_deck.specs.Grammar.{readings}
@@ -178,7 +178,7 @@ pub record Exactly (object : List ℕ) (o : Object) : Type 0 where
   pub paths : ((H : List ℕ) × Valid (flowOf o) H) ↔ PathsAgree (flowOf o)
   pub refused : (checking object ≡ refusal 44 0 0) ↔ NoTable (flowOf o)
   -- the least table has a height exactly where a path reaches
-  pub heights : (H : List ℕ) → heights (flowOf o) ≡ some H → (a h : ℕ) → ((heightAt H a ≡ h) × (h ≤ limits .stack)) ↔ Reached (flowOf o) a h
+  pub heights : (H : List ℕ) → heights (flowOf o) ≡ some H → (a h : ℕ) → ((a < flowOf o .n) × ((heightAt H a ≡ h) × (h ≤ limits .stack))) ↔ Reached (flowOf o) a h
 
 abbrev pub HeightsExactly : Type 0
 HeightsExactly = (object : List ℕ) (o : Object) → Judged object o → Exactly object o
@@ -252,10 +252,10 @@ NoTwoForms = (text : List ℕ) → length (readings text) ≤ 1
 -- P1 to P8 as decks through the meaning and through compiling and running, P9 to P12 as objects' bytes through the check
 pub record Table : Type 0 where
   pub decks : DecksRight decks
-  pub p9 : checking (objectBytes (plain (ADD 0 ∷ HLT 0 ∷ []))) ≡ refusal 44 0 0
-  pub p10 : checking (objectBytes (plain (HLT 0 ∷ ADD 0 ∷ []))) ≡ accepted
-  pub p11 : checking (objectBytes (object 0 (1 ∷ []) [] [] [] (CON 0 ∷ JMP 0 ∷ []))) ≡ refusal 44 0 0
-  pub p12 : checking (objectBytes (plain (JMP 0 ∷ []))) ≡ accepted
+  pub p9 : checking (objectBytes (codeOnly (wordADD 0 ∷ wordHLT 0 ∷ []))) ≡ refusal 44 0 0
+  pub p10 : checking (objectBytes (codeOnly (wordHLT 0 ∷ wordADD 0 ∷ []))) ≡ accepted
+  pub p11 : checking (objectBytes (object 0 (1 ∷ []) [] [] [] (wordCON 0 ∷ wordJMP 0 ∷ []))) ≡ refusal 44 0 0
+  pub p12 : checking (objectBytes (codeOnly (wordJMP 0 ∷ []))) ≡ accepted
 
 -- ---- all of them
 

@@ -13,7 +13,7 @@ use lib.IntN.{ℤ, pos, natAbs}
 use borrow.Author.Tests.{le-leb, lt-ltb, eq-eqb}
 use Rattle.number.specs.Number.{add, sub, mul, div, ceiling, fits}
 use Rattle.rules_shared.specs.Limits.{limits}
-use Rattle.rules_object.specs.Object.{Subscript, Element, Loop, Line, Named, Object}
+use Rattle.rules_object.specs.Object.{SubscriptEntry, Element, Loop, Line, Named, Object}
 use Rattle.rules_object.specs.Machine.{Instr, HLT, CON, LOD, STO, LDE, STE, OP, NEG, JMP, BR3, BRC, DOI, DOE, operationOf, operandOf, ruleOf}
 use Rattle.rules_object.specs.Check.{right41, rightConstant, rightSubscript, rightElement, rightLoop, rightLine, blanks, nameTail, rightName, span, rightNamed, targets, exitAt, operandTests, unknownOperation, right43, operationNumber}
 use Rattle.rules_shared.specs.Refusals.{atEntry}
@@ -95,7 +95,7 @@ module _ {o : Object} {m n c : ℕ} (sizes : Sizes o m n c) where
   unfolding rightConstant
   constant-right x h = fits-right (pos x) h
 
-  subscript-right : (s : Subscript) → RightSubscript m n c s → rightSubscript o s ≡ true
+  subscript-right : (s : SubscriptEntry) → RightSubscript m n c s → rightSubscript o s ≡ true
   subscript-right s h =
       both (fits (ruleOf o) (pos (s .times))) _ (fits-right (pos (s .times)) (h .0)) (both (fits (ruleOf o) (s .plus)) _ (fits-right (s .plus) (h .1)) (in-cells (s .cell) (h .2)))
 

@@ -11,7 +11,7 @@ use lib.ListN.{length, replicate, length-append, length-take}
 use lib.IntN.{ℤ, pos, negsuc, natAbs}
 use Rattle.number.specs.Number.{add, sub, mul, div}
 use Rattle.rules_shared.specs.Limits.{limits}
-use Rattle.rules_object.specs.Object.{Subscript, Element, Loop, Line, Named, Object}
+use Rattle.rules_object.specs.Object.{SubscriptEntry, Element, Loop, Line, Named, Object}
 use Rattle.rules_object.specs.Bytes.{objectBytes, readObject}
 use Rattle.rules_object.specs.Machine.{Instr, HLT, CON, LOD, STO, LDE, STE, OP, NEG, JMP, BR3, BRC, DOI, DOE, operationOf}
 use Rattle.rules_object.specs.Flow.{Reached}
@@ -79,7 +79,7 @@ span-columns (suc r) zero h = omega arith
 span-columns (suc r) (suc c) h = omega arith
 
 module _ {m n cells : ℕ} (digits : m ≤ 1000000000) (code : n ≤ limits .code) (most : cells ≤ limits .cells) where
-  subscript-writable : (s : Subscript) → RightSubscript m n cells s → WritableSubscript s
+  subscript-writable : (s : SubscriptEntry) → RightSubscript m n cells s → WritableSubscript s
   subscript-writable s h = record { times = omega (arith, h .0); cell = omega (arith, h .2); plus = signed-small m (s .plus) digits (h .1) }
 
   rows-most : (b r c : ℕ) → 1 ≤ r → 1 ≤ c → b + r * c ≤ cells → (b ≤ cells) × (r ≤ cells) × (c ≤ cells)

@@ -10,7 +10,7 @@ use mathlib.Core.Option.{Option, none, some}
 use lib.ListN.{length, getElem?, replicate, length-append, length-map}
 use Rattle.rules_object.specs.Machine.{Instr, OP, NEG, DOI, DOE}
 use Rattle.number.specs.Number.{Op, add, sub, mul, div}
-use Rattle.rules_object.specs.Flow.{at}
+use Rattle.rules_object.specs.Flow.{heightAt}
 use Rattle.rules_object.specs.Check.{pops, pushes, successors}
 use Rattle.rules_deck.specs.Trees.{Name, Digits, valueOf, Expr, con, var, elm, neg, par, bin, Target, cell, element, Form, assign, goTo, computed, ifs, loop, continue, stop, end, dimension, Statement, formExits, formLevels}
 use Rattle.rules_deck.specs.Deck.{Dims, dimsOf, positionOf, Do, endings}
@@ -35,17 +35,17 @@ pub record Stands (deck : List Statement) : Type 0 where
 -- each of these is an instruction and has the height v
 pub data Leads (n : ℕ) (H : List ℕ) (v : ℕ) : List ℕ → Type 0 where
   nowhere : Leads n H v []
-  to : {t : ℕ} {ts : List ℕ} → t < n → at H t ≡ v → Leads n H v ts → Leads n H v (t ∷ ts)
+  to : {t : ℕ} {ts : List ℕ} → t < n → heightAt H t ≡ v → Leads n H v ts → Leads n H v (t ∷ ts)
 
 pub data Ok (top n : ℕ) (H : List ℕ) : ℕ → List Instr → Type 0 where
   ok-none : {a : ℕ} → Ok top n H a []
-  ok-more : {a : ℕ} {i : Instr} {is : List Instr} → at H a ≤ top → pops i ≤ at H a → Leads n H (at H a - pops i + pushes i) (successors a i) → Ok top n H (suc a) is
+  ok-more : {a : ℕ} {i : Instr} {is : List Instr} → heightAt H a ≤ top → pops i ≤ heightAt H a → Leads n H (heightAt H a - pops i + pushes i) (successors a i) → Ok top n H (suc a) is
       → Ok top n H a (i ∷ is)
 
-height : {H : List ℕ} {a h : ℕ} {r : List ℕ} → At H a (h ∷ r) → at H a ≡ h
+height : {H : List ℕ} {a h : ℕ} {r : List ℕ} → At H a (h ∷ r) → heightAt H a ≡ h
 height {H} {a} {h} s = getD-at H a h 0 (at-head s)
 
-expr-starts : {H : List ℕ} {a : ℕ} (h : ℕ) (e : Expr) → At H a (exprHeights h e) → at H a ≡ h
+expr-starts : {H : List ℕ} {a : ℕ} (h : ℕ) (e : Expr) → At H a (exprHeights h e) → heightAt H a ≡ h
 expr-starts h (con c) s = height s
 expr-starts h (var v) s = height s
 expr-starts h (elm v x) s = height s
@@ -53,11 +53,11 @@ expr-starts h (neg e) s = expr-starts h e (at-left (exprHeights h e) _ s)
 expr-starts h (par e) s = expr-starts h e s
 expr-starts h (bin o a b) s = expr-starts h a (at-left (exprHeights h a) _ s)
 
-next : {n a h : ℕ} {H : List ℕ} (g : ℕ) → suc a < n → at H (suc a) ≡ g → g ≡ h → Leads n H h (suc a ∷ [])
+next : {n a h : ℕ} {H : List ℕ} (g : ℕ) → suc a < n → heightAt H (suc a) ≡ g → g ≡ h → Leads n H h (suc a ∷ [])
 next g l e q = to l (e ∙ q) nowhere
 
 module _ {top n : ℕ} {H : List ℕ} where
-  ok-step : {a : ℕ} {i : Instr} {is : List Instr} (h : ℕ) → at H a ≡ h → h ≤ top → pops i ≤ h → Leads n H (h - pops i + pushes i) (successors a i)
+  ok-step : {a : ℕ} {i : Instr} {is : List Instr} (h : ℕ) → heightAt H a ≡ h → h ≤ top → pops i ≤ h → Leads n H (h - pops i + pushes i) (successors a i)
       → Ok top n H (suc a) is → Ok top n H a (i ∷ is)
   ok-step {a} {i} h e t p l r = ok-more {a = a} {i = i} (omega arith) (omega arith) (subst (λ x. Leads n H (x - pops i + pushes i) (successors a i)) (sym e) l) r
 
@@ -65,7 +65,7 @@ module _ {top n : ℕ} {H : List ℕ} where
   ok-append {a} ok-none q = let e : a + zero ≡ a = omega arith in rw e at q
   ok-append {a} (ok-more {is = is} t p l r) q = ok-more t p l (ok-append r (let e : a + suc (length is) ≡ suc a + length is = omega arith in rw e at q))
 
-  op-ok : (o : Op) (h a : ℕ) → at H a ≡ suc (suc h) → suc (suc h) ≤ top → suc a < n → at H (suc a) ≡ suc h → Ok top n H a (OP o ∷ [])
+  op-ok : (o : Op) (h a : ℕ) → heightAt H a ≡ suc (suc h) → suc (suc h) ≤ top → suc a < n → heightAt H (suc a) ≡ suc h → Ok top n H a (OP o ∷ [])
   op-ok add h a e t l z = ok-step (suc (suc h)) e t (omega arith) (next (suc h) l z (omega arith)) ok-none
   op-ok sub h a e t l z = ok-step (suc (suc h)) e t (omega arith) (next (suc h) l z (omega arith)) ok-none
   op-ok mul h a e t l z = ok-step (suc (suc h)) e t (omega arith) (next (suc h) l z (omega arith)) ok-none
@@ -76,7 +76,7 @@ module _ (held : List Held) (dims : Name → Dims) where
   code e = exprCode held dims e
 
   module _ {top n : ℕ} {H : List ℕ} where
-    expr-ok : (e : Expr) (h a : ℕ) → h + need e ≤ top → At H a (exprHeights h e) → a + length (code e) < n → at H (a + length (code e)) ≡ suc h → Ok top n H a (code e)
+    expr-ok : (e : Expr) (h a : ℕ) → h + need e ≤ top → At H a (exprHeights h e) → a + length (code e) < n → heightAt H (a + length (code e)) ≡ suc h → Ok top n H a (code e)
     expr-ok (con c) h a t s l z = let q : a + 1 ≡ suc a = omega arith in ok-step h (height s) (omega arith) (omega arith) (next (suc h) (omega arith) (rw q at z) (omega arith)) ok-none
     expr-ok (var v) h a t s l z = let q : a + 1 ≡ suc a = omega arith in ok-step h (height s) (omega arith) (omega arith) (next (suc h) (omega arith) (rw q at z) (omega arith)) ok-none
     expr-ok (elm v x) h a t s l z = let q : a + 1 ≡ suc a = omega arith in ok-step h (height s) (omega arith) (omega arith) (next (suc h) (omega arith) (rw q at z) (omega arith)) ok-none
@@ -108,7 +108,7 @@ module _ (held : List Held) (dims : Name → Dims) where
     -- a DO's parameters and its DOI
     loop-ok : (p₁ p₂ p₃ : Expr) (i : ℕ) (d : Rattle.rules_object.specs.Object.Loop) (a : ℕ) → 3 ≤ top → IsParameter p₁ → IsParameter p₂ → IsParameter p₃
         → At H a (exprHeights 0 p₁ ++ (exprHeights 1 p₂ ++ (exprHeights 2 p₃ ++ (3 ∷ [])))) → a + length (code p₁ ++ (code p₂ ++ (code p₃ ++ (DOI i d ∷ [])))) < n
-        → at H (a + length (code p₁ ++ (code p₂ ++ (code p₃ ++ (DOI i d ∷ []))))) ≡ 0 → Ok top n H a (code p₁ ++ (code p₂ ++ (code p₃ ++ (DOI i d ∷ []))))
+        → heightAt H (a + length (code p₁ ++ (code p₂ ++ (code p₃ ++ (DOI i d ∷ []))))) ≡ 0 → Ok top n H a (code p₁ ++ (code p₂ ++ (code p₃ ++ (DOI i d ∷ []))))
     loop-ok p₁ p₂ p₃ i d a three h₁ h₂ h₃ s l z =
         let k₁ = length-expr held dims 0 p₁ in
         let k₂ = length-expr held dims 1 p₂ in
@@ -124,7 +124,7 @@ module _ (held : List Held) (dims : Name → Dims) where
 
 -- ---- statements
 
-zeros-start : {H : List ℕ} (m a : ℕ) → At H a (replicate m 0) → at H (a + m) ≡ 0 → at H a ≡ 0
+zeros-start : {H : List ℕ} (m a : ℕ) → At H a (replicate m 0) → heightAt H (a + m) ≡ 0 → heightAt H a ≡ 0
 zeros-start zero a s z = let e : a + zero ≡ a = omega arith in rw e at z
 zeros-start (suc m) a s z = height s
 
@@ -165,13 +165,13 @@ module _ (deck : List Statement) (good : Stands deck) where
         to (below (positionOf deck (valueOf n)) (h n here)) (height-zero deck (positionOf deck (valueOf n))) (exits-lead ns (λ m r. h m (there r)))
 
     store-ok : (t : Target) (e : Expr) (a : ℕ) → need e ≤ top → At (deckHeights deck) a (exprHeights 0 e ++ (1 ∷ []))
-        → suc (a + length (exprCode (heldOf deck) (dimsOf deck) e)) < length (codeOf deck) → at (deckHeights deck) (suc (a + length (exprCode (heldOf deck) (dimsOf deck) e))) ≡ 0
+        → suc (a + length (exprCode (heldOf deck) (dimsOf deck) e)) < length (codeOf deck) → heightAt (deckHeights deck) (suc (a + length (exprCode (heldOf deck) (dimsOf deck) e))) ≡ 0
         → Fits a (exprCode (heldOf deck) (dimsOf deck) e ++ (storeCode (heldOf deck) (dimsOf deck) t ∷ []))
     store-ok (cell v) e a h s l z = taken-ok (heldOf deck) (dimsOf deck) e _ a h s (omega arith) refl (next 0 l z refl)
     store-ok (element v x) e a h s l z = taken-ok (heldOf deck) (dimsOf deck) e _ a h s (omega arith) refl (next 0 l z refl)
 
     form-ok : (q : ℕ) (f : Form) (a : ℕ) → Shaped f → 2 * formLevels f + 3 ≤ top → ((n : Digits) → Among n (formExits f) → positionOf deck (valueOf n) < length deck)
-        → At (deckHeights deck) a (formHeights f) → a + length (codeFor q f) < length (codeOf deck) → at (deckHeights deck) (a + length (codeFor q f)) ≡ 0 → Fits a (codeFor q f)
+        → At (deckHeights deck) a (formHeights f) → a + length (codeFor q f) < length (codeOf deck) → heightAt (deckHeights deck) (a + length (codeFor q f)) ≡ 0 → Fits a (codeFor q f)
     unfolding formLevels formExits
     form-ok q (assign t e) a h v x s l z =
         let k : a + length (codeFor q (assign t e)) ≡ suc (a + length (exprCode (heldOf deck) (dimsOf deck) e)) = simp length-append (omega arith) in
@@ -191,11 +191,11 @@ module _ (deck : List Statement) (good : Stands deck) where
     form-ok q (dimension arrays) a h v x s l z = ok-none
 
     ends-ok : (es : List Do) (a : ℕ) → ((d : Do) → Among d es → suc (d .position) < length deck) → At (deckHeights deck) a (replicate (length es) 0)
-        → a + length es < length (codeOf deck) → at (deckHeights deck) (a + length es) ≡ 0 → Fits a (map (doInstr deck DOE) es)
+        → a + length es < length (codeOf deck) → heightAt (deckHeights deck) (a + length es) ≡ 0 → Fits a (map (doInstr deck DOE) es)
     ends-ok [] a b s l z = ok-none
     ends-ok (d ∷ es) a b s l z =
         let e : a + suc (length es) ≡ suc a + length es = omega arith in
-        let z′ : at (deckHeights deck) (suc a + length es) ≡ 0 = rw e at z in
+        let z′ : heightAt (deckHeights deck) (suc a + length es) ≡ 0 = rw e at z in
         ok-step 0 (height s) (omega arith) (omega arith)
         (to (below (suc (d .position)) (b d here)) (height-zero deck (suc (d .position))) (next 0 (omega arith) (zeros-start (length es) (suc a) (at-tail s) z′) refl))
         (ends-ok es (suc a) (λ c r. b c (there r)) (at-tail s) (omega arith) z′)
@@ -213,7 +213,7 @@ module _ (deck : List Statement) (good : Stands deck) where
             let q : addressAt deck (suc j) ≡ a + length (codeFor j (s .form)) + length (endings deck (s .number)) = omega (arith, address-suc deck j s e) in
             let t₂ : At (deckHeights deck) (a + length (codeFor j (s .form))) (replicate (length (endings deck (s .number))) 0) = rw k at (at-right (formHeights (s .form)) t) in
             let n : a + length (codeFor j (s .form)) + length (endings deck (s .number)) < length (codeOf deck) = omega (arith, below (suc j) l) in
-            let z : at (deckHeights deck) (a + length (codeFor j (s .form)) + length (endings deck (s .number))) ≡ 0 = rw q at (height-zero deck (suc j)) in
+            let z : heightAt (deckHeights deck) (a + length (codeFor j (s .form)) + length (endings deck (s .number))) ≡ 0 = rw q at (height-zero deck (suc j)) in
             ok-append (form-ok j (s .form) a (good .shaped j s e) (omega (arith, levels-deck deck j s e)) (good .exits j s e) (at-left (formHeights (s .form)) _ t) (omega arith) (zeros-start (length (endings deck (s .number))) _ t₂ z))
             (ends-ok (endings deck (s .number)) _ (good .bodies (s .number)) t₂ n z)
         go (inr r) = rw (r .0, r .1) (ok-step 0 (height-zero deck j) (omega arith) (omega arith) nowhere ok-none)

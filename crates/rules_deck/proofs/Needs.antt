@@ -8,7 +8,7 @@ use mathlib.Core.Option.{some}
 use lib.ListN.{length, getElem?, replicate, length-append, length-replicate}
 use lib.Seq.{getD-append-add}
 use Rattle.rules_object.specs.Machine.{Instr, NEG}
-use Rattle.rules_object.specs.Flow.{at}
+use Rattle.rules_object.specs.Flow.{heightAt}
 use Rattle.rules_deck.specs.Trees.{Name, Expr, con, var, elm, neg, par, bin, levels, Form, assign, goTo, computed, ifs, loop, continue, stop, end, dimension, Statement, formLevels}
 use Rattle.rules_deck.specs.Deck.{Dims, dimsOf, endings}
 use Rattle.rules_deck.specs.Seen.{levelsIn}
@@ -109,7 +109,7 @@ length-form held dims address entry stop = refl
 length-form held dims address entry end = refl
 length-form held dims address entry (dimension arrays) = refl
 
-expr-first : (h : ℕ) (e : Expr) (rest : List ℕ) → at (exprHeights h e ++ rest) 0 ≡ h
+expr-first : (h : ℕ) (e : Expr) (rest : List ℕ) → heightAt (exprHeights h e ++ rest) 0 ≡ h
 expr-first h (con c) rest = refl
 expr-first h (var v) rest = refl
 expr-first h (elm v s) rest = refl
@@ -118,7 +118,7 @@ expr-first h (par e) rest = expr-first h e rest
 expr-first h (bin o a b) rest = rw append-assoc (expr-first h a ((exprHeights (suc h) b ++ (suc (suc h) ∷ [])) ++ rest))
 
 -- the first height is 0, whatever comes first
-form-first : (f : Form) (rest : List ℕ) → at rest 0 ≡ 0 → at (formHeights f ++ rest) 0 ≡ 0
+form-first : (f : Form) (rest : List ℕ) → heightAt rest 0 ≡ 0 → heightAt (formHeights f ++ rest) 0 ≡ 0
 form-first (assign t e) rest z = rw append-assoc (expr-first 0 e ((1 ∷ []) ++ rest))
 form-first (goTo n) rest z = refl
 form-first (computed ns v) rest z = refl
@@ -129,7 +129,7 @@ form-first stop rest z = refl
 form-first end rest z = refl
 form-first (dimension arrays) rest z = z
 
-zeros-first : (n : ℕ) (rest : List ℕ) → at rest 0 ≡ 0 → at (replicate n 0 ++ rest) 0 ≡ 0
+zeros-first : (n : ℕ) (rest : List ℕ) → heightAt rest 0 ≡ 0 → heightAt (replicate n 0 ++ rest) 0 ≡ 0
 zeros-first zero rest z = z
 zeros-first (suc n) rest z = refl
 
@@ -149,13 +149,13 @@ module _ (deck : List Statement) where
   unfolding words
   length-statement s = simp (length-append, length-replicate, length-form (heldOf deck) (dimsOf deck) (λ n. 0) NEG (s .form))
 
-  from-first : (more : List Statement) → at (heightsFrom more) 0 ≡ 0
+  from-first : (more : List Statement) → heightAt (heightsFrom more) 0 ≡ 0
   from-first [] = refl
   from-first (s ∷ more) =
       rw append-assoc (form-first (s .form) (replicate (length (endings deck (s .number))) 0 ++ heightsFrom more)
       (zeros-first (length (endings deck (s .number))) (heightsFrom more) (from-first more)))
 
-  from-zero : (more : List Statement) (j : ℕ) → at (heightsFrom more) (addressIn deck more j) ≡ 0
+  from-zero : (more : List Statement) (j : ℕ) → heightAt (heightsFrom more) (addressIn deck more j) ≡ 0
   from-zero [] j = refl
   from-zero (s ∷ more) zero = from-first (s ∷ more)
   from-zero (s ∷ more) (suc j) = rw (← length-statement s) (getD-append-add (statementHeights s) (heightsFrom more) (addressIn deck more j) 0 ∙ from-zero more j)
@@ -175,7 +175,7 @@ module _ (deck : List Statement) where
   unfolding deckHeights codeOf
   heights-length = from-length 0 deck
 
-  pub height-zero : (j : ℕ) → at deckHeights (addressAt deck j) ≡ 0
+  pub height-zero : (j : ℕ) → heightAt deckHeights (addressAt deck j) ≡ 0
   unfolding deckHeights addressAt
   height-zero j = from-zero deck j
 

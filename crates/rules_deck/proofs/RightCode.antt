@@ -8,7 +8,7 @@ use mathlib.Core.Option.{Option, none, some}
 use lib.ListN.{length, getElem?, length-map}
 use lib.IntN.{pos, natAbs, negℤ}
 use Rattle.rules_shared.specs.Limits.{limits}
-use Rattle.rules_object.specs.Object.{Subscript, Element}
+use Rattle.rules_object.specs.Object.{SubscriptEntry, Element}
 use Rattle.rules_object.specs.Machine.{Instr, HLT, CON, LOD, STO, LDE, STE, OP, NEG, JMP, BR3, BRC, DOI, DOE}
 use Rattle.rules_shared.specs.Lists.{Each}
 use Rattle.rules_object.proofs.Words.{each-append, each-left, each-right}
@@ -22,7 +22,7 @@ use Rattle.rules_deck.specs.Accepted.{Among, here, there, Shaped}
 -- ---- what is right, numbers being below m, code of n words and so many cells
 
 module _ (m n cells : ℕ) where
-  abbrev pub RightSubscript : Subscript → Type 0
+  abbrev pub RightSubscript : SubscriptEntry → Type 0
   RightSubscript s = (s .times < m) × (natAbs (s .plus) < m) × (s .cell < cells)
 
   abbrev pub RightElement : Element → Type 0

@@ -12,7 +12,7 @@ use lib.ListN.{length, getElem?, getD}
 use borrow.Author.Tests.{leb-true}
 use Rattle.rules_shared.specs.Limits.{limits}
 use Rattle.rules_object.specs.Machine.{Instr}
-use Rattle.rules_object.specs.Flow.{Flow, at, Fine, Valid, Reached}
+use Rattle.rules_object.specs.Flow.{Flow, heightAt, Fine, Valid, Reached}
 use Rattle.rules_object.specs.Heights.{heights}
 use Rattle.rules_object.specs.Check.{pops, pushes, successors, instruction, flowOf}
 use Rattle.rules_object.proofs.Fills.{reached}
@@ -95,9 +95,9 @@ module _ {k : ℕ} {deck : List Statement} (accepted : Accepted k deck) where
 
 -- one instruction at its height
 record Standing (top n : ℕ) (H : List ℕ) (a : ℕ) (i : Instr) : Type 0 where
-  low : at H a ≤ top
-  room : pops i ≤ at H a
-  leads : Leads n H (at H a - pops i + pushes i) (successors a i)
+  low : heightAt H a ≤ top
+  room : pops i ≤ heightAt H a
+  leads : Leads n H (heightAt H a - pops i + pushes i) (successors a i)
 
 ok-at : {top n : ℕ} {H : List ℕ} {is : List Instr} (a : ℕ) → Ok top n H a is → (j : ℕ) (i : Instr) → getElem? is j ≡ some i → Standing top n H (a + j) i
 ok-at a ok-none j i e = let z : _≡_ {A = ℕ} 0 1 = cc in absurd (omega arith)
@@ -106,7 +106,7 @@ ok-at {top} {n} {H} a (ok-more {i = x} t p l r) zero i e =
     rw (add-zero a, ← same) (record { low = t; room = p; leads = l })
 ok-at a (ok-more t p l r) (suc j) i e = rw (add-suc, ← suc-add) (ok-at (suc a) r j i e)
 
-leads-to : {n v : ℕ} {H ts : List ℕ} → Leads n H v ts → (m : ℕ) → m < length ts → (getD ts m 0 < n) × (at H (getD ts m 0) ≡ v)
+leads-to : {n v : ℕ} {H ts : List ℕ} → Leads n H v ts → (m : ℕ) → m < length ts → (getD ts m 0 < n) × (heightAt H (getD ts m 0) ≡ v)
 leads-to nowhere m h = absurd (omega arith)
 leads-to (to l e r) zero h = (l, e)
 leads-to (to l e r) (suc m) h = leads-to r m (omega arith)
@@ -120,7 +120,7 @@ module _ (k : ℕ) {deck : List Statement} (good : Stands deck) (fitting : Fitti
       let x = at-some (codeOf deck) a h in
       (x .0, fetched k deck fitting a (x .0) (x .1), rw (zero-add a) at (ok-at 0 (code-ok deck good (2 * levelsIn deck + 3) (omega arith)) a (x .0) (x .1)))
 
-  pub table-low : (a : ℕ) → a < length (codeOf deck) → at (deckHeights deck) a ≤ 2 * levelsIn deck + 3
+  pub table-low : (a : ℕ) → a < length (codeOf deck) → heightAt (deckHeights deck) a ≤ 2 * levelsIn deck + 3
   table-low a h = standing a h .2 .low
 
   module _ (shallow : 2 * levelsIn deck + 3 ≤ limits .stack) where

@@ -6,7 +6,7 @@ use mathlib.Core.List.{List, [], _∷_, _++_, map}
 use lib.Dec.{eqb, ltb}
 use lib.ListN.{length, take, replicate}
 use lib.IntN.{pos}
-use Rattle.rules_object.specs.Object.{Element, Loop, Line, Named, Object}
+use Rattle.rules_object.specs.Object.{SubscriptEntry, Element, Loop, Line, Named, Object}
 use Rattle.rules_object.specs.Machine.{Instr, HLT, CON, LOD, STO, LDE, STE, OP, NEG, JMP, BR3, BRC, DOI, DOE}
 use Rattle.rules_object.specs.Check.{operationNumber}
 use Rattle.rules_deck.specs.Trees.{Name, valueOf, Subscript, constant, linear, Subscripts, one, two, subscriptsNames, Expr, con, var, elm, neg, par, bin, Target, cell, element, written, Form, assign, goTo, computed, ifs, loop, continue, stop, end, dimension, Statement}
@@ -123,16 +123,16 @@ heldOf deck = heldFrom 0 deck []
 
 module _ (held : List Held) (dims : Name → Dims) where
   -- a constant has multiplier 0 and cell 0
-  abbrev pub subscriptEntry : Subscript → Rattle.rules_object.specs.Object.Subscript
+  abbrev pub subscriptEntry : Subscript → SubscriptEntry
   subscriptEntry (constant c) = record { times = 0; cell = 0; plus = pos (valueOf c) }
   subscriptEntry (linear m v a) = record { times = times m; cell = cellOf held v; plus = addend a }
 
   -- one dimension has columns 1 and second subscript 0, 0, 1
-  abbrev pub secondEntry : Subscripts → Rattle.rules_object.specs.Object.Subscript
+  abbrev pub secondEntry : Subscripts → SubscriptEntry
   secondEntry (one s) = record { times = 0; cell = 0; plus = pos 1 }
   secondEntry (two s t) = subscriptEntry t
 
-  abbrev pub firstEntry : Subscripts → Rattle.rules_object.specs.Object.Subscript
+  abbrev pub firstEntry : Subscripts → SubscriptEntry
   firstEntry (one s) = subscriptEntry s
   firstEntry (two s t) = subscriptEntry s
 

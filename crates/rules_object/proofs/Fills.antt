@@ -10,13 +10,14 @@ use lib.ListN.{length, set, replicate, length-set, length-replicate, getD-replic
 use lib.Seq.{getD-set-same, getD-set-other}
 use borrow.Author.Tests.{eq-eqb, ne-eqb}
 use Rattle.rules_shared.specs.Limits.{limits}
-use Rattle.rules_object.specs.Flow.{Flow, never, at, after, Lead, Fine, Valid, Below, Reached, first, onward, PathsAgree, Least, NoTable}
+use Rattle.rules_object.specs.Flow.{Flow, never, heightAt, after, Lead, Fine, Valid, Below, Reached, first, onward, PathsAgree, Least, NoTable}
+use Rattle.rules_object.specs.Heights.{waiting}
 use Rattle.rules_object.specs.Filling.{nevers, Blank, Waits, Filling, Visiting, Went}
 
 -- ---- tables and paths
 
 -- what a path comes with is in every table
-pub reached : {F : Flow} {a h : ℕ} → Reached F a h → (U : List ℕ) → Valid F U → (a < F .n) × ((h ≤ limits .stack) × (at U a ≡ h))
+pub reached : {F : Flow} {a h : ℕ} → Reached F a h → (U : List ℕ) → Valid F U → (a < F .n) × ((h ≤ limits .stack) × (heightAt U a ≡ h))
 reached first U u = (u .begins .0, (omega arith, u .begins .1))
 reached (onward {a} {h} k r l) U u =
     let i = reached r U u in
@@ -42,7 +43,7 @@ disagree-none F d = record { none = λ U u. d (table-agrees F U u) }
 
 -- ---- counting
 
-pub nevers-set : (H : List ℕ) (t v : ℕ) → t < length H → at H t ≡ never → v ≤ limits .stack → nevers H ≡ nevers (set H t v) + 1
+pub nevers-set : (H : List ℕ) (t v : ℕ) → t < length H → heightAt H t ≡ never → v ≤ limits .stack → nevers H ≡ nevers (set H t v) + 1
 unfolding nevers
 nevers-set [] t v l e b = absurd (omega arith)
 nevers-set (x ∷ H) zero v l e b =
@@ -50,7 +51,7 @@ nevers-set (x ∷ H) zero v l e b =
     simp (eq-eqb x never e, ne-eqb v never no) (omega arith)
 nevers-set (x ∷ H) (suc t) v l e b = let k = nevers-set H t v (omega arith) e b in omega arith
 
-pub nevers-some : (H : List ℕ) (t : ℕ) → t < length H → at H t ≡ never → 0 < nevers H
+pub nevers-some : (H : List ℕ) (t : ℕ) → t < length H → heightAt H t ≡ never → 0 < nevers H
 nevers-some H t l e = omega (arith, nevers-set H t 0 l e (omega arith))
 
 nevers-all : (n : ℕ) → nevers (replicate n never) ≡ n
@@ -63,19 +64,19 @@ blank n = record { all = λ a l. getD-replicate n a never 0 (subst (λ (m : ℕ)
 
 -- ---- a height set
 
-module _ (H : List ℕ) (t v : ℕ) (l : t < length H) (e : at H t ≡ never) where
-  pub set-other : (b : ℕ) → at H b ≤ limits .stack → at (set H t v) b ≡ at H b
-  set-other b h = getD-set-other H t b v 0 (λ q. absurd (let k : at H b ≡ never = ap (at H) q ∙ e in omega arith))
+module _ (H : List ℕ) (t v : ℕ) (l : t < length H) (e : heightAt H t ≡ never) where
+  pub set-other : (b : ℕ) → heightAt H b ≤ limits .stack → heightAt (set H t v) b ≡ heightAt H b
+  set-other b h = getD-set-other H t b v 0 (λ q. absurd (let k : heightAt H b ≡ never = ap (heightAt H) q ∙ e in omega arith))
 
-lead-on : {F : Flow} {H U : List ℕ} {a k : ℕ} → Below F H U → a < F .n → at H a ≤ limits .stack → Lead F H a k → Lead F U a k
+lead-on : {F : Flow} {H U : List ℕ} {a k : ℕ} → Below F H U → a < F .n → heightAt H a ≤ limits .stack → Lead F H a k → Lead F U a k
 lead-on {F} {H} {U} {a} {k} b i h d =
-    let ea : at U a ≡ at H a = b .has a i h in
-    let en : at U (F .next a k) ≡ at H (F .next a k) = b .has (F .next a k) (d .inside) (let q = d .is in let z = d .low in omega arith) in
+    let ea : heightAt U a ≡ heightAt H a = b .has a i h in
+    let en : heightAt U (F .next a k) ≡ heightAt H (F .next a k) = b .has (F .next a k) (d .inside) (let q = d .is in let z = d .low in omega arith) in
     record { inside = d .inside; low = let z = d .low in rw ea z; is = en ∙ d .is ∙ ap (λ (x : ℕ). x - F .takes a + F .gives a) (sym ea) }
 
-pub fine-on : {F : Flow} {H U : List ℕ} {a : ℕ} → Below F H U → a < F .n → at H a ≤ limits .stack → Fine F H a → Fine F U a
+pub fine-on : {F : Flow} {H U : List ℕ} {a : ℕ} → Below F H U → a < F .n → heightAt H a ≤ limits .stack → Fine F H a → Fine F U a
 fine-on {F} {H} {U} {a} b i h f =
-    let ea : at U a ≡ at H a = b .has a i h in
+    let ea : heightAt U a ≡ heightAt H a = b .has a i h in
     record { room = let z = f .room in omega arith; leads = λ k l. lead-on b i h (f .leads k l) }
 
 below-refl : {F : Flow} {H : List ℕ} → Below F H H
@@ -96,14 +97,14 @@ module _ (F : Flow) (H W : List ℕ) (top a k t v : ℕ) (et : F .next a k ≡ t
   over l p = let i = p .within comes in omega arith
 
   -- a height that is not never is one
-  has-height : t < F .n → (at H t ≡ never → ⊥) → at H t ≤ limits .stack
+  has-height : t < F .n → (heightAt H t ≡ never → ⊥) → heightAt H t ≤ limits .stack
   has-height i ne = go (vis .held .low t i)
     where
-      go : (at H t ≤ limits .stack) ⊎ (at H t ≡ never) → at H t ≤ limits .stack
+      go : (heightAt H t ≤ limits .stack) ⊎ (heightAt H t ≡ never) → heightAt H t ≤ limits .stack
       go (inl l) = l
       go (inr e) = absurd (ne e)
 
-  pub clash : t < F .n → (at H t ≡ never → ⊥) → (at H t ≡ v → ⊥) → PathsAgree F → ⊥
+  pub clash : t < F .n → (heightAt H t ≡ never → ⊥) → (heightAt H t ≡ v → ⊥) → PathsAgree F → ⊥
   clash i ne nv p = nv (p .agree (vis .held .reach t i (has-height i ne)) comes)
 
   -- one more successor is done
@@ -114,13 +115,13 @@ module _ (F : Flow) (H W : List ℕ) (top a k t v : ℕ) (et : F .next a k ≡ t
       go (yes q) = lead-on b (vis .here) (vis .high) (vis .part j q)
       go (no q) = let e : k ≡ j = omega arith in subst (λ (x : ℕ). Lead F K a x) e d
 
-  pub same : t < F .n → (at H t ≡ never → ⊥) → at H t ≡ v → Went F H W (nevers H + top) v a (k + 1) top
+  pub same : t < F .n → (heightAt H t ≡ never → ⊥) → heightAt H t ≡ v → Went F H W (nevers H + top) v a (k + 1) top
   same i ne e =
       let l = has-height i ne in
-      let lead : Lead F H a k = record { inside = omega arith; low = omega arith; is = ap (at H) et ∙ e ∙ sym ev } in
+      let lead : Lead F H a k = record { inside = omega arith; low = omega arith; is = ap (heightAt H) et ∙ e ∙ sym ev } in
       record { stays = ev; count = refl; visiting = record { held = vis .held; here = vis .here; high = vis .high; room = vis .room; part = more below-refl lead; done = vis .done } }
 
-  module _ (i : t < F .n) (e : at H t ≡ never) (small : v ≤ limits .stack) where
+  module _ (i : t < F .n) (e : heightAt H t ≡ never) (small : v ≤ limits .stack) where
     abbrev H′ : List ℕ
     H′ = set H t v
 
@@ -136,40 +137,40 @@ module _ (F : Flow) (H W : List ℕ) (top a k t v : ℕ) (et : F .next a k ≡ t
     free : top < length W
     free = let s = vis .held .space in let f = falls in omega arith
 
-    now-t : at H′ t ≡ v
+    now-t : heightAt H′ t ≡ v
     now-t = getD-set-same H t v 0 l
 
     below : Below F H H′
     below = record { has = λ b j h. set-other H t v l e b h }
 
     -- b is t, or has in H′ what it has in H
-    either : (b : ℕ) {P : Type 0} → (b ≡ t → P) → ((b ≡ t → ⊥) → at H′ b ≡ at H b → P) → P
+    either : (b : ℕ) {P : Type 0} → (b ≡ t → P) → ((b ≡ t → ⊥) → heightAt H′ b ≡ heightAt H b → P) → P
     either b {P} f g = go (ℕ-discrete b t)
       where
         go : Dec (b ≡ t) → P
         go (yes q) = f q
         go (no q) = g q (getD-set-other H t b v 0 q)
 
-    at-t : (b : ℕ) → b ≡ t → at H′ b ≡ v
-    at-t b q = ap (at H′) q ∙ now-t
+    at-t : (b : ℕ) → b ≡ t → heightAt H′ b ≡ v
+    at-t b q = ap (heightAt H′) q ∙ now-t
 
-    reach : (b : ℕ) → b < F .n → at H′ b ≤ limits .stack → Reached F b (at H′ b)
+    reach : (b : ℕ) → b < F .n → heightAt H′ b ≤ limits .stack → Reached F b (heightAt H′ b)
     reach b j h = either b
         (λ q. subst (λ (y : ℕ). Reached F b y) (sym (at-t b q)) (subst (λ (x : ℕ). Reached F x v) (sym q) comes))
         (λ n q. subst (λ (y : ℕ). Reached F b y) (sym q) (vis .held .reach b j (omega arith)))
 
-    inside : (j : ℕ) → j < top + 1 → (at W′ j < F .n) × (at H′ (at W′ j) ≤ limits .stack)
+    inside : (j : ℕ) → j < top + 1 → (waiting W′ j < F .n) × (heightAt H′ (waiting W′ j) ≤ limits .stack)
     inside j lj = go (ℕ-discrete j top)
       where
-        go : Dec (j ≡ top) → (at W′ j < F .n) × (at H′ (at W′ j) ≤ limits .stack)
+        go : Dec (j ≡ top) → (waiting W′ j < F .n) × (heightAt H′ (waiting W′ j) ≤ limits .stack)
         go (yes q) =
-            let w : at W′ j ≡ t = ap (at W′) q ∙ getD-set-same W top t 0 free in
-            let z = at-t (at W′ j) w in
+            let w : waiting W′ j ≡ t = ap (waiting W′) q ∙ getD-set-same W top t 0 free in
+            let z = at-t (waiting W′ j) w in
             (omega arith, omega arith)
         go (no q) =
-            let w : at W′ j ≡ at W j = getD-set-other W top j t 0 q in
+            let w : waiting W′ j ≡ waiting W j = getD-set-other W top j t 0 q in
             let o = vis .held .inside j (omega arith) in
-            let z : at H′ (at W′ j) ≡ at H (at W j) = ap (at H′) w ∙ set-other H t v l e (at W j) (o .1) in
+            let z : heightAt H′ (waiting W′ j) ≡ heightAt H (waiting W j) = ap (heightAt H′) w ∙ set-other H t v l e (waiting W j) (o .1) in
             (omega arith, omega arith)
 
     waits : (b : ℕ) → Waits W top b → Waits W′ (top + 1) b
@@ -179,7 +180,7 @@ module _ (F : Flow) (H W : List ℕ) (top a k t v : ℕ) (et : F .next a k ≡ t
 
     go-on : Visiting F H′ W′ (top + 1) a (k + 1)
     go-on =
-        let ea : at H′ a ≡ at H a = below .has a (vis .here) (vis .high) in
+        let ea : heightAt H′ a ≡ heightAt H a = below .has a (vis .here) (vis .high) in
         let hi = vis .high in
         let ro = vis .room in
         let s = vis .held .sized in
@@ -196,13 +197,13 @@ module _ (F : Flow) (H W : List ℕ) (top a k t v : ℕ) (et : F .next a k ≡ t
           here = vis .here;
           high = omega arith;
           room = omega arith;
-          part = more below (record { inside = omega arith; low = omega arith; is = ap (at H′) et ∙ now-t ∙ sym ev ∙ ap (λ (x : ℕ). x - F .takes a + F .gives a) (sym ea) });
+          part = more below (record { inside = omega arith; low = omega arith; is = ap (heightAt H′) et ∙ now-t ∙ sym ev ∙ ap (λ (x : ℕ). x - F .takes a + F .gives a) (sym ea) });
           done = λ b j h. either b
               (λ q. inl (inl (record { place = top; below = omega arith; is = getD-set-same W top t 0 free ∙ sym q })))
               (λ n q. old b j (omega arith) (vis .done b j (omega arith)));
         }
       where
-        old : (b : ℕ) → b < F .n → at H b ≤ limits .stack → (Waits W top b ⊎ Fine F H b) ⊎ (b ≡ a) → (Waits W′ (top + 1) b ⊎ Fine F H′ b) ⊎ (b ≡ a)
+        old : (b : ℕ) → b < F .n → heightAt H b ≤ limits .stack → (Waits W top b ⊎ Fine F H b) ⊎ (b ≡ a) → (Waits W′ (top + 1) b ⊎ Fine F H′ b) ⊎ (b ≡ a)
         old b j h (inl (inl w)) = inl (inl (waits b w))
         old b j h (inl (inr f)) = inl (inr (fine-on below j h f))
         old b j h (inr q) = inr q
@@ -217,14 +218,14 @@ module _ (F : Flow) (H W : List ℕ) (top a k t v : ℕ) (et : F .next a k ≡ t
 
 -- ---- a visit begins and ends
 
-module _ (F : Flow) (H W : List ℕ) (s a : ℕ) (is : at W s ≡ a) (fil : Filling F H W (s + 1)) where
-  pub there : (a < F .n) × (at H a ≤ limits .stack)
-  there = subst (λ (x : ℕ). (x < F .n) × (at H x ≤ limits .stack)) is (fil .held .inside s (omega arith))
+module _ (F : Flow) (H W : List ℕ) (s a : ℕ) (is : waiting W s ≡ a) (fil : Filling F H W (s + 1)) where
+  pub there : (a < F .n) × (heightAt H a ≤ limits .stack)
+  there = subst (λ (x : ℕ). (x < F .n) × (heightAt H x ≤ limits .stack)) is (fil .held .inside s (omega arith))
 
-  pub short : at H a < F .takes a → PathsAgree F → ⊥
+  pub short : heightAt H a < F .takes a → PathsAgree F → ⊥
   short l p = let c = p .covers (fil .held .reach a (there .0) (there .1)) in omega arith
 
-  pub begin : F .takes a ≤ at H a → Visiting F H W s a 0
+  pub begin : F .takes a ≤ heightAt H a → Visiting F H W s a 0
   begin r =
       let g = fil .held in
       let sp = g .space in
@@ -242,7 +243,7 @@ module _ (F : Flow) (H W : List ℕ) (s a : ℕ) (is : at W s ≡ a) (fil : Fill
       go b (inl w) = pick (ℕ-discrete (w .place) s)
         where
           pick : Dec (w .place ≡ s) → (Waits W s b ⊎ Fine F H b) ⊎ (b ≡ a)
-          pick (yes q) = inr (sym (w .is) ∙ ap (at W) q ∙ is)
+          pick (yes q) = inr (sym (w .is) ∙ ap (waiting W) q ∙ is)
           pick (no q) = let p = w .below in inl (inl (record { place = w .place; below = omega arith; is = w .is }))
 
 pub finish : {F : Flow} {H W : List ℕ} {top a k : ℕ} → Visiting F H W top a k → F .width a ≤ k → Filling F H W top
@@ -255,17 +256,17 @@ finish {F} {H} {W} {top} {a} {k} vis l = record { held = vis .held; done = λ b 
 -- ---- the start and the end
 
 -- instruction 0 has 0, and waits
-pub start : (F : Flow) (H W : List ℕ) → Blank H → 0 < F .n → F .n ≤ length H → length H ≤ length W → at W 0 ≡ 0 → Filling F (set H 0 0) W 1
+pub start : (F : Flow) (H W : List ℕ) → Blank H → 0 < F .n → F .n ≤ length H → length H ≤ length W → waiting W 0 ≡ 0 → Filling F (set H 0 0) W 1
 start F H W blank some fits space first-waits =
     record {
       held = record {
         sized = omega (arith, length-set H 0 0);
         begins = (some, zero-now);
-        low = λ b i. either b (λ q. inl (let z = ap (at H′) q ∙ zero-now in omega arith)) (λ e. inr (e i));
-        reach = λ b i h. either b (λ q. let z = ap (at H′) q ∙ zero-now in subst (λ (y : ℕ). Reached F b y) (sym z) (subst (λ (x : ℕ). Reached F x 0) (sym q) first)) (λ e. absurd (let z = e i in omega arith));
+        low = λ b i. either b (λ q. inl (let z = ap (heightAt H′) q ∙ zero-now in omega arith)) (λ e. inr (e i));
+        reach = λ b i h. either b (λ q. let z = ap (heightAt H′) q ∙ zero-now in subst (λ (y : ℕ). Reached F b y) (sym z) (subst (λ (x : ℕ). Reached F x 0) (sym q) first)) (λ e. absurd (let z = e i in omega arith));
         inside = λ j l.
-            let w : at W j ≡ 0 = let q : j ≡ 0 = omega arith in ap (at W) q ∙ first-waits in
-            let z : at H′ (at W j) ≡ 0 = ap (at H′) w ∙ zero-now in
+            let w : waiting W j ≡ 0 = let q : j ≡ 0 = omega arith in ap (waiting W) q ∙ first-waits in
+            let z : heightAt H′ (waiting W j) ≡ 0 = ap (heightAt H′) w ∙ zero-now in
             (omega arith, omega arith);
         space = let f = nevers-set H 0 0 (omega arith) (blank .all 0 (omega arith)) (omega arith) in let n = blank .count in omega arith;
       };
@@ -275,10 +276,10 @@ start F H W blank some fits space first-waits =
     H′ : List ℕ
     H′ = set H 0 0
 
-    zero-now : at H′ 0 ≡ 0
+    zero-now : heightAt H′ 0 ≡ 0
     zero-now = getD-set-same H 0 0 0 (omega arith)
 
-    either : (b : ℕ) {P : Type 0} → (b ≡ 0 → P) → ((b < F .n → at H′ b ≡ never) → P) → P
+    either : (b : ℕ) {P : Type 0} → (b ≡ 0 → P) → ((b < F .n → heightAt H′ b ≡ never) → P) → P
     either b {P} f g = go (ℕ-discrete b 0)
       where
         go : Dec (b ≡ 0) → P

@@ -12,10 +12,10 @@ use borrow.Author.Tests.{ltb-true, leb-true}
 use Rattle.number.specs.Number.{fits}
 use Rattle.number.proofs.Laws.{fits-yes}
 use Rattle.rules_shared.specs.Limits.{limits}
-use Rattle.rules_object.specs.Object.{Subscript, Element, Loop, Object}
+use Rattle.rules_object.specs.Object.{SubscriptEntry, Element, Loop, Object}
 use Rattle.rules_object.specs.Machine.{Instr, HLT, CON, LOD, STO, LDE, STE, OP, NEG, JMP, BR3, BRC, DOI, DOE, operationOf, operandOf, meanings, unknown, decode, ruleOf}
 use Rattle.rules_object.specs.Check.{inCells, rightConstant, rightSubscript, rightElement, rightLoop, right43, operandTests, unknownOperation, entryTests, noEntry, entryRight, pops, pushes, successors, instruction, flowOf}
-use Rattle.rules_object.specs.Flow.{at}
+use Rattle.rules_object.specs.Flow.{heightAt}
 use Rattle.rules_object.specs.Safe.{Within}
 use Rattle.rules_object.specs.Passed.{Passed}
 use Rattle.rules_object.proofs.Passed.{both}
@@ -47,7 +47,7 @@ Good o (BRC exits) = Unit {0}
 Good o (DOI n d) = GoodLoop o d
 Good o (DOE n d) = GoodLoop o d
 
-subscript-good : (o : Object) (s : Subscript) → rightSubscript o s ≡ true → s .cell < o .cells
+subscript-good : (o : Object) (s : SubscriptEntry) → rightSubscript o s ≡ true → s .cell < o .cells
 subscript-good o s e = ltb-true _ _ (both (fits (ruleOf o) (s .plus)) _ (both (fits (ruleOf o) (pos (s .times))) _ e .1) .1)
 
 element-good : (o : Object) (e : Element) → rightElement o e ≡ true → GoodElement o e
@@ -114,13 +114,13 @@ module _ {bytes : List ℕ} {o : Object} {table : List ℕ} (p : Passed bytes o 
 pub record Led (o : Object) (H : List ℕ) (a h : ℕ) : Type 0 where
   pub inside : a < length (o .code)
   pub low : h ≤ limits .stack
-  pub is : at H a ≡ h
+  pub is : heightAt H a ≡ h
 
 -- every successor of i at a, from the height h
 abbrev pub Leads : Object → List ℕ → ℕ → Instr → ℕ → Type 0
 Leads o H a i h = (k : ℕ) → k < length (successors a i) → Led o H (getD (successors a i) k 0) (h - pops i + pushes i)
 
-pub word-leads : {bytes : List ℕ} {o : Object} {table : List ℕ} → Passed bytes o table → (a h : ℕ) → a < length (o .code) → at table a ≡ h → h ≤ limits .stack
+pub word-leads : {bytes : List ℕ} {o : Object} {table : List ℕ} → Passed bytes o table → (a h : ℕ) → a < length (o .code) → heightAt table a ≡ h → h ≤ limits .stack
     → (pops (instruction o a) ≤ h) × Leads o table a (instruction o a) h
 unfolding flowOf
 word-leads {o = o} {table = table} p a h l e b =

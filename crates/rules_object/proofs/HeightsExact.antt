@@ -3,18 +3,17 @@
 use mathlib.Core.Path.{_≡_, refl, sym, _∙_, subst}
 use mathlib.Core.Logic.{_↔_}
 use mathlib.Core.Bool.{Bool, true, false, cond}
-use mathlib.Core.List.{List, [], _∷_}
+use mathlib.Core.List.{List}
 use mathlib.Core.Option.{Option, none, some}
 use Prim.Native.Nat.{ℕ, zero, suc, _+_, _≤_, _<_}
 use native.Mathlib.Numerals.{add-one}
-use native.Mathlib.Decide.{decLt}
 use native.Mathlib.Omega.{arith}
 use lib.Dec.{eqb, ltb, leb}
-use lib.ListN.{length, replicate, length-set, length-replicate, List·getD-eq-default}
+use lib.ListN.{length, replicate, length-set, length-replicate}
 use borrow.Author.Tests.{leb-true, leb-false, ltb-true, ltb-false, eqb-true, eqb-false}
 use Rattle.rules_shared.specs.Limits.{limits}
-use Rattle.rules_object.specs.Flow.{Flow, never, at, after, Valid, Reached, PathsAgree, Least, NoTable, Exact, table, refused}
-use Rattle.rules_object.specs.Heights.{Way, way, stop, meets, andOn, spread, visits, fills, found, heightsOf, heights, heightAt}
+use Rattle.rules_object.specs.Flow.{Flow, never, heightAt, after, Valid, Reached, PathsAgree, Least, NoTable, Exact, table, refused}
+use Rattle.rules_object.specs.Heights.{Way, way, stop, meets, andOn, spread, visits, fills, found, heightsOf, heights, waiting}
 use Rattle.rules_object.specs.Filling.{nevers, Filling, Visiting, Went}
 use Rattle.rules_object.proofs.Fills.{reached, table-agrees, disagree-none, nevers-set, blank, past, over, clash, same, new, begin, short, finish, start, ends}
 
@@ -37,10 +36,10 @@ meets-ok F H W top a k v ev kw vis long =
     let t = F .next a k in
     cases S (leb (F .n) t) _ _ (λ q. not (past F H W top a k t v refl ev kw vis (leb-true _ _ q)))
     (λ q. let i : t < F .n = leb-false _ _ q in
-    cases S (eqb (at H t) never) _ _
+    cases S (eqb (heightAt H t) never) _ _
     (λ e. cases S (ltb (limits .stack) v) _ _ (λ l. not (over F H W top a k t v refl ev kw vis (ltb-true _ _ l)))
     (λ l. went (new F H W top a k t v refl ev kw vis i (eqb-true _ _ e) (ltb-false _ _ l)) (length-set H t v ∙ long)))
-    (λ e. cases S (eqb (at H t) v) _ _ (λ s. went (same F H W top a k t v refl ev kw vis i (eqb-false _ _ e) (eqb-true _ _ s)) long)
+    (λ e. cases S (eqb (heightAt H t) v) _ _ (λ s. went (same F H W top a k t v refl ev kw vis i (eqb-false _ _ e) (eqb-true _ _ s)) long)
     (λ s. not (clash F H W top a k t v refl ev kw vis i (eqb-false _ _ e) (eqb-false _ _ s)))))
   where
     S : Way → Type 0
@@ -56,12 +55,12 @@ spread-ok F a v (suc j) k sum H W top e w long =
     on (not n) q f = not n
     on (went {H} {W} {top} g long) q f = f H W top (record { visiting = g .visiting; stays = g .stays; count = g .count ∙ q }) long
 
-visits-ok : (F : Flow) (H W : List ℕ) (top : ℕ) → Filling F H W (top + 1) → length H ≡ F .n → Fills F (nevers H + top) (visits F (at W top) H W top)
+visits-ok : (F : Flow) (H W : List ℕ) (top : ℕ) → Filling F H W (top + 1) → length H ≡ F .n → Fills F (nevers H + top) (visits F (waiting W top) H W top)
 visits-ok F H W top f long =
-    cases (Fills F (nevers H + top)) (ltb (at H (at W top)) (F .takes (at W top))) _ _ (λ l. not (short F H W top (at W top) refl f (ltb-true _ _ l)))
-    (λ l. all (spread-ok F (at W top) _ (F .width (at W top)) 0 (nevers H + top) H W top (omega arith) (record { visiting = begin F H W top (at W top) refl f (ltb-false _ _ l); stays = refl; count = refl }) long))
+    cases (Fills F (nevers H + top)) (ltb (heightAt H (waiting W top)) (F .takes (waiting W top))) _ _ (λ l. not (short F H W top (waiting W top) refl f (ltb-true _ _ l)))
+    (λ l. all (spread-ok F (waiting W top) _ (F .width (waiting W top)) 0 (nevers H + top) H W top (omega arith) (record { visiting = begin F H W top (waiting W top) refl f (ltb-false _ _ l); stays = refl; count = refl }) long))
   where
-    all : {o : Way} {v : ℕ} → Spread F (nevers H + top) v (at W top) (F .width (at W top)) o → Fills F (nevers H + top) o
+    all : {o : Way} {v : ℕ} → Spread F (nevers H + top) v (waiting W top) (F .width (waiting W top)) o → Fills F (nevers H + top) o
     all (not n) = not n
     all (went g long) = filling (finish (g .visiting) (omega arith)) (g .count) long
 
@@ -122,43 +121,16 @@ table-iff-agree F = (λ t. table-agrees F (t .0) (t .1), λ p. let t = agree-tab
 -- ---- the least table has the heights of paths, and no other
 
 module _ (F : Flow) (H : List ℕ) (least : Least F H) where
-  pub height-reached : (a h : ℕ) → a < F .n → at H a ≡ h → h ≤ limits .stack → Reached F a h
+  pub height-reached : (a h : ℕ) → a < F .n → heightAt H a ≡ h → h ≤ limits .stack → Reached F a h
   height-reached a h i e l = subst (λ (x : ℕ). Reached F a x) e (least .reach a i (omega arith))
 
-  pub reached-height : (a h : ℕ) → Reached F a h → (a < F .n) × ((at H a ≡ h) × (h ≤ limits .stack))
+  pub reached-height : (a h : ℕ) → Reached F a h → (a < F .n) × ((heightAt H a ≡ h) × (h ≤ limits .stack))
   reached-height a h r = let q = reached r H (least .valid) in (q .0, (q .1 .1, q .1 .0))
 
-  pub never-reached : (a h : ℕ) → at H a ≡ never → Reached F a h → ⊥
+  pub never-reached : (a h : ℕ) → heightAt H a ≡ never → Reached F a h → ⊥
   never-reached a h e r = let q = reached r H (least .valid) .1 in let q₀ = q .0 in let q₁ = q .1 in omega arith
 
-pub least-reached : (F : Flow) (H : List ℕ) → heights F ≡ some H → (a h : ℕ) → a < F .n → ((at H a ≡ h) × (h ≤ limits .stack)) ↔ Reached F a h
-least-reached F H e a h i =
+pub height-at-reached : (F : Flow) (H : List ℕ) → heights F ≡ some H → (a h : ℕ) → ((a < F .n) × ((heightAt H a ≡ h) × (h ≤ limits .stack))) ↔ Reached F a h
+height-at-reached F H e a h =
     let l = heights-some F H e .0 in
-    (λ q. height-reached F H l a h i (q .0) (q .1), λ r. reached-height F H l a h r .1)
-
--- ---- the same with `heightAt`, whose default needs no bound
-
-pub height-inside : (H : List ℕ) (a : ℕ) → a < length H → heightAt H a ≡ at H a
-height-inside [] a i = absurd (omega arith)
-height-inside (x ∷ H) zero i = refl
-height-inside (x ∷ H) (suc a) i = height-inside H a (omega arith)
-
-pub height-at-reached : (F : Flow) (H : List ℕ) → heights F ≡ some H → (a h : ℕ) → ((heightAt H a ≡ h) × (h ≤ limits .stack)) ↔ Reached F a h
-height-at-reached F H e a h = (there, back)
-  where
-    long : length H ≡ F .n
-    long = heights-some F H e .1
-
-    there : (heightAt H a ≡ h) × (h ≤ limits .stack) → Reached F a h
-    there q = go (decLt a (length H))
-      where
-        go : Dec (a < length H) → Reached F a h
-        go (yes i) = let z = long in least-reached F H e a h (omega arith) .0 (sym (height-inside H a i) ∙ q .0, q .1)
-        go (no i) = absurd (let z : heightAt H a ≡ never = List·getD-eq-default H never (omega arith) in let q₀ = q .0 in let q₁ = q .1 in omega arith)
-
-    back : Reached F a h → (heightAt H a ≡ h) × (h ≤ limits .stack)
-    back r =
-        let q = reached-height F H (heights-some F H e .0) a h r in
-        let i = q .0 in
-        let z = long in
-        (height-inside H a (omega arith) ∙ q .1 .0, q .1 .1)
+    (λ q. height-reached F H l a h (q .0) (q .1 .0) (q .1 .1), λ r. reached-height F H l a h r)

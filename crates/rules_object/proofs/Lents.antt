@@ -15,7 +15,7 @@ use Rattle.number.proofs.Laws.{fits-yes, yes-fits}
 use Rattle.rules_shared.specs.Limits.{limits}
 use Rattle.rules_object.specs.Object.{Object}
 use Rattle.rules_object.specs.Machine.{State, state, fresh, cell, ruleOf}
-use Rattle.rules_object.specs.Flow.{at}
+use Rattle.rules_object.specs.Flow.{heightAt}
 use Rattle.rules_object.specs.Check.{flowOf}
 use Rattle.rules_shared.specs.Lists.{all}
 use Rattle.rules_object.specs.Calls.{Lent, taken, given, right50, right51, right52}
@@ -73,11 +73,11 @@ pub taken-stands : (o : Object) (table : List ℕ) (l : Lent) (store : List ℤ)
 unfolding right52 taken
 taken-stands o table l store forty e f g =
     let g₁ = both (ltb (l .index) (length (o .code))) _ g in
-    let g₂ = both (leb (at table (l .index)) (limits .stack)) _ (g₁ .1) in
-    let g₃ = both (eqb (l .height) (at table (l .index))) _ (g₂ .1) in
+    let g₂ = both (leb (heightAt table (l .index)) (limits .stack)) _ (g₁ .1) in
+    let g₃ = both (eqb (l .height) (heightAt table (l .index))) _ (g₂ .1) in
     let g₄ = both (all (fits (ruleOf o)) (take (l .height) (l .places))) _ (g₃ .1) in
-    let low = leb-true (at table (l .index)) (limits .stack) (g₂ .0) in
-    let same = eqb-true (l .height) (at table (l .index)) (g₃ .0) in
+    let low = leb-true (heightAt table (l .index)) (limits .stack) (g₂ .0) in
+    let same = eqb-true (l .height) (heightAt table (l .index)) (g₃ .0) in
     let n = length-take-le (l .height) (l .places) (omega arith) in
     let r = length-reverse (take (l .height) (l .places)) in
     record {
@@ -116,7 +116,7 @@ stands-52 {o} {table} t s =
     let h = s .height in
     let l = s .low in
     and-true (lt-ltb _ _ (s .inside))
-    (and-true (le-leb (at table (t .index)) (limits .stack) (omega arith))
+    (and-true (le-leb (heightAt table (t .index)) (limits .stack) (omega arith))
     (and-true (eq-eqb _ _ (sym h))
     (and-true (ap (all (fits (ruleOf o))) (places-taken t) ∙ each-all o (reverse (t .stack)) (each-reverse o (t .stack) (s .stack))) (le-leb _ _ (s .mark)))))
 

@@ -14,14 +14,14 @@ use Rattle.rules_object.specs.Heights.{heights}
 use Rattle.rules_shared.specs.Refusals.{Refusal, refusal, accepted}
 use Rattle.rules_shared.specs.Output.{Written, write}
 use Rattle.rules_object.specs.Calls.{refused42, refused43, checked, checking, mapOf, mapping}
-use Rattle.rules_object.specs.Small.{HLT, CON, LOD, STO, LDE, STE, ADD, SUB, MUL, DIV, NEG, JMP, BR3, BRC, DOI, DOE, object, plain, element, loop, line, named, withLines, withNames}
+use Rattle.rules_object.specs.Small.{wordHLT, wordCON, wordLOD, wordSTO, wordLDE, wordSTE, wordADD, wordSUB, wordMUL, wordDIV, wordNEG, wordJMP, wordBR3, wordBRC, wordDOI, wordDOE, object, codeOnly, element, loop, line, named, withLines, withNames}
 use Rattle.rules_object.proofs.ObjectExamples.{Agree}
 
 abbrev judges : Object → Refusal
 judges o = checking (objectBytes o)
 
 abbrev stop : List ℕ
-stop = HLT 0 ∷ []
+stop = wordHLT 0 ∷ []
 
 -- one cell, and an element, a DO, a line and a name of it
 abbrev constants : ℕ → Object
@@ -37,10 +37,10 @@ abbrev dos : ℕ → Object
 dos n = object 1 [] [] [] (replicate n (loop 0 0 0 0)) stop
 
 abbrev codes : ℕ → Object
-codes n = plain (replicate n (HLT 0))
+codes n = codeOnly (replicate n (wordHLT 0))
 
 abbrev lines : ℕ → Object
-lines n = withLines (replicate n (line 1 0 0)) (plain stop)
+lines n = withLines (replicate n (line 1 0 0)) (codeOnly stop)
 
 abbrev names : ℕ → Object
 names n = withNames (replicate n (named (73 ∷ []) 0 0 0)) (object 1 [] [] [] [] stop)
@@ -68,39 +68,39 @@ limits-41 = refl
 
 -- one of everything, and the word second, where it is never reached
 abbrev second : ℕ → Refusal
-second word = judges (object 1 (7 ∷ []) (element 0 1 1 0 0 (pos 1) 0 0 (pos 1) ∷ []) (2 ∷ 0 ∷ 1 ∷ []) (loop 0 0 0 1 ∷ []) (HLT 0 ∷ word ∷ []))
+second word = judges (object 1 (7 ∷ []) (element 0 1 1 0 0 (pos 1) 0 0 (pos 1) ∷ []) (2 ∷ 0 ∷ 1 ∷ []) (loop 0 0 0 1 ∷ []) (wordHLT 0 ∷ word ∷ []))
 
 operands-43 : Agree
-    ((second (HLT 1), accepted)
-    ∷ (second (HLT 2), refusal 43 1 5)
-    ∷ (second (CON 0), accepted)
-    ∷ (second (CON 1), refusal 43 1 5)
-    ∷ (second (LOD 0), accepted)
-    ∷ (second (LOD 1), refusal 43 1 5)
-    ∷ (second (STO 0), accepted)
-    ∷ (second (STO 1), refusal 43 1 5)
-    ∷ (second (LDE 0), accepted)
-    ∷ (second (LDE 1), refusal 43 1 5)
-    ∷ (second (STE 0), accepted)
-    ∷ (second (STE 1), refusal 43 1 5)
-    ∷ (second (ADD 0), accepted)
-    ∷ (second (ADD 1), refusal 43 1 5)
-    ∷ (second (SUB 0), accepted)
-    ∷ (second (SUB 1), refusal 43 1 5)
-    ∷ (second (MUL 0), accepted)
-    ∷ (second (MUL 1), refusal 43 1 5)
-    ∷ (second (DIV 0), accepted)
-    ∷ (second (DIV 1), refusal 43 1 5)
-    ∷ (second (NEG 0), accepted)
-    ∷ (second (NEG 1), refusal 43 1 5)
-    ∷ (second (JMP 1), accepted)
-    ∷ (second (JMP 2), refusal 43 1 5)
-    ∷ (second (BR3 0), refusal 43 1 5)
-    ∷ (second (BRC 0), accepted)
-    ∷ (second (DOI 0), accepted)
-    ∷ (second (DOI 1), refusal 43 1 5)
-    ∷ (second (DOE 0), accepted)
-    ∷ (second (DOE 1), refusal 43 1 5)
+    ((second (wordHLT 1), accepted)
+    ∷ (second (wordHLT 2), refusal 43 1 5)
+    ∷ (second (wordCON 0), accepted)
+    ∷ (second (wordCON 1), refusal 43 1 5)
+    ∷ (second (wordLOD 0), accepted)
+    ∷ (second (wordLOD 1), refusal 43 1 5)
+    ∷ (second (wordSTO 0), accepted)
+    ∷ (second (wordSTO 1), refusal 43 1 5)
+    ∷ (second (wordLDE 0), accepted)
+    ∷ (second (wordLDE 1), refusal 43 1 5)
+    ∷ (second (wordSTE 0), accepted)
+    ∷ (second (wordSTE 1), refusal 43 1 5)
+    ∷ (second (wordADD 0), accepted)
+    ∷ (second (wordADD 1), refusal 43 1 5)
+    ∷ (second (wordSUB 0), accepted)
+    ∷ (second (wordSUB 1), refusal 43 1 5)
+    ∷ (second (wordMUL 0), accepted)
+    ∷ (second (wordMUL 1), refusal 43 1 5)
+    ∷ (second (wordDIV 0), accepted)
+    ∷ (second (wordDIV 1), refusal 43 1 5)
+    ∷ (second (wordNEG 0), accepted)
+    ∷ (second (wordNEG 1), refusal 43 1 5)
+    ∷ (second (wordJMP 1), accepted)
+    ∷ (second (wordJMP 2), refusal 43 1 5)
+    ∷ (second (wordBR3 0), refusal 43 1 5)
+    ∷ (second (wordBRC 0), accepted)
+    ∷ (second (wordDOI 0), accepted)
+    ∷ (second (wordDOI 1), refusal 43 1 5)
+    ∷ (second (wordDOE 0), accepted)
+    ∷ (second (wordDOE 1), refusal 43 1 5)
     ∷ [])
 unfolding checking checked objectBytes objectWords signedWord readObject signedOf right41 refused42 refused43 rightConstant rightElement rightLoop rightLine rightNamed right43 flowOf heights decode operationOf operandOf fits ceiling
 operands-43 = refl
@@ -122,8 +122,8 @@ maps : Agree
     ((mapping (objectBytes two) (replicate 40 9), answered accepted 40 entries)
     ∷ (mapping (objectBytes two) (replicate 45 9), answered accepted 40 (entries ++ replicate 5 9))
     ∷ (mapping (objectBytes two) (replicate 39 9), answered (refusal 30 0 0) 0 (replicate 39 9))
-    ∷ (mapping (objectBytes (plain stop)) [], answered accepted 0 [])
-    ∷ (mapping (objectBytes (plain (JMP 1 ∷ []))) (replicate 3 9), answered (refusal 43 0 5) 0 (replicate 3 9))
+    ∷ (mapping (objectBytes (codeOnly stop)) [], answered accepted 0 [])
+    ∷ (mapping (objectBytes (codeOnly (wordJMP 1 ∷ []))) (replicate 3 9), answered (refusal 43 0 5) 0 (replicate 3 9))
     ∷ [])
 unfolding mapping write mapOf checked objectBytes objectWords signedWord readObject signedOf right41 refused42 refused43 rightConstant rightElement rightLoop rightLine rightNamed right43 flowOf heights decode operationOf operandOf fits ceiling
 maps = refl

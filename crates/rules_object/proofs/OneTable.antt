@@ -10,17 +10,17 @@ use native.Mathlib.Omega.{arith}
 use lib.ListN.{take}
 use lib.Seq.{length-take-le, getD-take, ext-getD}
 use Rattle.rules_shared.specs.Limits.{limits}
-use Rattle.rules_object.specs.Flow.{Flow, never, at, Fine, Valid, Below, Reached, first, onward, PathsAgree, Least, NoTable, Exact, table, refused}
+use Rattle.rules_object.specs.Flow.{Flow, never, heightAt, Fine, Valid, Below, Reached, first, onward, PathsAgree, Least, NoTable, Exact, table, refused}
 use Rattle.rules_object.specs.Heights.{heights}
 use Rattle.rules_object.proofs.Fills.{reached, table-agrees, fine-on}
 use Rattle.rules_object.proofs.HeightsExact.{heights-exact, agree-table}
 
 -- ---- uniqueness
 
-pub one-table : (F : Flow) (H K : List ℕ) → Least F H → Least F K → (a : ℕ) → a < F .n → at H a ≡ at K a
+pub one-table : (F : Flow) (H K : List ℕ) → Least F H → Least F K → (a : ℕ) → a < F .n → heightAt H a ≡ heightAt K a
 one-table F H K p q a i = go (p .valid .low a i) (q .valid .low a i)
   where
-    go : (at H a ≤ limits .stack) ⊎ (at H a ≡ never) → (at K a ≤ limits .stack) ⊎ (at K a ≡ never) → at H a ≡ at K a
+    go : (heightAt H a ≤ limits .stack) ⊎ (heightAt H a ≡ never) → (heightAt K a ≤ limits .stack) ⊎ (heightAt K a ≡ never) → heightAt H a ≡ heightAt K a
     go (inl l) k = sym (p .least K (q .valid) .has a i l)
     go (inr e) (inl l) = q .least H (p .valid) .has a i l
     go (inr e) (inr f) = e ∙ sym f
@@ -48,7 +48,7 @@ least-take F K l =
     some′ : 0 < F .n
     some′ = l .valid .begins .0
 
-    same : (a : ℕ) → a < F .n → at (take (F .n) K) a ≡ at K a
+    same : (a : ℕ) → a < F .n → heightAt (take (F .n) K) a ≡ heightAt K a
     same a i = getD-take (F .n) K a 0 i
 
     below : Below F K (take (F .n) K)
@@ -93,7 +93,7 @@ carries F G H s v =
       each = λ a i h. there a (omega arith) h;
     }
   where
-    there : (a : ℕ) → a < F .n → at H a ≤ limits .stack → Fine G H a
+    there : (a : ℕ) → a < F .n → heightAt H a ≤ limits .stack → Fine G H a
     there a i h =
         let f = v .each a i h in
         let r = f .room in
@@ -108,7 +108,7 @@ carries F G H s v =
               let ex = s .next a k i (omega arith) in
               let d₁ = d .inside in
               let d₂ = d .low in
-              let d₃ = ap (at H) (sym ex) ∙ d .is in
+              let d₃ = ap (heightAt H) (sym ex) ∙ d .is in
               record { inside = omega arith; low = omega arith; is = omega arith };
         }
 

@@ -12,7 +12,7 @@ use lib.IntN.{ℤ, pos, _+ℤ_, _*ℤ_}
 use Rattle.number.specs.Number.{Rule, Result, value, byZero, apply}
 use Rattle.rules_shared.specs.Runs.{Out, go, run, steps}
 use Rattle.rules_shared.specs.Choose.{exit, place, positive, allPositive, Turn, again, over, turn}
-use Rattle.rules_object.specs.Object.{Subscript, Element, Loop, Object}
+use Rattle.rules_object.specs.Object.{SubscriptEntry, Element, Loop, Object}
 use Rattle.rules_object.specs.Machine.{Instr, HLT, CON, LOD, STO, LDE, STE, OP, NEG, JMP, BR3, BRC, DOI, DOE, State, state, cell, top, under, operated, subscriptValue, placeOf, elementLoaded, elementStored, branched, begun, turned, ended, act, ruleOf, step}
 use Rattle.rules_object.specs.Check.{instruction}
 use Rattle.rules_object.specs.Safe.{Stands, withCells}
@@ -31,7 +31,7 @@ module _ (o : Object) (extra : List ℤ) (t : State) (long : o .cells ≤ length
   same-set : (c : List ℤ) (a : ℕ) (v : ℤ) → length c ≡ length (t .store) → a < o .cells → set (c ++ extra) a v ≡ set c a v ++ extra
   same-set c a v e l = set-append-left c extra a v (omega arith)
 
-  same-subscript : (s : Subscript) → s .cell < o .cells → subscriptValue (t .store ++ extra) s ≡ subscriptValue (t .store) s
+  same-subscript : (s : SubscriptEntry) → s .cell < o .cells → subscriptValue (t .store ++ extra) s ≡ subscriptValue (t .store) s
   same-subscript s l = ap (λ z. pos (s .times) *ℤ z +ℤ s .plus) (same-cell (s .cell) l)
 
   same-place : (e : Element) → GoodElement o e → placeOf (t .store ++ extra) e ≡ placeOf (t .store) e

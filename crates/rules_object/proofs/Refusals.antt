@@ -20,7 +20,7 @@ use Rattle.rules_object.specs.Check.{right41, benchStep}
 use Rattle.rules_shared.specs.Refusals.{Refusal, refusal, accepted, orElse, unless}
 use Rattle.rules_shared.specs.Output.{Written, notWritten, writtenIf, write}
 use Rattle.rules_object.specs.Calls.{refused, passed, checked, verdict, checking, Lent, right50, right51, Ran, notRun, ran, runFrom, orRefused, runChecked, running, benchObject, benching, mapOf, mapChecked, mapping}
-use Rattle.rules_object.specs.Safe.{Unchanged, MapUnchanged, Maps}
+use Rattle.rules_object.specs.Safe.{Unchanged, MapUnchanged, MapWritten}
 use Rattle.rules_object.proofs.Accepts.{If, or-if, unless-if, Why, unread, over, later, Verdict, bad, good, judge, refusedBench, Answer, refuses, runs, answer, BenchAnswer, bench-answer}
 
 -- ---- check
@@ -163,7 +163,7 @@ module _ (bytes table : List ℕ) where
   -- refused, the table as it was; or written
   data MapOne (m : Written) : Type 0 where
     not : 0 < m .refusal .number → m ≡ notWritten (m .refusal) table → MapOne m
-    yes : (o : Object) (heights : List ℕ) → checked bytes ≡ passed o heights → Maps o table m → MapOne m
+    yes : (o : Object) (heights : List ℕ) → checked bytes ≡ passed o heights → MapWritten o table m → MapOne m
 
   wrote : (o : Object) (heights : List ℕ) → checked bytes ≡ passed o heights → (b : Bool) → leb (length (mapOf o)) (length table) ≡ b → MapOne (writtenIf b (mapOf o) table)
   wrote o heights q true e =
@@ -199,9 +199,9 @@ module _ (bytes table : List ℕ) where
       by (not q x) = x
       by (yes o heights q x) = absurd (n (x .accepts))
 
-  pub map-accepts : mapping bytes table .refusal .number ≡ 0 → (o : Object) × ((heights : List ℕ) × ((checked bytes ≡ passed o heights) × Maps o table (mapping bytes table)))
+  pub map-accepts : mapping bytes table .refusal .number ≡ 0 → (o : Object) × ((heights : List ℕ) × ((checked bytes ≡ passed o heights) × MapWritten o table (mapping bytes table)))
   map-accepts e = by map-one
     where
-      by : MapOne (mapping bytes table) → (o : Object) × ((heights : List ℕ) × ((checked bytes ≡ passed o heights) × Maps o table (mapping bytes table)))
+      by : MapOne (mapping bytes table) → (o : Object) × ((heights : List ℕ) × ((checked bytes ≡ passed o heights) × MapWritten o table (mapping bytes table)))
       by (not q x) = absurd (omega arith)
       by (yes o heights q x) = (o, (heights, (q, x)))

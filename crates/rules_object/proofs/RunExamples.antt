@@ -17,7 +17,7 @@ use Rattle.rules_object.specs.Heights.{heights}
 use Rattle.rules_shared.specs.Refusals.{refusal, accepted}
 use Rattle.rules_object.specs.Calls.{refused42, refused43, checked, Lent, taken, given, right50, right51, right52, sequenceOf, Ran, notRun, running, benching}
 use Rattle.rules_object.specs.Safe.{freshLent}
-use Rattle.rules_object.specs.Small.{HLT, CON, BRC, NEG, MUL, SUB, LOD, STO, LDE, STE, ADD, DIV, JMP, BR3, DOI, DOE, does, object, plain, element, loop, line, named, withLines, withNames}
+use Rattle.rules_object.specs.Small.{wordHLT, wordCON, wordBRC, wordNEG, wordMUL, wordSUB, wordLOD, wordSTO, wordLDE, wordSTE, wordADD, wordDIV, wordJMP, wordBR3, wordDOI, wordDOE, does, object, codeOnly, element, loop, line, named, withLines, withNames}
 use Rattle.rules_object.proofs.ObjectExamples.{Agree}
 
 -- index, height, mark and the first of the stack's places, the others 0
@@ -46,7 +46,7 @@ benches o store allowance = benching (objectBytes o) store freshLent allowance
 
 -- 7 and 2 on the stack, the operation, and its result in cell 0
 abbrev works : ℕ → Ran
-works word = runs (object 1 (7 ∷ 2 ∷ []) [] [] [] (CON 0 ∷ CON 1 ∷ word ∷ STO 0 ∷ HLT 0 ∷ [])) (pos 9 ∷ []) freshLent million
+works word = runs (object 1 (7 ∷ 2 ∷ []) [] [] [] (wordCON 0 ∷ wordCON 1 ∷ word ∷ wordSTO 0 ∷ wordHLT 0 ∷ [])) (pos 9 ∷ []) freshLent million
 
 -- an array of two rows and three columns, and the cells of its subscripts
 abbrev array : ℕ → ℕ → List ℤ
@@ -54,36 +54,36 @@ array i j = pos 10 ∷ pos 11 ∷ pos 12 ∷ pos 13 ∷ pos 14 ∷ pos 15 ∷ po
 
 -- L(I,2*J-1), and CON 0 is 7
 abbrev elements : ℕ → ℕ → ℕ → ℕ → Ran
-elements word then i j = runs (object 8 (7 ∷ []) (element 0 2 3 1 6 (pos 0) 2 7 (negsuc 0) ∷ []) [] [] (word ∷ then ∷ HLT 1 ∷ [])) (array i j) freshLent million
+elements word then i j = runs (object 8 (7 ∷ []) (element 0 2 3 1 6 (pos 0) 2 7 (negsuc 0) ∷ []) [] [] (word ∷ then ∷ wordHLT 1 ∷ [])) (array i j) freshLent million
 
 -- cell 0 chooses where to go
 abbrev chooses : ℕ → ℤ → Ran
-chooses word v = runs (object 1 [] [] (2 ∷ 3 ∷ 4 ∷ 2 ∷ 4 ∷ 3 ∷ []) [] (LOD 0 ∷ word ∷ HLT 0 ∷ HLT 0 ∷ HLT 0 ∷ [])) (v ∷ []) freshLent million
+chooses word v = runs (object 1 [] [] (2 ∷ 3 ∷ 4 ∷ 2 ∷ 4 ∷ 3 ∷ []) [] (wordLOD 0 ∷ word ∷ wordHLT 0 ∷ wordHLT 0 ∷ wordHLT 0 ∷ [])) (v ∷ []) freshLent million
 
 operations : Agree
-    ((works (ADD 0), ended 0 5 0 (lends 4 0 0 []) (pos 9 ∷ []))
-    ∷ (works (SUB 0), ended 0 5 0 (lends 4 0 0 []) (pos 5 ∷ []))
-    ∷ (works (MUL 0), ended 0 5 0 (lends 4 0 0 []) (pos 14 ∷ []))
-    ∷ (works (DIV 0), ended 0 5 0 (lends 4 0 0 []) (pos 3 ∷ []))
-    ∷ (works (NEG 0), ended 0 5 0 (lends 4 1 0 (pos 7 ∷ [])) (negsuc 1 ∷ []))
-    ∷ (works (LOD 0), ended 0 5 0 (lends 4 2 0 (pos 7 ∷ pos 2 ∷ [])) (pos 9 ∷ []))
-    ∷ (works (JMP 4), ended 0 4 0 (lends 4 2 0 (pos 7 ∷ pos 2 ∷ [])) (pos 9 ∷ []))
-    ∷ (works (HLT 1), ended 1 3 0 (lends 2 2 0 (pos 7 ∷ pos 2 ∷ [])) (pos 9 ∷ []))
-    ∷ (runs (object 0 (7 ∷ 0 ∷ []) [] [] [] (CON 0 ∷ CON 1 ∷ DIV 0 ∷ HLT 0 ∷ [])) [] freshLent million, ended 3 3 0 (lends 2 2 0 (pos 7 ∷ [])) [])
-    ∷ (elements (LDE 0) (STO 6) 1 1, ended 1 3 0 (lends 2 0 0 []) (array 10 1))
-    ∷ (elements (LDE 0) (STO 6) 2 2, ended 1 3 0 (lends 2 0 0 []) (array 15 2))
-    ∷ (elements (LDE 0) (STO 6) 3 1, ended 4 1 0 (lends 0 0 0 []) (array 3 1))
-    ∷ (elements (LDE 0) (STO 6) 1 0, ended 4 1 0 (lends 0 0 0 []) (array 1 0))
-    ∷ (elements (CON 0) (STE 0) 2 1, ended 1 3 0 (lends 2 0 0 []) (pos 10 ∷ pos 7 ∷ pos 12 ∷ pos 13 ∷ pos 14 ∷ pos 15 ∷ pos 2 ∷ pos 1 ∷ []))
-    ∷ (elements (CON 0) (STE 0) 0 1, ended 4 2 0 (lends 1 1 0 (pos 7 ∷ [])) (array 0 1))
-    ∷ (chooses (BR3 0) (negsuc 4), ended 0 3 0 (lends 2 0 0 []) (negsuc 4 ∷ []))
-    ∷ (chooses (BR3 0) (pos 0), ended 0 3 0 (lends 3 0 0 []) (pos 0 ∷ []))
-    ∷ (chooses (BR3 0) (pos 5), ended 0 3 0 (lends 4 0 0 []) (pos 5 ∷ []))
-    ∷ (chooses (BRC 3) (pos 1), ended 0 3 0 (lends 4 0 0 []) (pos 1 ∷ []))
-    ∷ (chooses (BRC 3) (pos 2), ended 0 3 0 (lends 3 0 0 []) (pos 2 ∷ []))
-    ∷ (chooses (BRC 3) (pos 3), ended 5 2 0 (lends 1 1 0 (pos 3 ∷ [])) (pos 3 ∷ []))
-    ∷ (chooses (BRC 3) (pos 0), ended 5 2 0 (lends 1 1 0 []) (pos 0 ∷ []))
-    ∷ (chooses (BRC 3) (negsuc 0), ended 5 2 0 (lends 1 1 0 (negsuc 0 ∷ [])) (negsuc 0 ∷ []))
+    ((works (wordADD 0), ended 0 5 0 (lends 4 0 0 []) (pos 9 ∷ []))
+    ∷ (works (wordSUB 0), ended 0 5 0 (lends 4 0 0 []) (pos 5 ∷ []))
+    ∷ (works (wordMUL 0), ended 0 5 0 (lends 4 0 0 []) (pos 14 ∷ []))
+    ∷ (works (wordDIV 0), ended 0 5 0 (lends 4 0 0 []) (pos 3 ∷ []))
+    ∷ (works (wordNEG 0), ended 0 5 0 (lends 4 1 0 (pos 7 ∷ [])) (negsuc 1 ∷ []))
+    ∷ (works (wordLOD 0), ended 0 5 0 (lends 4 2 0 (pos 7 ∷ pos 2 ∷ [])) (pos 9 ∷ []))
+    ∷ (works (wordJMP 4), ended 0 4 0 (lends 4 2 0 (pos 7 ∷ pos 2 ∷ [])) (pos 9 ∷ []))
+    ∷ (works (wordHLT 1), ended 1 3 0 (lends 2 2 0 (pos 7 ∷ pos 2 ∷ [])) (pos 9 ∷ []))
+    ∷ (runs (object 0 (7 ∷ 0 ∷ []) [] [] [] (wordCON 0 ∷ wordCON 1 ∷ wordDIV 0 ∷ wordHLT 0 ∷ [])) [] freshLent million, ended 3 3 0 (lends 2 2 0 (pos 7 ∷ [])) [])
+    ∷ (elements (wordLDE 0) (wordSTO 6) 1 1, ended 1 3 0 (lends 2 0 0 []) (array 10 1))
+    ∷ (elements (wordLDE 0) (wordSTO 6) 2 2, ended 1 3 0 (lends 2 0 0 []) (array 15 2))
+    ∷ (elements (wordLDE 0) (wordSTO 6) 3 1, ended 4 1 0 (lends 0 0 0 []) (array 3 1))
+    ∷ (elements (wordLDE 0) (wordSTO 6) 1 0, ended 4 1 0 (lends 0 0 0 []) (array 1 0))
+    ∷ (elements (wordCON 0) (wordSTE 0) 2 1, ended 1 3 0 (lends 2 0 0 []) (pos 10 ∷ pos 7 ∷ pos 12 ∷ pos 13 ∷ pos 14 ∷ pos 15 ∷ pos 2 ∷ pos 1 ∷ []))
+    ∷ (elements (wordCON 0) (wordSTE 0) 0 1, ended 4 2 0 (lends 1 1 0 (pos 7 ∷ [])) (array 0 1))
+    ∷ (chooses (wordBR3 0) (negsuc 4), ended 0 3 0 (lends 2 0 0 []) (negsuc 4 ∷ []))
+    ∷ (chooses (wordBR3 0) (pos 0), ended 0 3 0 (lends 3 0 0 []) (pos 0 ∷ []))
+    ∷ (chooses (wordBR3 0) (pos 5), ended 0 3 0 (lends 4 0 0 []) (pos 5 ∷ []))
+    ∷ (chooses (wordBRC 3) (pos 1), ended 0 3 0 (lends 4 0 0 []) (pos 1 ∷ []))
+    ∷ (chooses (wordBRC 3) (pos 2), ended 0 3 0 (lends 3 0 0 []) (pos 2 ∷ []))
+    ∷ (chooses (wordBRC 3) (pos 3), ended 5 2 0 (lends 1 1 0 (pos 3 ∷ [])) (pos 3 ∷ []))
+    ∷ (chooses (wordBRC 3) (pos 0), ended 5 2 0 (lends 1 1 0 []) (pos 0 ∷ []))
+    ∷ (chooses (wordBRC 3) (negsuc 0), ended 5 2 0 (lends 1 1 0 (negsuc 0 ∷ [])) (negsuc 0 ∷ []))
     ∷ [])
 unfolding checked objectBytes objectWords signedWord readObject signedOf right41 refused42 refused43 rightConstant rightElement rightLoop rightLine rightNamed right43 flowOf heights decode operationOf operandOf fits ceiling place turn step apply kept divided keep drops taken given right50 right51 sequenceOf haltNumber running right52
 operations = refl
@@ -91,119 +91,119 @@ operations = refl
 -- ---- the readings
 
 runs-h1 : Agree
-    ((runs (object 1 [] [] [] [] (HLT 0 ∷ [])) [] freshLent million, notRun (refusal 50 0 0) freshLent [])
-    ∷ (runs (object 2 [] [] [] [] (HLT 0 ∷ [])) (pos 0 ∷ pos 100000 ∷ []) freshLent million, notRun (refusal 51 0 0) freshLent (pos 0 ∷ pos 100000 ∷ []))
-    ∷ (runs (object 1 [] [] [] [] (HLT 0 ∷ [])) (pos 7 ∷ pos 100000 ∷ []) freshLent million, ended 0 1 0 (lends 0 0 0 []) (pos 7 ∷ pos 100000 ∷ []))
+    ((runs (object 1 [] [] [] [] (wordHLT 0 ∷ [])) [] freshLent million, notRun (refusal 50 0 0) freshLent [])
+    ∷ (runs (object 2 [] [] [] [] (wordHLT 0 ∷ [])) (pos 0 ∷ pos 100000 ∷ []) freshLent million, notRun (refusal 51 0 0) freshLent (pos 0 ∷ pos 100000 ∷ []))
+    ∷ (runs (object 1 [] [] [] [] (wordHLT 0 ∷ [])) (pos 7 ∷ pos 100000 ∷ []) freshLent million, ended 0 1 0 (lends 0 0 0 []) (pos 7 ∷ pos 100000 ∷ []))
     ∷ [])
 unfolding checked objectBytes objectWords signedWord readObject signedOf right41 refused42 refused43 rightConstant rightElement rightLoop rightLine rightNamed right43 flowOf heights decode operationOf operandOf fits ceiling place turn step apply kept divided keep drops taken given right50 right51 sequenceOf haltNumber running right52
 runs-h1 = refl
 
 runs-h2 : Agree
-    ((runs (plain (HLT 0 ∷ ADD 0 ∷ HLT 0 ∷ [])) [] (lends 1 2 0 (pos 1 ∷ pos 1 ∷ [])) million, notRun (refusal 52 0 0) (lends 1 2 0 (pos 1 ∷ pos 1 ∷ [])) [])
-    ∷ (runs (plain (HLT 0 ∷ HLT 0 ∷ [])) [] (lends 1 0 0 []) million, notRun (refusal 52 0 0) (lends 1 0 0 []) [])
+    ((runs (codeOnly (wordHLT 0 ∷ wordADD 0 ∷ wordHLT 0 ∷ [])) [] (lends 1 2 0 (pos 1 ∷ pos 1 ∷ [])) million, notRun (refusal 52 0 0) (lends 1 2 0 (pos 1 ∷ pos 1 ∷ [])) [])
+    ∷ (runs (codeOnly (wordHLT 0 ∷ wordHLT 0 ∷ [])) [] (lends 1 0 0 []) million, notRun (refusal 52 0 0) (lends 1 0 0 []) [])
     ∷ [])
 unfolding checked objectBytes objectWords signedWord readObject signedOf right41 refused42 refused43 rightConstant rightElement rightLoop rightLine rightNamed right43 flowOf heights decode operationOf operandOf fits ceiling place turn step apply kept divided keep drops taken given right50 right51 sequenceOf haltNumber running right52
 runs-h2 = refl
 
 runs-h3 : Agree
-    ((runs (object 1 (1 ∷ []) [] [] [] (CON 0 ∷ STO 0 ∷ HLT 0 ∷ [])) (pos 0 ∷ []) (lends 1 1 0 (pos 99999 ∷ pos 100000 ∷ [])) 0, ended 2 0 0 (lends 1 1 0 (pos 99999 ∷ [])) (pos 0 ∷ []))
-    ∷ (runs (object 1 (1 ∷ []) [] [] [] (CON 0 ∷ STO 0 ∷ HLT 0 ∷ [])) (pos 0 ∷ []) (lends 1 1 0 (negsuc 99999 ∷ [])) 0, notRun (refusal 52 0 0) (lends 1 1 0 (negsuc 99999 ∷ [])) (pos 0 ∷ []))
-    ∷ (runs (object 1 (1 ∷ []) [] [] [] (CON 0 ∷ STO 0 ∷ HLT 0 ∷ [])) (pos 0 ∷ []) (lends 1 0 0 []) 0, notRun (refusal 52 0 0) (lends 1 0 0 []) (pos 0 ∷ []))
+    ((runs (object 1 (1 ∷ []) [] [] [] (wordCON 0 ∷ wordSTO 0 ∷ wordHLT 0 ∷ [])) (pos 0 ∷ []) (lends 1 1 0 (pos 99999 ∷ pos 100000 ∷ [])) 0, ended 2 0 0 (lends 1 1 0 (pos 99999 ∷ [])) (pos 0 ∷ []))
+    ∷ (runs (object 1 (1 ∷ []) [] [] [] (wordCON 0 ∷ wordSTO 0 ∷ wordHLT 0 ∷ [])) (pos 0 ∷ []) (lends 1 1 0 (negsuc 99999 ∷ [])) 0, notRun (refusal 52 0 0) (lends 1 1 0 (negsuc 99999 ∷ [])) (pos 0 ∷ []))
+    ∷ (runs (object 1 (1 ∷ []) [] [] [] (wordCON 0 ∷ wordSTO 0 ∷ wordHLT 0 ∷ [])) (pos 0 ∷ []) (lends 1 0 0 []) 0, notRun (refusal 52 0 0) (lends 1 0 0 []) (pos 0 ∷ []))
     ∷ [])
 unfolding checked objectBytes objectWords signedWord readObject signedOf right41 refused42 refused43 rightConstant rightElement rightLoop rightLine rightNamed right43 flowOf heights decode operationOf operandOf fits ceiling place turn step apply kept divided keep drops taken given right50 right51 sequenceOf haltNumber running right52
 runs-h3 = refl
 
 runs-h4 : Agree
-    ((runs (withLines (line 4 0 0 ∷ []) (plain (HLT 0 ∷ HLT 0 ∷ []))) [] (lends 0 0 2 []) 0, ended 2 0 4 (lends 0 0 2 []) [])
-    ∷ (runs (withLines (line 4 0 0 ∷ []) (plain (HLT 0 ∷ HLT 0 ∷ []))) [] (lends 0 0 3 []) 0, notRun (refusal 52 0 0) (lends 0 0 3 []) [])
+    ((runs (withLines (line 4 0 0 ∷ []) (codeOnly (wordHLT 0 ∷ wordHLT 0 ∷ []))) [] (lends 0 0 2 []) 0, ended 2 0 4 (lends 0 0 2 []) [])
+    ∷ (runs (withLines (line 4 0 0 ∷ []) (codeOnly (wordHLT 0 ∷ wordHLT 0 ∷ []))) [] (lends 0 0 3 []) 0, notRun (refusal 52 0 0) (lends 0 0 3 []) [])
     ∷ [])
 unfolding checked objectBytes objectWords signedWord readObject signedOf right41 refused42 refused43 rightConstant rightElement rightLoop rightLine rightNamed right43 flowOf heights decode operationOf operandOf fits ceiling place turn step apply kept divided keep drops taken given right50 right51 sequenceOf haltNumber running right52
 runs-h4 = refl
 
 runs-h5 : Agree
-    ((runs (plain (HLT 0 ∷ [])) [] freshLent million, ended 0 1 0 (lends 0 0 0 []) [])
+    ((runs (codeOnly (wordHLT 0 ∷ [])) [] freshLent million, ended 0 1 0 (lends 0 0 0 []) [])
     ∷ [])
 unfolding checked objectBytes objectWords signedWord readObject signedOf right41 refused42 refused43 rightConstant rightElement rightLoop rightLine rightNamed right43 flowOf heights decode operationOf operandOf fits ceiling place turn step apply kept divided keep drops taken given right50 right51 sequenceOf haltNumber running right52
 runs-h5 = refl
 
 runs-i1 : Agree
-    ((runs (plain (HLT 0 ∷ [])) [] freshLent 0, ended 2 0 0 (lends 0 0 0 []) [])
-    ∷ (runs (plain (HLT 0 ∷ [])) [] freshLent 1, ended 0 1 0 (lends 0 0 0 []) [])
+    ((runs (codeOnly (wordHLT 0 ∷ [])) [] freshLent 0, ended 2 0 0 (lends 0 0 0 []) [])
+    ∷ (runs (codeOnly (wordHLT 0 ∷ [])) [] freshLent 1, ended 0 1 0 (lends 0 0 0 []) [])
     ∷ [])
 unfolding checked objectBytes objectWords signedWord readObject signedOf right41 refused42 refused43 rightConstant rightElement rightLoop rightLine rightNamed right43 flowOf heights decode operationOf operandOf fits ceiling place turn step apply kept divided keep drops taken given right50 right51 sequenceOf haltNumber running right52
 runs-i1 = refl
 
 runs-i2 : Agree
-    ((runs (withLines (line 1 0 0 ∷ line 2 0 3 ∷ []) (object 1 (99999 ∷ []) [] [] [] (CON 0 ∷ CON 0 ∷ ADD 0 ∷ STO 0 ∷ HLT 0 ∷ []))) (pos 0 ∷ []) (lends 0 0 4 []) million, ended 0 5 2 (lends 4 0 4 []) (pos 99998 ∷ []))
-    ∷ (runs (withLines (line 1 0 0 ∷ line 2 0 3 ∷ []) (object 1 (99999 ∷ []) [] [] [] (CON 0 ∷ CON 0 ∷ ADD 0 ∷ STO 0 ∷ HLT 0 ∷ []))) (pos 0 ∷ []) freshLent million, ended 0 5 1 (lends 4 0 3 []) (pos 99998 ∷ []))
+    ((runs (withLines (line 1 0 0 ∷ line 2 0 3 ∷ []) (object 1 (99999 ∷ []) [] [] [] (wordCON 0 ∷ wordCON 0 ∷ wordADD 0 ∷ wordSTO 0 ∷ wordHLT 0 ∷ []))) (pos 0 ∷ []) (lends 0 0 4 []) million, ended 0 5 2 (lends 4 0 4 []) (pos 99998 ∷ []))
+    ∷ (runs (withLines (line 1 0 0 ∷ line 2 0 3 ∷ []) (object 1 (99999 ∷ []) [] [] [] (wordCON 0 ∷ wordCON 0 ∷ wordADD 0 ∷ wordSTO 0 ∷ wordHLT 0 ∷ []))) (pos 0 ∷ []) freshLent million, ended 0 5 1 (lends 4 0 3 []) (pos 99998 ∷ []))
     ∷ [])
 unfolding checked objectBytes objectWords signedWord readObject signedOf right41 refused42 refused43 rightConstant rightElement rightLoop rightLine rightNamed right43 flowOf heights decode operationOf operandOf fits ceiling place turn step apply kept divided keep drops taken given right50 right51 sequenceOf haltNumber running right52
 runs-i2 = refl
 
 runs-i3 : Agree
-    ((runs (withLines (line 10 0 2 ∷ line 20 0 0 ∷ line 30 0 3 ∷ []) (object 1 (99999 ∷ []) [] [] [] (CON 0 ∷ CON 0 ∷ ADD 0 ∷ STO 0 ∷ HLT 0 ∷ []))) (pos 0 ∷ []) freshLent million, ended 0 5 20 (lends 4 0 3 []) (pos 99998 ∷ []))
-    ∷ (runs (withLines (line 30 0 3 ∷ []) (object 1 (99999 ∷ []) [] [] [] (CON 0 ∷ CON 0 ∷ ADD 0 ∷ STO 0 ∷ HLT 0 ∷ []))) (pos 0 ∷ []) freshLent million, ended 0 5 0 (lends 4 0 3 []) (pos 99998 ∷ []))
+    ((runs (withLines (line 10 0 2 ∷ line 20 0 0 ∷ line 30 0 3 ∷ []) (object 1 (99999 ∷ []) [] [] [] (wordCON 0 ∷ wordCON 0 ∷ wordADD 0 ∷ wordSTO 0 ∷ wordHLT 0 ∷ []))) (pos 0 ∷ []) freshLent million, ended 0 5 20 (lends 4 0 3 []) (pos 99998 ∷ []))
+    ∷ (runs (withLines (line 30 0 3 ∷ []) (object 1 (99999 ∷ []) [] [] [] (wordCON 0 ∷ wordCON 0 ∷ wordADD 0 ∷ wordSTO 0 ∷ wordHLT 0 ∷ []))) (pos 0 ∷ []) freshLent million, ended 0 5 0 (lends 4 0 3 []) (pos 99998 ∷ []))
     ∷ [])
 unfolding checked objectBytes objectWords signedWord readObject signedOf right41 refused42 refused43 rightConstant rightElement rightLoop rightLine rightNamed right43 flowOf heights decode operationOf operandOf fits ceiling place turn step apply kept divided keep drops taken given right50 right51 sequenceOf haltNumber running right52
 runs-i3 = refl
 
 runs-i4 : Agree
-    ((runs (object 1 (1 ∷ 2 ∷ 3 ∷ []) [] [] (loop 0 0 0 0 ∷ []) (CON 0 ∷ CON 1 ∷ CON 2 ∷ DOI 0 ∷ HLT 0 ∷ [])) (pos 0 ∷ []) freshLent million, ended 0 5 0 (lends 4 0 0 []) (pos 3 ∷ []))
-    ∷ (runs (object 3 (1 ∷ 2 ∷ 0 ∷ []) [] [] (loop 0 1 2 0 ∷ []) (CON 0 ∷ CON 1 ∷ CON 2 ∷ DOI 0 ∷ HLT 0 ∷ [])) (pos 7 ∷ pos 8 ∷ pos 9 ∷ []) freshLent million, ended 6 4 0 (lends 3 3 0 (pos 1 ∷ pos 2 ∷ pos 0 ∷ [])) (pos 7 ∷ pos 8 ∷ pos 9 ∷ []))
+    ((runs (object 1 (1 ∷ 2 ∷ 3 ∷ []) [] [] (loop 0 0 0 0 ∷ []) (wordCON 0 ∷ wordCON 1 ∷ wordCON 2 ∷ wordDOI 0 ∷ wordHLT 0 ∷ [])) (pos 0 ∷ []) freshLent million, ended 0 5 0 (lends 4 0 0 []) (pos 3 ∷ []))
+    ∷ (runs (object 3 (1 ∷ 2 ∷ 0 ∷ []) [] [] (loop 0 1 2 0 ∷ []) (wordCON 0 ∷ wordCON 1 ∷ wordCON 2 ∷ wordDOI 0 ∷ wordHLT 0 ∷ [])) (pos 7 ∷ pos 8 ∷ pos 9 ∷ []) freshLent million, ended 6 4 0 (lends 3 3 0 (pos 1 ∷ pos 2 ∷ pos 0 ∷ [])) (pos 7 ∷ pos 8 ∷ pos 9 ∷ []))
     ∷ [])
 unfolding checked objectBytes objectWords signedWord readObject signedOf right41 refused42 refused43 rightConstant rightElement rightLoop rightLine rightNamed right43 flowOf heights decode operationOf operandOf fits ceiling place turn step apply kept divided keep drops taken given right50 right51 sequenceOf haltNumber running right52
 runs-i4 = refl
 
 runs-i5 : Agree
-    ((runs (object 3 [] [] [] (loop 0 1 2 0 ∷ []) (DOE 0 ∷ HLT 0 ∷ [])) (pos 9 ∷ pos 1 ∷ pos 0 ∷ []) freshLent million, ended 6 1 0 (lends 0 0 0 []) (pos 9 ∷ pos 1 ∷ pos 0 ∷ []))
-    ∷ (runs (object 3 [] [] [] (loop 0 1 2 0 ∷ []) (DOE 0 ∷ HLT 0 ∷ [])) (negsuc 2 ∷ negsuc 0 ∷ pos 1 ∷ []) freshLent million, ended 0 4 0 (lends 1 0 0 []) (negsuc 0 ∷ negsuc 0 ∷ pos 1 ∷ []))
-    ∷ (runs (object 2 [] [] [] (loop 0 1 0 0 ∷ []) (DOE 0 ∷ HLT 0 ∷ [])) (pos 1 ∷ pos 8 ∷ []) freshLent million, ended 0 5 0 (lends 1 0 0 []) (pos 8 ∷ pos 8 ∷ []))
+    ((runs (object 3 [] [] [] (loop 0 1 2 0 ∷ []) (wordDOE 0 ∷ wordHLT 0 ∷ [])) (pos 9 ∷ pos 1 ∷ pos 0 ∷ []) freshLent million, ended 6 1 0 (lends 0 0 0 []) (pos 9 ∷ pos 1 ∷ pos 0 ∷ []))
+    ∷ (runs (object 3 [] [] [] (loop 0 1 2 0 ∷ []) (wordDOE 0 ∷ wordHLT 0 ∷ [])) (negsuc 2 ∷ negsuc 0 ∷ pos 1 ∷ []) freshLent million, ended 0 4 0 (lends 1 0 0 []) (negsuc 0 ∷ negsuc 0 ∷ pos 1 ∷ []))
+    ∷ (runs (object 2 [] [] [] (loop 0 1 0 0 ∷ []) (wordDOE 0 ∷ wordHLT 0 ∷ [])) (pos 1 ∷ pos 8 ∷ []) freshLent million, ended 0 5 0 (lends 1 0 0 []) (pos 8 ∷ pos 8 ∷ []))
     ∷ [])
 unfolding checked objectBytes objectWords signedWord readObject signedOf right41 refused42 refused43 rightConstant rightElement rightLoop rightLine rightNamed right43 flowOf heights decode operationOf operandOf fits ceiling place turn step apply kept divided keep drops taken given right50 right51 sequenceOf haltNumber running right52
 runs-i5 = refl
 
 benches-j1 : Agree
-    ((benches (withNames (named (65 ∷ []) 9 0 1 ∷ []) (withLines (line 5 0 99 ∷ []) (object 1 (100000 ∷ []) (element 0 0 0 0 0 (pos 1) 0 0 (pos 1) ∷ []) (9 ∷ 9 ∷ 9 ∷ []) (loop 9 9 9 9 ∷ []) (HLT 0 ∷ does 16 5 ∷ CON 0 ∷ BR3 0 ∷ [])))) (pos 0 ∷ []) million, ended 0 1 0 (lends 0 0 0 []) (pos 0 ∷ []))
-    ∷ (benches (object 0 (100000 ∷ []) [] [] [] (CON 0 ∷ HLT 0 ∷ [])) [] million, ended 8 1 0 (lends 0 0 0 []) [])
-    ∷ (benches (withDigits 10 (plain (HLT 0 ∷ []))) [] million, notRun (refusal 41 0 0) freshLent [])
-    ∷ (benches (object 1 [] [] [] [] (HLT 0 ∷ [])) [] million, notRun (refusal 50 0 0) freshLent [])
+    ((benches (withNames (named (65 ∷ []) 9 0 1 ∷ []) (withLines (line 5 0 99 ∷ []) (object 1 (100000 ∷ []) (element 0 0 0 0 0 (pos 1) 0 0 (pos 1) ∷ []) (9 ∷ 9 ∷ 9 ∷ []) (loop 9 9 9 9 ∷ []) (wordHLT 0 ∷ does 16 5 ∷ wordCON 0 ∷ wordBR3 0 ∷ [])))) (pos 0 ∷ []) million, ended 0 1 0 (lends 0 0 0 []) (pos 0 ∷ []))
+    ∷ (benches (object 0 (100000 ∷ []) [] [] [] (wordCON 0 ∷ wordHLT 0 ∷ [])) [] million, ended 8 1 0 (lends 0 0 0 []) [])
+    ∷ (benches (withDigits 10 (codeOnly (wordHLT 0 ∷ []))) [] million, notRun (refusal 41 0 0) freshLent [])
+    ∷ (benches (object 1 [] [] [] [] (wordHLT 0 ∷ [])) [] million, notRun (refusal 50 0 0) freshLent [])
     ∷ [])
 unfolding checked objectBytes objectWords signedWord readObject signedOf right41 refused42 refused43 rightConstant rightElement rightLoop rightLine rightNamed right43 flowOf heights decode operationOf operandOf fits ceiling place turn step apply kept divided keep drops taken given right50 right51 sequenceOf haltNumber benching benchStep entryRight
 benches-j1 = refl
 
 benches-j2 : Agree
-    ((benches (object 3 (1 ∷ []) [] [] (loop 0 1 2 9 ∷ []) (CON 0 ∷ CON 0 ∷ CON 0 ∷ DOI 0 ∷ HLT 0 ∷ [])) (pos 0 ∷ pos 0 ∷ pos 0 ∷ []) million, ended 8 4 0 (lends 3 3 0 (pos 1 ∷ pos 1 ∷ pos 1 ∷ [])) (pos 0 ∷ pos 0 ∷ pos 0 ∷ []))
-    ∷ (benches (object 0 (1 ∷ []) [] (9 ∷ 9 ∷ 2 ∷ []) [] (CON 0 ∷ BR3 0 ∷ HLT 0 ∷ [])) [] million, ended 8 2 0 (lends 1 1 0 (pos 1 ∷ [])) [])
-    ∷ (benches (object 1 [] (element 0 1 1 0 0 (pos 9) 0 9 (pos 1) ∷ []) [] [] (LDE 0 ∷ HLT 0 ∷ [])) (pos 0 ∷ []) million, ended 8 1 0 (lends 0 0 0 []) (pos 0 ∷ []))
+    ((benches (object 3 (1 ∷ []) [] [] (loop 0 1 2 9 ∷ []) (wordCON 0 ∷ wordCON 0 ∷ wordCON 0 ∷ wordDOI 0 ∷ wordHLT 0 ∷ [])) (pos 0 ∷ pos 0 ∷ pos 0 ∷ []) million, ended 8 4 0 (lends 3 3 0 (pos 1 ∷ pos 1 ∷ pos 1 ∷ [])) (pos 0 ∷ pos 0 ∷ pos 0 ∷ []))
+    ∷ (benches (object 0 (1 ∷ []) [] (9 ∷ 9 ∷ 2 ∷ []) [] (wordCON 0 ∷ wordBR3 0 ∷ wordHLT 0 ∷ [])) [] million, ended 8 2 0 (lends 1 1 0 (pos 1 ∷ [])) [])
+    ∷ (benches (object 1 [] (element 0 1 1 0 0 (pos 9) 0 9 (pos 1) ∷ []) [] [] (wordLDE 0 ∷ wordHLT 0 ∷ [])) (pos 0 ∷ []) million, ended 8 1 0 (lends 0 0 0 []) (pos 0 ∷ []))
     ∷ [])
 unfolding checked objectBytes objectWords signedWord readObject signedOf right41 refused42 refused43 rightConstant rightElement rightLoop rightLine rightNamed right43 flowOf heights decode operationOf operandOf fits ceiling place turn step apply kept divided keep drops taken given right50 right51 sequenceOf haltNumber benching benchStep entryRight
 benches-j2 = refl
 
 benches-j3 : Agree
-    ((benches (object 0 (1 ∷ []) [] [] [] (CON 0 ∷ [])) [] million, ended 8 2 0 (lends 1 1 0 (pos 1 ∷ [])) [])
-    ∷ (benches (plain (JMP 5 ∷ [])) [] million, ended 8 1 0 (lends 0 0 0 []) [])
+    ((benches (object 0 (1 ∷ []) [] [] [] (wordCON 0 ∷ [])) [] million, ended 8 2 0 (lends 1 1 0 (pos 1 ∷ [])) [])
+    ∷ (benches (codeOnly (wordJMP 5 ∷ [])) [] million, ended 8 1 0 (lends 0 0 0 []) [])
     ∷ [])
 unfolding checked objectBytes objectWords signedWord readObject signedOf right41 refused42 refused43 rightConstant rightElement rightLoop rightLine rightNamed right43 flowOf heights decode operationOf operandOf fits ceiling place turn step apply kept divided keep drops taken given right50 right51 sequenceOf haltNumber benching benchStep entryRight
 benches-j3 = refl
 
 benches-j4 : Agree
-    ((benches (plain (ADD 0 ∷ [])) [] million, ended 7 1 0 (lends 0 0 0 []) [])
-    ∷ (benches (plain (ADD 1 ∷ [])) [] million, ended 8 1 0 (lends 0 0 0 []) [])
-    ∷ (benches (object 0 (1 ∷ []) [] [] [] (CON 0 ∷ JMP 0 ∷ [])) [] 1000, ended 7 81 0 (lends 0 40 0 (replicate 40 (pos 1))) [])
-    ∷ (benches (object 1 [] (element 0 1 1 0 0 (pos 9) 0 0 (pos 1) ∷ []) [] [] (STE 0 ∷ [])) (pos 0 ∷ []) million, ended 7 1 0 (lends 0 0 0 []) (pos 0 ∷ []))
-    ∷ (benches (object 0 (0 ∷ []) [] [] [] (CON 0 ∷ DIV 0 ∷ [])) [] million, ended 7 2 0 (lends 1 1 0 (pos 0 ∷ [])) [])
+    ((benches (codeOnly (wordADD 0 ∷ [])) [] million, ended 7 1 0 (lends 0 0 0 []) [])
+    ∷ (benches (codeOnly (wordADD 1 ∷ [])) [] million, ended 8 1 0 (lends 0 0 0 []) [])
+    ∷ (benches (object 0 (1 ∷ []) [] [] [] (wordCON 0 ∷ wordJMP 0 ∷ [])) [] 1000, ended 7 81 0 (lends 0 40 0 (replicate 40 (pos 1))) [])
+    ∷ (benches (object 1 [] (element 0 1 1 0 0 (pos 9) 0 0 (pos 1) ∷ []) [] [] (wordSTE 0 ∷ [])) (pos 0 ∷ []) million, ended 7 1 0 (lends 0 0 0 []) (pos 0 ∷ []))
+    ∷ (benches (object 0 (0 ∷ []) [] [] [] (wordCON 0 ∷ wordDIV 0 ∷ [])) [] million, ended 7 2 0 (lends 1 1 0 (pos 0 ∷ [])) [])
     ∷ [])
 unfolding checked objectBytes objectWords signedWord readObject signedOf right41 refused42 refused43 rightConstant rightElement rightLoop rightLine rightNamed right43 flowOf heights decode operationOf operandOf fits ceiling place turn step apply kept divided keep drops taken given right50 right51 sequenceOf haltNumber benching benchStep entryRight
 benches-j4 = refl
 
 benches-j5 : Agree
-    ((benches (plain (ADD 1 ∷ [])) [] 0, ended 2 0 0 (lends 0 0 0 []) [])
+    ((benches (codeOnly (wordADD 1 ∷ [])) [] 0, ended 2 0 0 (lends 0 0 0 []) [])
     ∷ [])
 unfolding checked objectBytes objectWords signedWord readObject signedOf right41 refused42 refused43 rightConstant rightElement rightLoop rightLine rightNamed right43 flowOf heights decode operationOf operandOf fits ceiling place turn step apply kept divided keep drops taken given right50 right51 sequenceOf haltNumber benching benchStep entryRight
 benches-j5 = refl
 
 benches-j6 : Agree
-    ((benches (withLines (line 1 0 0 ∷ line 2 0 99 ∷ []) (object 1 (99999 ∷ []) [] [] [] (CON 0 ∷ CON 0 ∷ ADD 0 ∷ STO 0 ∷ HLT 0 ∷ []))) (pos 0 ∷ []) million, ended 0 5 1 (lends 4 0 3 []) (pos 99998 ∷ []))
+    ((benches (withLines (line 1 0 0 ∷ line 2 0 99 ∷ []) (object 1 (99999 ∷ []) [] [] [] (wordCON 0 ∷ wordCON 0 ∷ wordADD 0 ∷ wordSTO 0 ∷ wordHLT 0 ∷ []))) (pos 0 ∷ []) million, ended 0 5 1 (lends 4 0 3 []) (pos 99998 ∷ []))
     ∷ [])
 unfolding checked objectBytes objectWords signedWord readObject signedOf right41 refused42 refused43 rightConstant rightElement rightLoop rightLine rightNamed right43 flowOf heights decode operationOf operandOf fits ceiling place turn step apply kept divided keep drops taken given right50 right51 sequenceOf haltNumber benching benchStep entryRight
 benches-j6 = refl

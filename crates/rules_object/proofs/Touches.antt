@@ -13,7 +13,7 @@ use lib.IntN.{ℤ, pos, _+ℤ_, _*ℤ_}
 use Rattle.number.specs.Number.{Rule, Result, value, byZero, apply}
 use Rattle.rules_shared.specs.Runs.{Out, go, halt}
 use Rattle.rules_shared.specs.Choose.{exit, place, positive, allPositive, Turn, again, over, turn}
-use Rattle.rules_object.specs.Object.{Subscript, Element, Loop, Object}
+use Rattle.rules_object.specs.Object.{SubscriptEntry, Element, Loop, Object}
 use Rattle.rules_object.specs.Machine.{Instr, HLT, CON, LOD, STO, LDE, STE, OP, NEG, JMP, BR3, BRC, DOI, DOE, State, state, cell, top, under, operated, subscriptValue, placeOf, elementLoaded, elementStored, branched, begun, turned, ended, act, ruleOf, step}
 use Rattle.rules_object.specs.Check.{instruction}
 use Rattle.rules_object.specs.Safe.{elementCell, elementCells, loopCells, touchedBy, touches, In, AgreeIn, AlikeIn}
@@ -152,7 +152,7 @@ module _ (r : Rule) (index : ℕ) (stack c d : List ℤ) (mark : ℕ) (long : le
   abbrev Values : Instr → Type 0
   Values i = (a : ℕ) → In a (touchedBy i c) → cell c a ≡ cell d a
 
-  subscript-alike : (s : Subscript) → cell c (s .cell) ≡ cell d (s .cell) → subscriptValue c s ≡ subscriptValue d s
+  subscript-alike : (s : SubscriptEntry) → cell c (s .cell) ≡ cell d (s .cell) → subscriptValue c s ≡ subscriptValue d s
   subscript-alike s e = ap (λ z. pos (s .times) *ℤ z +ℤ s .plus) e
 
   place-alike : (e : Element) → ((a : ℕ) → In a (elementCells e c) → cell c a ≡ cell d a) → placeOf c e ≡ placeOf d e

@@ -13,7 +13,7 @@ use Rattle.rules_shared.specs.Runs.{haltNumber, Out, go, halt, run, steps}
 use Rattle.rules_object.specs.Object.{Line, Object}
 use Rattle.rules_object.specs.Bytes.{concat, bytesOf, nameWords, readObject}
 use Rattle.rules_object.specs.Machine.{State, state, fresh, ruleOf, step}
-use Rattle.rules_object.specs.Flow.{at}
+use Rattle.rules_object.specs.Flow.{heightAt}
 use Rattle.rules_object.specs.Heights.{heights}
 use Rattle.rules_object.specs.Check.{right41, rightConstant, rightElement, rightLoop, rightLine, rightNamed, right43, flowOf, benchStep}
 use Rattle.rules_shared.specs.Refusals.{Refusal, refusal, accepted, atEntry, orElse, unless}
@@ -92,7 +92,7 @@ right51 o store = all (fits (ruleOf o)) (take (o .cells) store)
 -- reachable, at its height, its stack within k digits, its mark of the code or 0
 unfoldable pub right52 : Object → List ℕ → Lent → Bool
 right52 o table l =
-    ltb (l .index) (length (o .code)) && (leb (at table (l .index)) (limits .stack) && (eqb (l .height) (at table (l .index)) &&
+    ltb (l .index) (length (o .code)) && (leb (heightAt table (l .index)) (limits .stack) && (eqb (l .height) (heightAt table (l .index)) &&
     (all (fits (ruleOf o)) (take (l .height) (l .places)) && leb (l .mark) (length (o .code)))))
 
 -- the lowest number that a store and a state are refused by

@@ -10,7 +10,7 @@ use Rattle.number.specs.Number.{fits}
 use Rattle.number.specs.Number.{add, sub, mul, div}
 use Rattle.rules_shared.specs.Limits.{limits}
 use Rattle.rules_shared.specs.Runs.{badStack, badInstruction, Out, halt}
-use Rattle.rules_object.specs.Object.{Subscript, Element, Loop, Line, Named, Object}
+use Rattle.rules_object.specs.Object.{SubscriptEntry, Element, Loop, Line, Named, Object}
 use Rattle.rules_object.specs.Flow.{Flow}
 use Rattle.rules_object.specs.Machine.{Instr, HLT, CON, LOD, STO, LDE, STE, OP, NEG, JMP, BR3, BRC, DOI, DOE, operationOf, operandOf, noElement, noLoop, decode, State, ruleOf, step}
 
@@ -34,7 +34,7 @@ inCells o a = ltb a (o .cells)
 unfoldable pub rightConstant : Object → ℕ → Bool
 rightConstant o c = fits (ruleOf o) (pos c)
 
-abbrev pub rightSubscript : Object → Subscript → Bool
+abbrev pub rightSubscript : Object → SubscriptEntry → Bool
 rightSubscript o s = fits (ruleOf o) (pos (s .times)) && (fits (ruleOf o) (s .plus) && inCells o (s .cell))
 
 unfoldable pub rightElement : Object → Element → Bool

@@ -22,31 +22,31 @@ pub record Flow : Type 0 where
 abbrev pub never : ℕ
 never = 255
 
--- read at instructions only, so the default says nothing
-abbrev pub at : List ℕ → ℕ → ℕ
-at H a = getD H a 0
+-- an instruction's height in a table; read at instructions only, so the default says nothing
+abbrev pub heightAt : List ℕ → ℕ → ℕ
+heightAt H a = getD H a 0
 
 -- the height after the instruction a
 abbrev pub after : Flow → List ℕ → ℕ → ℕ
-after F H a = at H a - F .takes a + F .gives a
+after F H a = heightAt H a - F .takes a + F .gives a
 
 -- The kth successor of a exists and has the resulting height, which is one: 255 would read as never.
 pub record Lead (F : Flow) (H : List ℕ) (a k : ℕ) : Type 0 where
   pub inside : F .next a k < F .n
   pub low : after F H a ≤ limits .stack
-  pub is : at H (F .next a k) ≡ after F H a
+  pub is : heightAt H (F .next a k) ≡ after F H a
 
 -- a, which has a height, can pop what it pops, and each of its successors exists and has the resulting height
 pub record Fine (F : Flow) (H : List ℕ) (a : ℕ) : Type 0 where
-  pub room : F .takes a ≤ at H a
+  pub room : F .takes a ≤ heightAt H a
   pub leads : (k : ℕ) → k < F .width a → Lead F H a k
 
 -- a table: it gives each instruction 0 to 40 or never, instruction 0 has 0, and each one with a height is fine
 pub record Valid (F : Flow) (H : List ℕ) : Type 0 where
   pub sized : F .n ≤ length H
-  pub begins : (0 < F .n) × (at H 0 ≡ 0)
-  pub low : (a : ℕ) → a < F .n → (at H a ≤ limits .stack) ⊎ (at H a ≡ never)
-  pub each : (a : ℕ) → a < F .n → at H a ≤ limits .stack → Fine F H a
+  pub begins : (0 < F .n) × (heightAt H 0 ≡ 0)
+  pub low : (a : ℕ) → a < F .n → (heightAt H a ≤ limits .stack) ⊎ (heightAt H a ≡ never)
+  pub each : (a : ℕ) → a < F .n → heightAt H a ≤ limits .stack → Fine F H a
 
 pub record NoTable (F : Flow) : Type 0 where
   pub none : (U : List ℕ) → Valid F U → ⊥
@@ -71,13 +71,13 @@ pub record PathsAgree (F : Flow) : Type 0 where
 
 -- U has every height that H has
 pub record Below (F : Flow) (H U : List ℕ) : Type 0 where
-  pub has : (a : ℕ) → a < F .n → at H a ≤ limits .stack → at U a ≡ at H a
+  pub has : (a : ℕ) → a < F .n → heightAt H a ≤ limits .stack → heightAt U a ≡ heightAt H a
 
 -- its heights are those that paths come with, so every table has them
 pub record Least (F : Flow) (H : List ℕ) : Type 0 where
   pub valid : Valid F H
   pub least : (U : List ℕ) → Valid F U → Below F H U
-  pub reach : (a : ℕ) → a < F .n → at H a ≤ limits .stack → Reached F a (at H a)
+  pub reach : (a : ℕ) → a < F .n → heightAt H a ≤ limits .stack → Reached F a (heightAt H a)
 
 -- The answer is exact: the least table, with an entry for each instruction; or none, and then there is no table, and paths do not agree.
 pub data Exact (F : Flow) : Option (List ℕ) → Type 0 where

@@ -9,7 +9,7 @@ use lib.IntN.{ℤ, pos, negℤ, _+ℤ_, _*ℤ_}
 use Rattle.number.specs.Number.{Rule, Op, add, sub, mul, div, Result, value, byZero, apply}
 use Rattle.rules_shared.specs.Runs.{Halt, atStop, atEnd, divideByZero, badSubscript, badExit, badParameter, Out, go, halt}
 use Rattle.rules_shared.specs.Choose.{sign3, exit, place, positive, allPositive, Turn, again, over, turn, marked}
-use Rattle.rules_object.specs.Object.{Subscript, Element, Loop, Object}
+use Rattle.rules_object.specs.Object.{SubscriptEntry, Element, Loop, Object}
 
 -- ---- what a word says
 
@@ -35,7 +35,7 @@ operationOf word = word / 2 ^ 24
 unfoldable pub operandOf : ℕ → ℕ
 operandOf word = word % 2 ^ 24
 
-abbrev pub noSubscript : Subscript
+abbrev pub noSubscript : SubscriptEntry
 noSubscript = record { times = 0; cell = 0; plus = pos 0 }
 
 -- entries that stand in for those outside a body, where nothing was checked
@@ -108,7 +108,7 @@ abbrev pub operated : Result → State → List ℤ → Out State
 operated (value v lost) t s = go (state (suc (t .index)) (v ∷ s) (t .store) (marked (t .mark) lost (t .index)))
 operated byZero t s = halt divideByZero t
 
-abbrev pub subscriptValue : List ℤ → Subscript → ℤ
+abbrev pub subscriptValue : List ℤ → SubscriptEntry → ℤ
 subscriptValue store s = pos (s .times) *ℤ cell store (s .cell) +ℤ s .plus
 
 abbrev pub placeOf : List ℤ → Element → Option ℕ

@@ -5,7 +5,7 @@ use mathlib.Core.List.{List}
 use lib.IntN.{ℤ}
 
 -- multiplier, cell and signed addend
-pub record Subscript : Type 0 where
+pub record SubscriptEntry : Type 0 where
   pub times : ℕ
   pub cell : ℕ
   pub plus : ℤ
@@ -14,8 +14,8 @@ pub record Element : Type 0 where
   pub base : ℕ
   pub rows : ℕ
   pub columns : ℕ
-  pub first : Subscript
-  pub second : Subscript
+  pub first : SubscriptEntry
+  pub second : SubscriptEntry
 
 -- a DO: the cells of its variable, limit and step, and its body's address
 pub record Loop : Type 0 where

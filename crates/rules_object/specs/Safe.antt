@@ -15,7 +15,7 @@ use Rattle.rules_object.specs.Object.{Element, Loop, Object}
 use Rattle.rules_shared.specs.Lists.{Each}
 use Rattle.rules_object.specs.Machine.{Instr, HLT, CON, LOD, STO, LDE, STE, OP, NEG, JMP, BR3, BRC, DOI, DOE, State, state, cell, placeOf, ruleOf, step}
 use Rattle.rules_object.specs.Check.{right43, entryRight, pops, pushes, instruction, benchStep}
-use Rattle.rules_object.specs.Flow.{at}
+use Rattle.rules_object.specs.Flow.{heightAt}
 use Rattle.rules_shared.specs.Refusals.{accepted}
 use Rattle.rules_shared.specs.Output.{Written}
 use Rattle.rules_object.specs.Calls.{Lent, Ran, mapOf}
@@ -80,7 +80,7 @@ pub record Right (o : Object) (t : State) : Type 0 where
   pub cells : Each (λ a. a < o .cells) (touches o t)
 
 -- at every state of the unguarded run from t the instruction can be done, no halt is 7 or 8, and the guarded run is the same, step by step
-pub record NoFault (o : Object) (t : State) : Type 0 where
+pub record Faultless (o : Object) (t : State) : Type 0 where
   pub right : (n : ℕ) (u : State) → run (step o) n t ≡ go u → Right o u
   pub halts : (n : ℕ) (h : Halt) (u : State) → run (step o) n t ≡ halt h u → haltNumber h < 7
   pub guarded : (n : ℕ) → run (benchStep o) n t ≡ run (step o) n t
@@ -95,7 +95,7 @@ Within o z = natAbs z < ceiling (ruleOf o)
 -- in the code, at its height, all numbers within the digits, and the mark of the code or 0
 pub record Stands (o : Object) (table : List ℕ) (t : State) : Type 0 where
   pub inside : t .index < length (o .code)
-  pub height : at table (t .index) ≡ length (t .stack)
+  pub height : heightAt table (t .index) ≡ length (t .stack)
   pub low : length (t .stack) ≤ limits .stack
   pub stack : Each (Within o) (t .stack)
   pub long : o .cells ≤ length (t .store)
@@ -135,7 +135,7 @@ pub record MapUnchanged (table : List ℕ) (m : Written) : Type 0 where
   pub sameTable : m .output ≡ table
 
 -- An accepted map: its bytes stand at the table's start, and the bytes past them stay.
-pub record Maps (o : Object) (table : List ℕ) (m : Written) : Type 0 where
+pub record MapWritten (o : Object) (table : List ℕ) (m : Written) : Type 0 where
   pub accepts : m .refusal ≡ accepted
   pub count : m .length ≡ length (mapOf o)
   pub first : take (m .length) (m .output) ≡ mapOf o

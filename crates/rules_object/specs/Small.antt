@@ -6,64 +6,65 @@ use lib.ListN.{take, replicate}
 use lib.IntN.{ℤ}
 use Rattle.rules_object.specs.Object.{Element, Loop, Line, Named, Object}
 
--- operation and operand
+-- words of code, by operation and operand
 abbrev pub does : ℕ → ℕ → ℕ
 does operation operand = operation * 2 ^ 24 + operand
 
-abbrev pub HLT : ℕ → ℕ
-HLT x = does 0 x
+abbrev pub wordHLT : ℕ → ℕ
+wordHLT x = does 0 x
 
-abbrev pub CON : ℕ → ℕ
-CON x = does 1 x
+abbrev pub wordCON : ℕ → ℕ
+wordCON x = does 1 x
 
-abbrev pub LOD : ℕ → ℕ
-LOD x = does 2 x
+abbrev pub wordLOD : ℕ → ℕ
+wordLOD x = does 2 x
 
-abbrev pub STO : ℕ → ℕ
-STO x = does 3 x
+abbrev pub wordSTO : ℕ → ℕ
+wordSTO x = does 3 x
 
-abbrev pub LDE : ℕ → ℕ
-LDE x = does 4 x
+abbrev pub wordLDE : ℕ → ℕ
+wordLDE x = does 4 x
 
-abbrev pub STE : ℕ → ℕ
-STE x = does 5 x
+abbrev pub wordSTE : ℕ → ℕ
+wordSTE x = does 5 x
 
-abbrev pub ADD : ℕ → ℕ
-ADD x = does 6 x
+abbrev pub wordADD : ℕ → ℕ
+wordADD x = does 6 x
 
-abbrev pub SUB : ℕ → ℕ
-SUB x = does 7 x
+abbrev pub wordSUB : ℕ → ℕ
+wordSUB x = does 7 x
 
-abbrev pub MUL : ℕ → ℕ
-MUL x = does 8 x
+abbrev pub wordMUL : ℕ → ℕ
+wordMUL x = does 8 x
 
-abbrev pub DIV : ℕ → ℕ
-DIV x = does 9 x
+abbrev pub wordDIV : ℕ → ℕ
+wordDIV x = does 9 x
 
-abbrev pub NEG : ℕ → ℕ
-NEG x = does 10 x
+abbrev pub wordNEG : ℕ → ℕ
+wordNEG x = does 10 x
 
-abbrev pub JMP : ℕ → ℕ
-JMP x = does 11 x
+abbrev pub wordJMP : ℕ → ℕ
+wordJMP x = does 11 x
 
-abbrev pub BR3 : ℕ → ℕ
-BR3 x = does 12 x
+abbrev pub wordBR3 : ℕ → ℕ
+wordBR3 x = does 12 x
 
-abbrev pub BRC : ℕ → ℕ
-BRC x = does 13 x
+abbrev pub wordBRC : ℕ → ℕ
+wordBRC x = does 13 x
 
-abbrev pub DOI : ℕ → ℕ
-DOI x = does 14 x
+abbrev pub wordDOI : ℕ → ℕ
+wordDOI x = does 14 x
 
-abbrev pub DOE : ℕ → ℕ
-DOE x = does 15 x
+abbrev pub wordDOE : ℕ → ℕ
+wordDOE x = does 15 x
 
 abbrev pub object : ℕ → List ℕ → List Element → List ℕ → List Loop → List ℕ → Object
 object cells constants elements exits dos code =
     record { digits = 5; cells = cells; constants = constants; elements = elements; exits = exits; dos = dos; code = code; lines = []; names = [] }
 
-abbrev pub plain : List ℕ → Object
-plain code = object 0 [] [] [] [] code
+-- code alone, with no entry and no cell
+abbrev pub codeOnly : List ℕ → Object
+codeOnly code = object 0 [] [] [] [] code
 
 abbrev pub element : ℕ → ℕ → ℕ → ℕ → ℕ → ℤ → ℕ → ℕ → ℤ → Element
 element base rows columns m c a n d b =

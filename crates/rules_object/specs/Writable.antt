@@ -4,7 +4,7 @@ use mathlib.Core.Path.{_≡_}
 use Prim.Native.Nat.{ℕ, _+_, _*_, _^_, _<_}
 use lib.ListN.{length}
 use lib.IntN.{ℤ, pos, negsuc}
-use Rattle.rules_object.specs.Object.{Subscript, Element, Loop, Line, Named, Object}
+use Rattle.rules_object.specs.Object.{SubscriptEntry, Element, Loop, Line, Named, Object}
 use Rattle.rules_shared.specs.Lists.{Each}
 
 abbrev pub IsByte : ℕ → Type 0
@@ -17,7 +17,7 @@ abbrev pub IsSigned : ℤ → Type 0
 IsSigned (pos n) = n < 2 ^ 31
 IsSigned (negsuc n) = n < 2 ^ 31
 
-pub record WritableSubscript (s : Subscript) : Type 0 where
+pub record WritableSubscript (s : SubscriptEntry) : Type 0 where
   pub times : IsWord (s .times)
   pub cell : IsWord (s .cell)
   pub plus : IsSigned (s .plus)

@@ -13,10 +13,10 @@ use lib.IntN.{ℤ, pos}
 use Rattle.rules_shared.specs.Limits.{limits}
 use Rattle.rules_object.specs.Object.{Object}
 use Rattle.rules_object.specs.Machine.{State, state, fresh, step}
-use Rattle.rules_object.specs.Flow.{at}
+use Rattle.rules_object.specs.Flow.{heightAt}
 use Rattle.rules_object.specs.Bytes.{readObject}
 use Rattle.rules_object.specs.Check.{right41, benchStep}
-use Rattle.rules_object.specs.Safe.{NoFault, Stands}
+use Rattle.rules_object.specs.Safe.{Faultless, Stands}
 use Rattle.rules_shared.specs.Refusals.{Refusal, orElse, unless}
 use Rattle.rules_object.specs.Calls.{Checked, passed, Lent, taken, right50, right51, right52, sequenceOf, runFrom, orRefused, runChecked, running, benchObject, benching, refused50to52}
 use Rattle.rules_object.specs.Calls as book
@@ -157,9 +157,9 @@ module _ (e : Layout) (s table : List ℕ) (store : List ℤ) (i h m : ℕ) (pla
     unfolding right52
     height-low =
         let g₁ = both (ltb i (length (O .code))) _ right-52 in
-        let g₂ = both (leb (at T i) (limits .stack)) _ (g₁ .1) in
-        let g₃ = both (eqb h (at T i)) _ (g₂ .1) in
-        omega (arith, leb-true (at T i) (limits .stack) (g₂ .0), eqb-true h (at T i) (g₃ .0))
+        let g₂ = both (leb (heightAt T i) (limits .stack)) _ (g₁ .1) in
+        let g₃ = both (eqb h (heightAt T i)) _ (g₂ .1) in
+        omega (arith, leb-true (heightAt T i) (limits .stack) (g₂ .0), eqb-true h (heightAt T i) (g₃ .0))
 
     module _ (i′ h′ : ℕ) (same-i : i′ ≡ i) (same-h : h′ ≡ h) (p : ℕ) (power : p ≡ 10 ^ e .digits) (places′ : List ℤ) (clean : Cleared places places′ h′) where
       starts : stateOf (regs i′ h′ m) places′ store ≡ taken L store
@@ -174,7 +174,7 @@ module _ (e : Layout) (s table : List ℕ) (store : List ℤ) (i h m : ℕ) (pla
           stands-held e s p placed (P .right) power T (regs i′ h′ m) places′ store (clean .long ∙ forty) (omega (arith, height-low))
           (cleared-above places places′ h′ forty clean) stands′
 
-      pub no-fault : NoFault O (stateOf (regs i′ h′ m) places′ store)
+      pub no-fault : Faultless O (stateOf (regs i′ h′ m) places′ store)
       no-fault = stands-no-fault P (stateOf (regs i′ h′ m) places′ store) stands′
 
       run-low : Low O (stateOf (regs i′ h′ m) places′ store)

@@ -5,7 +5,7 @@ use mathlib.Core.Option.{Option, none, some}
 use Prim.Native.Nat.{ℕ, _+_, _*_, _≤_, _<_}
 use lib.ListN.{length}
 use lib.IntN.{ℤ, natAbs}
-use Rattle.rules_object.specs.Object.{Subscript}
+use Rattle.rules_object.specs.Object.{SubscriptEntry}
 use Rattle.rules_object.specs.Bytes.{signedOf}
 use Rattle.rules_object.specs.Machine.{cell}
 use Rattle.word.specs.Word.{wordAt}
@@ -18,7 +18,7 @@ pub record Cell (so : List ℤ) (a : ℕ) : Type 0 where
   pub small : natAbs (cell so a) < 1000000000
 
 -- a subscript at byte b: multiplier, cell, addend
-abbrev pub subscriptAt : List ℕ → ℕ → Subscript
+abbrev pub subscriptAt : List ℕ → ℕ → SubscriptEntry
 subscriptAt s b = record { times = wordAt s b; cell = wordAt s (b + 4); plus = signedOf (wordAt s (b + 8)) }
 
 pub record SubscriptIn (s : List ℕ) (b : ℕ) (so : List ℤ) : Type 0 where
