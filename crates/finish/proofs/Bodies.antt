@@ -13,10 +13,10 @@ use Rattle.draft.specs.declared.Counts.{Counts}
 use Rattle.addresses.specs.Given.{Judged, Starts, Holds}
 use Rattle.lines.specs.Names.{Names}
 use Rattle.settle.specs.Settling.{Settling, Leading}
-use Rattle.writer.specs.declared.Counts as words
-use Rattle.writer.specs.Bodies.{wordsOfBodies}
-use Rattle.writer.specs.Counts.{total, Within, firstWords}
-use Rattle.writer.proofs.Words.{object-bytes}
+use Rattle.body_writer.specs.declared.Counts as words
+use Rattle.contents_writer.specs.Contents.{wordsOfBodies}
+use Rattle.body_writer.specs.Counts.{total, Within, firstWords}
+use Rattle.contents_writer.proofs.Words.{object-bytes}
 use Rattle.finish.specs.Finishing.{Finished}
 
 -- how many words each body has, as the writer counts them

@@ -47,7 +47,7 @@ pub fn finish(
     let line_words = lines::lines(rows, n.statements, &starts, &mut table);
     let mut entries = [0u32; 500];
     lines::names(names, n.names, &mut entries);
-    let counts = writer::Counts {
+    let counts = body_writer::Counts {
         constants: n.constants,
         elements: 9 * n.elements,
         exits: exit_words,

@@ -1,7 +1,7 @@
 -- The whole object: its contents and its seven bodies, and the book's answer to a write.
 -- Assumes nothing.
 use mathlib.Core.Path.{_≡_, refl, ap, _∙_}
-use mathlib.Core.List.{List, [], _∷_, _++_, append-assoc, append-nil}
+use mathlib.Core.List.{List, [], _∷_, _++_}
 use Prim.Native.Nat.{ℕ, _+_, _*_, _-_, _≤_, _<_}
 use native.Mathlib.Omega.{arith}
 use lib.ListN.{length, take, drop, length-append}
@@ -10,11 +10,11 @@ use borrow.Rule.Slice.PartMut.{putMid}
 use Rattle.rules_object.specs.Bytes.{bytesOf, concat}
 use Rattle.rules_shared.specs.Output.{write}
 use Rattle.rules_object.proofs.Words.{length-bytes}
-use Rattle.writer.proofs.Over.{over}
-use Rattle.writer.specs.Bodies.{wordsOfBodies, contentsWords}
+use Rattle.body_writer.proofs.Over.{over}
+use Rattle.contents_writer.specs.Contents.{wordsOfBodies, contentsWords}
 use Rattle.writer.specs.Answer.{answer}
 use Rattle.writer.specs.declared.Wrote.the-variants.{Bytes, Short}
-use Rattle.writer.proofs.Words.{over-none, body-more}
+use Rattle.body_writer.proofs.Words.{over-none, body-more}
 
 -- ---- the book's answer
 
@@ -32,9 +32,6 @@ wrote bytes o o′ n l h e =
 -- ---- seven bodies
 
 module _ (a b c d e f g : List ℕ) where
-  pub joined : (a ++ (b ++ c)) ++ ((d ++ (e ++ f)) ++ g) ≡ concat (a ∷ b ∷ c ∷ d ∷ e ∷ f ∷ g ∷ [])
-  joined = simp (append-assoc, append-nil)
-
   pub length-all : length (concat (a ∷ b ∷ c ∷ d ∷ e ∷ f ∷ g ∷ [])) ≡ length a + length b + length c + length d + length e + length f + length g
   length-all = simp length-append (omega arith)
 

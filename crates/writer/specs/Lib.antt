@@ -1,3 +1,1 @@
-pub mod Bodies
-pub mod Counts
 pub mod Answer

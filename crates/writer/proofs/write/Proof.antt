@@ -5,7 +5,7 @@ use native.Mathlib.Omega.{arith}
 use lib.ListN.{take}
 use lib.Seq.{length-take-le}
 use Rattle.rules_object.specs.Bytes.{bytesOf}
-use Rattle.writer.specs.Bodies.{wordsOfBodies}
+use Rattle.contents_writer.specs.Contents.{wordsOfBodies}
 use Rattle.writer.proofs.Whole.{too-short, length-whole, both-parts}
 use borrow.Author.Needs.{needs}
 use Rattle.writer.proofs.write.Statement.{statement}

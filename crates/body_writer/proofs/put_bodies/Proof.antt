@@ -1,4 +1,4 @@
--- `writer::put_bodies` meets its contract: seven bodies in three parts fill what was lent. Assumes nothing.
+-- `body_writer::put_bodies` meets its contract: seven bodies in three parts fill what was lent. Assumes nothing.
 use mathlib.Core.Path.{refl, _∙_, ap}
 use Prim.Native.Nat.{_+_, _-_, _*_}
 use borrow.Rule.Slice.PartMut.{putMid}
@@ -7,11 +7,10 @@ use mathlib.Core.List.{_++_}
 use lib.ListN.{length, take}
 use lib.Seq.{length-take-le}
 use Rattle.rules_object.specs.Bytes.{bytesOf}
-use Rattle.writer.proofs.Words.{length-put, three-parts, length-three}
-use Rattle.writer.proofs.Whole.{joined}
+use Rattle.body_writer.proofs.Words.{length-put, three-parts, length-three, joined}
 use borrow.Author.Needs.{needs}
-use Rattle.writer.proofs.put_bodies.Statement.{statement}
-use Rattle.writer.proofs.put_bodies.Tie as tie
+use Rattle.body_writer.proofs.put_bodies.Statement.{statement}
+use Rattle.body_writer.proofs.put_bodies.Tie as tie
 
 add-d : tie.Need-add-d
 add-d c = search needs

@@ -8,20 +8,9 @@ use native.Mathlib.Numerals.{add-one}
 use lib.ListN.{length, take, drop, getD, length-append, drop-of-length-le}
 use lib.Seq.{take-suc, length-take-le}
 use borrow.Rule.Slice.PartMut.{putMid}
-use Rattle.rules_object.specs.Object.{Object}
-use Rattle.rules_object.specs.Bytes.{wordBytes, bytesOf, bodies, objectWords, objectBytes}
+use Rattle.rules_object.specs.Bytes.{wordBytes, bytesOf, concat}
 use Rattle.rules_object.proofs.Words.{length-bytes}
-use Rattle.writer.proofs.Over.{over, over-over, put-over, length-over}
-use Rattle.writer.specs.Bodies.{wordsOfBodies}
-
--- the words of an object are those of its bodies
-pub object-words : (o : Object) → objectWords o ≡ wordsOfBodies (o .digits) (o .cells) (bodies o)
-unfolding objectWords wordsOfBodies
-object-words o = refl
-
-pub object-bytes : (o : Object) → objectBytes o ≡ bytesOf (wordsOfBodies (o .digits) (o .cells) (bodies o))
-unfolding objectBytes
-object-bytes o = ap bytesOf (object-words o)
+use Rattle.body_writer.proofs.Over.{over, over-over, put-over, length-over}
 
 pub bytes-append : (xs ys : List ℕ) → bytesOf (xs ++ ys) ≡ bytesOf xs ++ bytesOf ys
 bytes-append [] ys = refl
@@ -90,3 +79,6 @@ three-parts o x y z b c e lx ly lz all px qy rz =
 
 pub length-three : (x y z : List ℕ) (n m k : ℕ) → length x ≡ n → length y ≡ m → length z ≡ k → length (x ++ (y ++ z)) ≡ n + m + k
 length-three x y z n m k lx ly lz = omega (arith, length-append x (y ++ z), length-append y z)
+
+pub joined : (a b c d e f g : List ℕ) → (a ++ (b ++ c)) ++ ((d ++ (e ++ f)) ++ g) ≡ concat (a ∷ b ∷ c ∷ d ∷ e ∷ f ∷ g ∷ [])
+joined a b c d e f g = simp (append-assoc, append-nil)

@@ -1,14 +1,14 @@
--- `writer::put_words` meets its contract: each word after those that are written. Assumes nothing.
+-- `body_writer::put_words` meets its contract: each word after those that are written. Assumes nothing.
 use mathlib.Core.Path.{_≡_, ap, _∙_}
 use Prim.Native.Nat.{ℕ, _≤_, _-_}
 use native.Mathlib.Omega.{arith}
 use lib.ListN.{length, take}
 use Rattle.rules_object.specs.Bytes.{bytesOf}
-use Rattle.writer.proofs.Over.{over}
-use Rattle.writer.proofs.Words.{over-none, over-all, word-more, length-first}
+use Rattle.body_writer.proofs.Over.{over}
+use Rattle.body_writer.proofs.Words.{over-none, over-all, word-more, length-first}
 use borrow.Author.Needs.{needs}
-use Rattle.writer.proofs.put_words.Statement.{statement}
-use Rattle.writer.proofs.put_words.Tie as tie
+use Rattle.body_writer.proofs.put_words.Statement.{statement}
+use Rattle.body_writer.proofs.put_words.Tie as tie
 
 abbrev Inv-loop : tie.InvT-loop
 Inv-loop part₀ words n i₀ part i = (i ≤ n) × (part ≡ over 0 (bytesOf (take i words)) part₀) × (length part ≡ length part₀)

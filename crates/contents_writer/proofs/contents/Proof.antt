@@ -1,8 +1,8 @@
--- `writer::contents` meets its contract: its words are those of the book's contents. Assumes nothing.
+-- `contents_writer::contents` meets its contract: its words are those of the book's contents. Assumes nothing.
 use native.Mathlib.Omega.{arith}
 use borrow.Author.Needs.{needs}
-use Rattle.writer.proofs.contents.Statement.{statement}
-use Rattle.writer.proofs.contents.Tie as tie
+use Rattle.contents_writer.proofs.contents.Statement.{statement}
+use Rattle.contents_writer.proofs.contents.Tie as tie
 
 cast-a2 : tie.Need-cast-a2
 cast-a2 c = search needs

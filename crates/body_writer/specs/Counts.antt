@@ -3,7 +3,7 @@
 use Prim.Native.Nat.{ℕ, _+_, _≤_}
 use mathlib.Core.List.{List, [], _∷_}
 use lib.ListN.{length, take}
-use Rattle.writer.specs.declared.Counts.{Counts}
+use Rattle.body_writer.specs.declared.Counts.{Counts}
 
 abbrev pub total : Counts → ℕ
 total n = n .constants + n .elements + n .exits + n .dos + n .code + n .lines + n .names

@@ -1,12 +1,12 @@
--- `writer::put_three` meets its contract: three parts fill what was lent. Assumes nothing.
+-- `body_writer::put_three` meets its contract: three parts fill what was lent. Assumes nothing.
 use Prim.Native.Nat.{_+_, _*_}
 use native.Mathlib.Omega.{arith}
 use lib.ListN.{take}
 use lib.Seq.{length-take-le}
-use Rattle.writer.proofs.Words.{three-parts}
+use Rattle.body_writer.proofs.Words.{three-parts}
 use borrow.Author.Needs.{needs}
-use Rattle.writer.proofs.put_three.Statement.{statement}
-use Rattle.writer.proofs.put_three.Tie as tie
+use Rattle.body_writer.proofs.put_three.Statement.{statement}
+use Rattle.body_writer.proofs.put_three.Tie as tie
 
 mul-b : tie.Need-mul-b
 mul-b c = search needs
