@@ -11,8 +11,8 @@ use Rattle.texts.specs.Taking.{over}
 use Rattle.texts.proofs.TextLaws.{over-none, over-append}
 use Rattle.cards.proofs.CardLaws.{column, columns-end}
 use Rattle.rules_deck.specs.Cards.{withoutBlanks}
-use Rattle.printing.specs.Puts.{Room, Puts}
-use Rattle.printing.proofs.PutLaws.{puts-length, one-byte}
+use Rattle.print_numbers.specs.Puts.{Room, Puts}
+use Rattle.print_numbers.proofs.PutLaws.{puts-length, one-byte}
 
 pub record Going (whole : List ℕ) (at : ℕ) (before out : List ℕ) (n : ℕ) (rest : List ℕ) : Type 0 where
   pub same : over at whole before ≡ over n rest out

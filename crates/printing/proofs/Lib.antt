@@ -1,4 +1,3 @@
-pub mod PutLaws
 pub mod Going
 pub mod ValueLaws
 pub mod Loops

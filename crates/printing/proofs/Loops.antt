@@ -13,7 +13,7 @@ use Rattle.rules_program.specs.Tidy.{values}
 use Rattle.object.specs.declared.Layout.{Layout}
 use Rattle.object.specs.Layout.{listFrom, namedAt, objectAt}
 use Rattle.printing.specs.declared.Entry.{Entry}
-use Rattle.printing.specs.Puts.{Puts}
+use Rattle.print_numbers.specs.Puts.{Puts}
 use Rattle.printing.specs.Entries.{namedIn, Reads, Inside, AllInside}
 use Rattle.printing.proofs.Going.{Going, going-start, going-on, going-as, going-end}
 use Rattle.printing.proofs.ValueLaws.{lines-more, lines-end, names-more, names-end, values-more}

@@ -1,86 +1,34 @@
-// What the program prints, written into a lent output from a place on. Each function answers the place after what it wrote.
+// The lines that the program prints, written into a lent output from a place on. Each function answers the place after what it wrote.
 ghost use mathlib.Core.Path.{_≡_};
-ghost use Prim.Native.Nat.{_+_, _%_, _*_, _≤_, _<_};
+ghost use Prim.Native.Nat.{_+_, _*_, _≤_, _<_};
 ghost use lib.ListN.{length, take, drop};
 ghost use Rattle.rules_object.specs.Machine.{cell};
 ghost use Rattle.rules_object.specs.Check.{span};
 ghost use Rattle.rules_deck.specs.Cards.{withoutBlanks};
-ghost use Rattle.rules_program.specs.Text.{numeral, signed, stated, haltLine, refusedLine, subscripts, valueLine, valueLines, nameLines};
+ghost use Rattle.rules_program.specs.Text.{haltLine, refusedLine, valueLine, valueLines, nameLines};
 ghost use Rattle.rules_program.specs.Tidy.{values};
 ghost use Rattle.object.specs.Layout.{namedAt, objectAt};
-ghost use Rattle.printing.specs.Puts.{Room, Puts};
+ghost use Rattle.print_numbers.specs.Puts.{Room, Puts};
 ghost use Rattle.printing.specs.Entries.{namedIn, Reads, Inside, AllInside};
 use object::Layout;
-
-fn put_words(out: &mut [u8], at: usize, words: &[u8]) -> usize
-    requires { ⌜ Room (now words) at (now out) ⌝ }
-    ensures { λ r. ⌜ Puts (now (words .entry)) at (now (out .entry)) (now (out .exit)) r ⌝ }
-{
-    let mut i = 0;
-    while i < words.len() {
-        out[at + i] = words[i];
-        i += 1;
-    }
-    at + i
-}
-
-fn digit(n: u64) -> u8
-    ensures { λ r. ⌜ r ≡ 48 + n % 10 ⌝ }
-{
-    48 + ((n % 10) as u8)
-}
-
-// The digits before the last, then the last.
-pub fn put_numeral(out: &mut [u8], at: usize, n: u64) -> usize
-    requires { ⌜ Room (numeral n) at (now out) ⌝ }
-    ensures { λ r. ⌜ Puts (numeral n) at (now (out .entry)) (now (out .exit)) r ⌝ }
-{
-    if n < 10 {
-        out[at] = digit(n);
-        return at + 1;
-    }
-    let end = put_numeral(out, at, n / 10);
-    out[end] = digit(n);
-    end + 1
-}
-
-fn put_stated(out: &mut [u8], at: usize, words: &[u8], n: u64) -> usize
-    requires { ⌜ Room (stated (now words) n) at (now out) ⌝ }
-    ensures { λ r. ⌜ Puts (stated (now (words .entry)) n) at (now (out .entry)) (now (out .exit)) r ⌝ }
-{
-    let end = put_words(out, at, words);
-    put_numeral(out, end, n)
-}
 
 pub fn put_halt(out: &mut [u8], at: usize, halt: u32, steps: u32, sequence: u32) -> usize
     requires { ⌜ Room (haltLine halt steps sequence) at (now out) ⌝ }
     ensures { λ r. ⌜ Puts (haltLine halt steps sequence) at (now (out .entry)) (now (out .exit)) r ⌝ }
 {
-    let a = put_stated(out, at, b"HALT ", halt as u64);
-    let b = put_stated(out, a, b" STEPS ", steps as u64);
-    let c = put_stated(out, b, b" DROP ", sequence as u64);
-    put_words(out, c, b"\n")
+    let a = print_numbers::put_stated(out, at, b"HALT ", halt as u64);
+    let b = print_numbers::put_stated(out, a, b" STEPS ", steps as u64);
+    let c = print_numbers::put_stated(out, b, b" DROP ", sequence as u64);
+    print_numbers::put_words(out, c, b"\n")
 }
 
 pub fn put_refused(out: &mut [u8], at: usize, number: u32, place: u32) -> usize
     requires { ⌜ Room (refusedLine number place) at (now out) ⌝ }
     ensures { λ r. ⌜ Puts (refusedLine number place) at (now (out .entry)) (now (out .exit)) r ⌝ }
 {
-    let a = put_stated(out, at, b"REFUSED ", number as u64);
-    let b = put_stated(out, a, b" ", place as u64);
-    put_words(out, b, b"\n")
-}
-
-pub fn put_signed(out: &mut [u8], at: usize, v: i64) -> usize
-    requires { ⌜ Room (signed v) at (now out) ⌝ }
-    ensures { λ r. ⌜ Puts (signed v) at (now (out .entry)) (now (out .exit)) r ⌝ }
-{
-    let size = number::size(v);
-    if v < 0 {
-        let end = put_words(out, at, b"-");
-        return put_numeral(out, end, size);
-    }
-    put_numeral(out, at, size)
+    let a = print_numbers::put_stated(out, at, b"REFUSED ", number as u64);
+    let b = print_numbers::put_stated(out, a, b" ", place as u64);
+    print_numbers::put_words(out, b, b"\n")
 }
 
 // ---- names with values
@@ -123,23 +71,6 @@ fn put_name(out: &mut [u8], at: usize, object: &[u8], from: usize) -> usize
     n
 }
 
-// Of the element that has i elements before it; they lie by columns.
-fn put_subscripts(out: &mut [u8], at: usize, rows: usize, columns: usize, i: usize) -> usize
-    requires { ⌜ (i < 4096) × Room (subscripts rows columns i) at (now out) ⌝ }
-    ensures { λ r. ⌜ Puts (subscripts rows columns i) at (now (out .entry)) (now (out .exit)) r ⌝ }
-{
-    if rows == 0 {
-        return at;
-    }
-    if columns == 0 {
-        let a = put_stated(out, at, b"(", (i + 1) as u64);
-        return put_words(out, a, b")");
-    }
-    let a = put_stated(out, at, b"(", (i % rows + 1) as u64);
-    let b = put_stated(out, a, b",", (i / rows + 1) as u64);
-    put_words(out, b, b")")
-}
-
 fn value_at(store: &[i64], c: usize) -> i64
     requires { ⌜ c < length (now store) ⌝ }
     ensures { λ r. ⌜ r ≡ cell (now (store .entry)) c ⌝ }
@@ -154,10 +85,10 @@ fn put_value(out: &mut [u8], at: usize, object: &[u8], e: Entry, store: &[i64], 
 {
     let v = value_at(store, e.first + i);
     let a = put_name(out, at, object, e.text);
-    let b = put_subscripts(out, a, e.rows, e.columns, i);
-    let c = put_words(out, b, b" ");
-    let d = put_signed(out, c, v);
-    put_words(out, d, b"\n")
+    let b = print_numbers::put_subscripts(out, a, e.rows, e.columns, i);
+    let c = print_numbers::put_words(out, b, b" ");
+    let d = print_numbers::put_signed(out, c, v);
+    print_numbers::put_words(out, d, b"\n")
 }
 
 // How many cells: one for a plain name.

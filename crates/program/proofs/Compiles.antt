@@ -1,4 +1,4 @@
--- What compiling writes is an object that can be printed, and what is printed of the whole input.
+-- What is printed of what compiling answered, by its number of refusal; what it writes is an object that can be printed; and what is printed of the whole input.
 -- Assumes nothing.
 use Prim.Native.Nat.{ℕ, zero, suc, _-_, _≤_, _<_}
 use mathlib.Core.Path.{_≡_, refl, sym, ap, _∙_, subst}
@@ -14,15 +14,25 @@ use Rattle.rules_shared.specs.Output.{Written, writtenIf, write}
 use Rattle.rules_deck.specs.Trees.{Statement}
 use Rattle.rules_deck.specs.Translation.{translate}
 use Rattle.rules_deck.specs.Cards.{cardLength}
+use Rattle.rules_deck.specs.Seen.{objectIn}
 use Rattle.rules_deck.specs.Compile.{Read, notRead, read, deckOf, writeRead, compiling}
 use Rattle.rules_deck.proofs.RefusedDeck.{ReadSome, refused-some}
 use Rattle.rules_program.specs.Text.{refusedLine}
-use Rattle.rules_program.specs.Program.{controlDigits, mostBytes, compiledLines, deckLines, printed}
+use Rattle.rules_program.specs.Program.{controlDigits, printedObject, mostBytes, writtenLines, compiledLines, deckLines, printed}
 use Rattle.rules_program.specs.Tidy.{TidyObject}
 use Rattle.rules_program.proofs.TidyDeck.{compiled-tidy}
 use Rattle.compiler.specs.declared.Compiled.{Compiled}
 use Rattle.compiler.specs.Compiled.{answer}
-use Rattle.program.specs.Printing.{digitsOf, Object}
+use Rattle.control_card.specs.Digits.{digitsOf}
+use Rattle.program.specs.Compiling.{writtenAs, Object}
+
+pub compiled-refused : (number place n : ℕ) (object : List ℕ) → (number ≡ 0 → ⊥) → compiledLines (writtenAs number place n object) ≡ refusedLine number place
+compiled-refused zero place n object h = absurd (h refl)
+compiled-refused (suc m) place n object h = refl
+
+pub compiled-printed : (number place n : ℕ) (object : List ℕ) → number ≡ 0 → compiledLines (writtenAs number place n object) ≡ printedObject (take n object)
+unfolding objectIn
+compiled-printed number place n object e = ap (λ (m : ℕ). writtenLines (writtenAs m place n object) m) e
 
 module _ (k : ℕ) (deck output : List ℕ) where
   object-from : (r : Read) → deckOf k deck ≡ r → writeRead k output r .refusal .number ≡ 0 → Object (writeRead k output r .length) (writeRead k output r .output)

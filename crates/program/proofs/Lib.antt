@@ -1,3 +1,1 @@
-pub mod CardLaws
-pub mod RanLaws
 pub mod Compiles

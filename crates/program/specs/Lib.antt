@@ -1,1 +1,1 @@
-pub mod Printing
+pub mod Compiling

@@ -4,7 +4,7 @@ use native.Mathlib.Omega.{arith}
 use lib.ListN.{length-replicate}
 use lib.Seq.{length-take-le}
 use Prim.Native.Nat.{ℕ}
-use Rattle.printing.proofs.PutLaws.{puts-length}
+use Rattle.print_numbers.proofs.PutLaws.{puts-length}
 use borrow.Author.Needs.{needs}
 use Rattle.deck1401.proofs.main.Statement.{statement}
 use Rattle.deck1401.proofs.main.Tie as tie

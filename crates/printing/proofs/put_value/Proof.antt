@@ -11,18 +11,18 @@ use Rattle.rules_deck.specs.Cards.{withoutBlanks}
 use Rattle.rules_deck.specs.Punch.{bytes}
 use Rattle.rules_program.specs.Text.{signed, lineEnd, subscripts, valueLine}
 use Rattle.printing.specs.Entries.{namedIn}
-use Rattle.printing.specs.Puts.{Room}
+use Rattle.print_numbers.specs.Puts.{Room}
 use Rattle.printing.proofs.ValueLaws.{line-low}
-use Rattle.printing.proofs.PutLaws.{room-first, room-then, puts-both, puts-as, room-as}
+use Rattle.print_numbers.proofs.PutLaws.{room-first, room-then, puts-both, puts-as, room-as}
 use borrow.Author.Needs.{needs}
 use Rattle.printing.proofs.put_value.Statement.{statement}
 use Rattle.printing.proofs.put_value.Tie as tie
 use Rattle.printing.proofs.put_value.Reads as reads
 use Rattle.printing.proofs.put_value.Lts as lts
 use Rattle.printing.proofs.put_name.Reads as put-name-reads
-use Rattle.printing.proofs.put_signed.Reads as put-signed-reads
-use Rattle.printing.proofs.put_subscripts.Reads as put-subscripts-reads
-use Rattle.printing.proofs.put_words.Reads as put-words-reads
+use Rattle.print_numbers.proofs.put_signed.Reads as put-signed-reads
+use Rattle.print_numbers.proofs.put_subscripts.Reads as put-subscripts-reads
+use Rattle.print_numbers.proofs.put_words.Reads as put-words-reads
 use Rattle.printing.proofs.value_at.Reads as value-at-reads
 
 add-value-at : tie.Need-add-value-at

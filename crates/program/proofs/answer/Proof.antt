@@ -7,7 +7,7 @@ use lib.ListN.{replicate}
 use Rattle.rules_deck.specs.Compile.{compiling}
 use Rattle.rules_program.specs.Program.{mostBytes, compiledLines}
 use Rattle.rules_program.proofs.Lengths.{refused-length}
-use Rattle.printing.proofs.PutLaws.{puts-as}
+use Rattle.print_numbers.proofs.PutLaws.{puts-as}
 use Rattle.program.proofs.Compiles.{printed-refused, printed-deck, part-rest}
 use borrow.Author.Needs.{needs}
 use Rattle.program.proofs.answer.Statement.{statement}
@@ -15,7 +15,7 @@ use Rattle.program.proofs.answer.Tie as tie
 use Rattle.program.proofs.answer.Reads as reads
 use Rattle.program.proofs.answer.Lts as lts
 use Rattle.printing.proofs.put_refused.Reads as put-refused-reads
-use Rattle.program.proofs.control.Reads as control-reads
+use Rattle.control_card.proofs.control.Reads as control-reads
 use Rattle.program.proofs.print_deck.Reads as print-deck-reads
 
 control-requires : tie.Need-control-requires

@@ -3,15 +3,15 @@ use mathlib.Core.Path.{sym}
 use native.Mathlib.Omega.{arith}
 use lib.Seq.{length-take-le}
 use Rattle.rules_program.proofs.Lengths.{refused-length}
-use Rattle.printing.proofs.PutLaws.{puts-as}
-use Rattle.program.proofs.RanLaws.{compiled-refused, compiled-printed}
+use Rattle.print_numbers.proofs.PutLaws.{puts-as}
+use Rattle.program.proofs.Compiles.{compiled-refused, compiled-printed}
 use borrow.Author.Needs.{needs}
 use Rattle.program.proofs.print_compiled.Statement.{statement}
 use Rattle.program.proofs.print_compiled.Tie as tie
 use Rattle.program.proofs.print_compiled.Reads as reads
 use Rattle.program.proofs.print_compiled.Lts as lts
 use Rattle.printing.proofs.put_refused.Reads as put-refused-reads
-use Rattle.program.proofs.print_object.Reads as print-object-reads
+use Rattle.print_run.proofs.print_object.Reads as print-object-reads
 
 put-refused-requires : tie.Need-put-refused-requires
 put-refused-requires c κs =

@@ -5,7 +5,7 @@ use mathlib.Core.List.{List}
 use Rattle.rules_shared.specs.Output.{Written}
 use Rattle.rules_deck.specs.Compile.{compiling}
 use Rattle.rules_program.specs.Program.{compiledLines}
-use Rattle.printing.proofs.PutLaws.{puts-as}
+use Rattle.print_numbers.proofs.PutLaws.{puts-as}
 use Rattle.program.proofs.Compiles.{object-written, as-written}
 use borrow.Author.Needs.{needs}
 use Rattle.program.proofs.print_deck.Statement.{statement}

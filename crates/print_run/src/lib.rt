@@ -1,0 +1,65 @@
+// An object run from the start, with a zero store, and its run printed.
+ghost use mathlib.Core.Path.{_≡_};
+ghost use Prim.Native.Nat.{_≤_};
+ghost use lib.ListN.{length};
+ghost use Rattle.rules_object.specs.Bytes.{readObject};
+ghost use Rattle.rules_program.specs.Text.{nameLines};
+ghost use Rattle.rules_program.specs.Program.{namesOf, printedObject};
+ghost use Rattle.rules_program.specs.Tidy.{TidyObject};
+ghost use Rattle.print_numbers.specs.Puts.{Puts};
+ghost use Rattle.print_run.specs.Printing.{mostPrinted, ranText, Zero};
+use object::Contents;
+use runs::Ran;
+
+const ALLOWANCE: u32 = 1_000_000;
+
+fn print_names(object: &[u8], store: &[i64], out: &mut [u8], at: usize) -> usize
+    requires { ⌜ TidyObject (now object) × (length (now store) ≡ 4096) × (at ≤ 49) × (mostPrinted ≤ length (now out)) ⌝ }
+    ensures { λ r. ⌜ Puts (nameLines (namesOf (readObject (now (object .entry)))) (now (store .entry))) at (now (out .entry)) (now (out .exit)) r × (r ≤ mostPrinted) ⌝ }
+{
+    let contents = object::contents_of(object);
+    match contents {
+        Contents::Read(e) => printing::put_names(out, at, object, e, store),
+        Contents::Wrong => at,
+    }
+}
+
+fn print_ran(object: &[u8], ran: Ran, store: &[i64], out: &mut [u8]) -> usize
+    requires { ⌜ TidyObject (now object) × (length (now store) ≡ 4096) × (mostPrinted ≤ length (now out)) ⌝ }
+    ensures { λ r. ⌜ Puts (ranText (now (object .entry)) ran (now (store .entry))) 0 (now (out .entry)) (now (out .exit)) r × (r ≤ mostPrinted) ⌝ }
+{
+    if ran.number != 0 {
+        return printing::put_refused(out, 0, ran.number, ran.place);
+    }
+    let at = printing::put_halt(out, 0, ran.halt, ran.steps, ran.sequence);
+    print_names(object, store, out, at)
+}
+
+fn run_and_print(object: &[u8], store: &mut [i64], places: &mut [i64; 40], out: &mut [u8]) -> usize
+    requires { ⌜ TidyObject (now object) × Zero (now store) (now places) × (mostPrinted ≤ length (now out)) ⌝ }
+    ensures { λ r. ⌜ Puts (printedObject (now (object .entry))) 0 (now (out .entry)) (now (out .exit)) r × (r ≤ mostPrinted) ⌝ }
+{
+    let mut index = 0;
+    let mut height = 0;
+    let mut mark = 0;
+    let ran = runs::run(
+        object,
+        store,
+        &mut index,
+        &mut height,
+        &mut mark,
+        places,
+        ALLOWANCE,
+    );
+    print_ran(object, ran, store, out)
+}
+
+// With a zero store, from the start.
+pub fn print_object(object: &[u8], out: &mut [u8]) -> usize
+    requires { ⌜ TidyObject (now object) × (mostPrinted ≤ length (now out)) ⌝ }
+    ensures { λ r. ⌜ Puts (printedObject (now (object .entry))) 0 (now (out .entry)) (now (out .exit)) r × (r ≤ mostPrinted) ⌝ }
+{
+    let mut store: [i64; 4096] = [0; 4096];
+    let mut places: [i64; 40] = [0; 40];
+    run_and_print(object, &mut store, &mut places, out)
+}
