@@ -30,8 +30,8 @@ use Rattle.rules_deck.specs.Meaning.{Cause, plain, bounds, Standing, begin, mea
 use Rattle.rules_deck.specs.Cost.{meaningSteps}
 use Rattle.rules_deck.specs.Translation.{Held, name, array, hidden, isArray, holds, cellOf, baseOf, heldOf, addressAt, filled, namesFrom, translate}
 use Rattle.rules_deck.specs.Accepted.{Among}
-use Rattle.rules_deck.specs.Cells.{key, Has, Holds, SameMark, arraysHeld}
-use Rattle.rules_deck.specs.Seen.{statementsOf, meaningRead, meaningOf, haltOf, deckSteps, InStatement, namesIn, deckNames, deckDims, deckLevels, namedValues, rightStoreOf, rightStore, series, sum}
+use Rattle.rules_deck.specs.Cells.{key, Has, Holds, SameMark, arraysHeld, marked}
+use Rattle.rules_deck.specs.Seen.{statementsOf, meaningRead, meaningOf, haltOf, deckSteps, InStatement, namesIn, deckNames, deckDims, deckLevels, namedValues, rightStoreOf, rightStore, series, sum, lineInObject, lineOf}
 use Rattle.rules_deck.proofs.TestLaws.{among-left, among-right, among-append}
 use Rattle.rules_deck.proofs.MapNames.{entryOf, noDims}
 use Rattle.rules_deck.proofs.ArrayLaws.{arrays-held}
@@ -111,6 +111,13 @@ module _ {k : ℕ} {deck object : List ℕ} (m : Made k deck object) (store : Li
         lost = g ∙ same-sequence (m .statements) (dimension-empty k (m .statements) (right m)) (s .lost) (t .mark) w;
       }
 
+  -- body 6 tells the statement of a word
+  tells : (j i : ℕ) → InStatement (m .statements) j i → lineOf object i ≡ suc j
+  unfolding lineOf translate
+  tells j i w =
+      ap (λ x. lineInObject x i) (reads-back m)
+      ∙ same-sequence (m .statements) (dimension-empty k (m .statements) (right m)) (suc j) (suc i) (marked j refl (omega (arith, w .0)) (omega (arith, w .1)))
+
   halted-alike : (a n : ℕ) (h : Cause) (t : State) (s : Standing) → run (step o) a (fresh store) ≡ halt (haltOf h) t → steps (step o) a (fresh store) ≡ n → InStatement (m .statements) (s .at) (t .index)
       → Holds (heldOf (m .statements)) (s .values) (t .store) → SameMark (m .statements) (s .lost) (t .mark) → HaltedAlike k deck object h s n (running object store freshLent a)
   unfolding given
@@ -121,6 +128,7 @@ module _ {k : ℕ} {deck object : List ℕ} (m : Made k deck object) (store : Li
         halts = ap (λ x. x .halt) q;
         at = subst (λ x. InStatement (statementsOf x) (s .at) (running object store freshLent a .lent .index)) (sym (m .reads))
             (subst (λ i. InStatement (m .statements) (s .at) i) (sym (ap (λ x. x .lent .index) q)) g);
+        line = ap (λ x. lineOf object (x .lent .index)) q ∙ tells (s .at) (t .index) g;
         steps = ap (λ x. x .steps) q ∙ f;
       }
 

@@ -3,7 +3,7 @@
 -- Assumes nothing.
 use mathlib.Core.Path.{_≡_}
 use mathlib.Core.Logic.{_↔_}
-use Prim.Native.Nat.{ℕ, _+_, _*_, _-_, _≤_, _<_}
+use Prim.Native.Nat.{ℕ, suc, _+_, _*_, _-_, _≤_, _<_}
 use mathlib.Core.Bool.{true}
 use mathlib.Core.List.{List, [], _∷_, _++_}
 use mathlib.Core.Option.{none, some}
@@ -32,7 +32,7 @@ use Rattle.rules_deck.specs.Meaning.{Cause, Key, bounds, Standing}
 use Rattle.rules_deck.specs.Translation.{addressAt, filled}
 use Rattle.rules_deck.specs.Compile.{deckOf, compiling}
 use Rattle.rules_deck.specs.Accepted.{Among}
-use Rattle.rules_deck.specs.Seen.{statementsOf, meaningOf, haltOf, deckSteps, InStatement, deckNames, deckDims, deckLevels, objectIn, namedCell, namedValues, rightStore, series, sum}
+use Rattle.rules_deck.specs.Seen.{statementsOf, meaningOf, haltOf, deckSteps, InStatement, deckNames, deckDims, deckLevels, objectIn, namedCell, namedValues, lineOf, rightStore, series, sum}
 use Rattle.rules_deck.specs.Worked.{decks, DecksRight}
 
 -- compiling the deck with k digits gives the object
@@ -49,11 +49,12 @@ pub record Alike (object : List ℕ) (m : Standing) (r : Ran) : Type 0 where
   pub values : (x : Key) (c : ℕ) → namedCell object x ≡ some c → cell (r .store) c ≡ m .values x
   pub lost : r .sequence ≡ m .lost
 
--- and the same halt, at a word of the statement at which the meaning halted, after n steps
+-- and the same halt, at a word of the statement at which the meaning halted, which body 6 tells, after n steps
 pub record HaltedAlike (k : ℕ) (deck object : List ℕ) (h : Cause) (m : Standing) (n : ℕ) (r : Ran) : Type 0 where
   pub alike : Alike object m r
   pub halts : r .halt ≡ haltNumber (haltOf h)
   pub at : InStatement (statementsOf (deckOf k deck)) (m .at) (r .lent .index)
+  pub line : lineOf object (r .lent .index) ≡ suc (m .at)
   pub steps : r .steps ≡ n
 
 -- If the meaning, which starts from the named values alone, halts, then runs one after the other halt alike, after just the steps that its statements take; allowed fewer, they halt by 2.

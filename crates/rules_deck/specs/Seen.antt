@@ -1,4 +1,4 @@
--- How a caller sees a deck: its meaning from its bytes, its values through body 7, and runs one after the other. The promises are said in these words.
+-- How a caller sees a deck: its meaning from its bytes, its values through body 7, its statements through body 6, and runs one after the other. The promises are said in these words.
 -- Assumes nothing.
 use Prim.Native.Nat.{ℕ, suc, _+_, _≤_, _<_, max}
 use mathlib.Core.Bool.{Bool, false, _&&_, cond}
@@ -13,7 +13,7 @@ use Rattle.rules_object.specs.Bytes.{readObject}
 use Rattle.rules_object.specs.Machine.{cell}
 use Rattle.rules_object.specs.Check.{span}
 use Rattle.rules_shared.specs.Output.{Written}
-use Rattle.rules_object.specs.Calls.{Lent, Ran, right50, right51, running}
+use Rattle.rules_object.specs.Calls.{Lent, sequenceOf, Ran, right50, right51, running}
 use Rattle.rules_object.specs.Safe.{afterSteps}
 use Rattle.rules_deck.specs.Trees.{Name, Statement, formNames, formLevels}
 use Rattle.rules_deck.specs.Cards.{withoutBlanks}
@@ -110,6 +110,16 @@ cellValue store (some c) = cell store c
 -- the named values that a store has
 unfoldable pub namedValues : List ℕ → List ℤ → Values
 namedValues object store x = cellValue store (namedCell object x)
+
+-- ---- statements through body 6
+
+abbrev pub lineInObject : Option Object → ℕ → ℕ
+lineInObject none index = 0
+lineInObject (some o) index = sequenceOf (o .lines) (suc index)
+
+-- the sequence number of the statement that a word is of, by an object's bytes
+unfoldable pub lineOf : List ℕ → ℕ → ℕ
+lineOf object index = lineInObject (readObject object) index
 
 -- ---- runs
 

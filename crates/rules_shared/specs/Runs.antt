@@ -41,5 +41,6 @@ haltNumber badParameter = 6
 haltNumber badStack = 7
 haltNumber badInstruction = 8
 
+-- what a run of the machine comes to
 abbrev pub Out : Type 0 → Type 0
 Out S = Outcome Halt S
