@@ -23,7 +23,9 @@ use Rattle.rules_object.proofs.Passed.{check-passed, both}
 use Rattle.rules_object.proofs.Lents.{long-enough, fresh-stands, stands-52}
 use Rattle.rules_object.proofs.Accepts.{Accepts, accepts-run}
 use Rattle.rules_object.proofs.Refusals.{from-accepts}
+use Rattle.rules_object.proofs.Runnable.{runs-exactly}
 use Rattle.rules_object.specs.Safe.{freshLent}
+use Rattle.rules_object.specs.Promised.{rightStoreOf, rightStore}
 use Rattle.rules_deck.specs.Trees.{Name, Statement, formNames}
 use Rattle.rules_deck.specs.Deck.{Do, sameName, Dims, dimsIn, dimsOf, endings}
 use Rattle.rules_deck.specs.Meaning.{Cause, plain, bounds, Standing, begin, meaning}
@@ -31,7 +33,7 @@ use Rattle.rules_deck.specs.Cost.{meaningSteps}
 use Rattle.rules_deck.specs.Translation.{Held, name, array, hidden, isArray, holds, cellOf, baseOf, heldOf, addressAt, filled, namesFrom, translate}
 use Rattle.rules_deck.specs.Accepted.{Among}
 use Rattle.rules_deck.specs.Cells.{key, Has, Holds, SameMark, arraysHeld, marked}
-use Rattle.rules_deck.specs.Seen.{statementsOf, meaningRead, meaningOf, haltOf, deckSteps, InStatement, namesIn, deckNames, deckDims, deckLevels, namedValues, rightStoreOf, rightStore, series, sum, lineInObject, lineOf}
+use Rattle.rules_deck.specs.Seen.{statementsOf, meaningRead, meaningOf, haltOf, deckSteps, InStatement, namesIn, deckNames, deckDims, deckLevels, namedValues, series, sum, lineInObject, lineOf}
 use Rattle.rules_deck.proofs.TestLaws.{among-left, among-right, among-append}
 use Rattle.rules_deck.proofs.MapNames.{entryOf, noDims}
 use Rattle.rules_deck.proofs.ArrayLaws.{arrays-held}
@@ -42,7 +44,7 @@ use Rattle.rules_deck.proofs.NeverAbove.{never-above}
 use Rattle.rules_deck.proofs.SoundDeck.{sound}
 use Rattle.rules_deck.proofs.Sequence.{same-sequence, dimension-empty}
 use Rattle.rules_deck.proofs.Simulation.{goes-alike, halts-alike, halts-meant, ends-entered}
-use Rattle.promises.specs.Promises.{Alike, HaltedAlike, HaltsAlike, GoesAlike, Meant, MeansAlike, NeverHalts, EndsAfterDo, EntryOf, OneEntry, NamesOnce, CompiledPasses, CompiledRuns, NeverAbove}
+use Rattle.promises.specs.Promises.{Alike, HaltedAlike, HaltsAlike, GoesAlike, Meant, MeansAlike, NeverHalts, EndsAfterDo, EntryOf, OneEntry, NamesOnce, CompiledPasses, NeverAbove}
 use Rattle.promises.proofs.Runs.{series-run}
 use Rattle.promises.proofs.Made.{Made, made, right, reads-back, checks, named-has, holds-named}
 
@@ -297,10 +299,8 @@ names-kept k deck object c o r =
 pub passes-kept : CompiledPasses
 passes-kept k deck object c = let m = made c in ap checking (m .bytes) ∙ compiled-passes k deck (m .statements) (m .reads)
 
-pub runs-kept : CompiledRuns
-runs-kept k deck object store c stored = not-refused (made c) store stored
-
 pub above-kept : NeverAbove
-above-kept k deck object store l c forty a accepts =
+above-kept k deck object store l c r a =
     let m = made c in
-    subst (λ x. running x store l a .refusal ≡ accepted → running x store l a .lent .height ≤ 2 * deckLevels k deck + 3) (sym (m .bytes)) (never-above k deck (m .statements) (m .reads) store l forty a) accepts
+    subst (λ x. running x store l a .refusal ≡ accepted → running x store l a .lent .height ≤ 2 * deckLevels k deck + 3) (sym (m .bytes)) (never-above k deck (m .statements) (m .reads) store l (r .forty) a)
+    (runs-exactly object store l (r .forty) a .1 r)

@@ -10,7 +10,10 @@ use Rattle.rules_object.specs.Bytes.{objectBytes}
 use Rattle.rules_shared.specs.Refusals.{accepted}
 use Rattle.rules_shared.specs.Output.{notWritten, writtenIf, write}
 use Rattle.rules_object.proofs.ObjectExamples.{p9, p10, p11, p12}
-use Rattle.rules_object.proofs.Refusals.{run-keeps, bench-keeps, map-keeps}
+use Rattle.rules_object.proofs.CheckExactly.{check-exactly}
+use Rattle.rules_object.proofs.Runnable.{runs-exactly, fresh-runnable, leaves-runnable}
+use Rattle.rules_object.proofs.Touches.{touches-only}
+use Rattle.rules_object.proofs.Refusals.{run-keeps, bench-keeps, map-keeps, bench-only}
 use Rattle.rules_object.proofs.RoundTrip.{reads-back, writes-back}
 use Rattle.rules_deck.specs.Translation.{translate}
 use Rattle.rules_deck.specs.Compile.{Read, notRead, read, deckOf, writeRead, compiling}
@@ -20,8 +23,8 @@ use Rattle.rules_deck.proofs.Proved.{decks-right}
 use Rattle.promises.specs.Promises.{Kept, RefusalKeeps, RoundTrip}
 use Rattle.promises.proofs.Runs.{series-run}
 use Rattle.promises.proofs.Made.{made, right}
-use Rattle.promises.proofs.Machine.{goes-on-kept, never-refused-kept, steps-kept, heights-kept, no-fault-kept, tests-nothing-kept, cells-past-kept, bench-is-run-kept}
-use Rattle.promises.proofs.Decks.{halts-kept, means-kept, goes-kept, never-kept, ends-kept, names-kept, passes-kept, runs-kept, above-kept}
+use Rattle.promises.proofs.Machine.{goes-on-kept, steps-kept, heights-kept, no-fault-kept, tests-nothing-kept, cells-past-kept, bench-is-run-kept, checked-runs-kept, bench-starts-fresh-kept, places-kept}
+use Rattle.promises.proofs.Decks.{halts-kept, means-kept, goes-kept, never-kept, ends-kept, names-kept, passes-kept, above-kept}
 
 compile-keeps : (k : ℕ) (deck output : List ℕ) → (compiling k deck output .refusal ≡ accepted → ⊥) → compiling k deck output ≡ notWritten (compiling k deck output .refusal) output
 unfolding compiling write
@@ -50,17 +53,24 @@ kept =
       neverHalts = never-kept;
       endsAfterDo = ends-kept;
       namesOnce = names-kept;
+      checkedRuns = checked-runs-kept;
+      runsExactly = runs-exactly;
+      freshRunnable = fresh-runnable;
       goesOn = goes-on-kept;
       seriesIsRun = series-run;
-      neverRefused = never-refused-kept;
+      neverRefused = leaves-runnable;
       stepsTrue = steps-kept;
+      checkExactly = check-exactly;
       heightsExactly = heights-kept;
       noFault = no-fault-kept;
       testsNothing = tests-nothing-kept;
+      touchesListed = touches-only;
       cellsPast = cells-past-kept;
       benchIsRun = bench-is-run-kept;
+      benchStartsFresh = bench-starts-fresh-kept;
+      benchRefuses = bench-only;
+      placesApart = places-kept;
       compiledPasses = passes-kept;
-      compiledRuns = runs-kept;
       neverAbove = above-kept;
       refusalKeeps = keeps;
       roundTrip = round;

@@ -3,28 +3,29 @@
 -- Assumes nothing.
 use mathlib.Core.Path.{_≡_}
 use mathlib.Core.Logic.{_↔_}
-use Prim.Native.Nat.{ℕ, suc, _+_, _*_, _-_, _≤_, _<_}
+use Prim.Native.Nat.{ℕ, suc, _+_, _*_, _≤_, _<_}
 use mathlib.Core.Bool.{true}
 use mathlib.Core.List.{List, [], _∷_, _++_}
-use mathlib.Core.Option.{none, some}
+use mathlib.Core.Option.{some}
 use lib.ListN.{length, getElem?}
-use lib.IntN.{ℤ}
+use lib.IntN.{ℤ, pos}
 use Rattle.rules_shared.specs.Limits.{limits}
 use Rattle.rules_shared.specs.Runs.{haltNumber, go, halt, run}
-use Rattle.rules_shared.specs.Choose.{positive}
+use Rattle.rules_shared.specs.Choose.{positive, place}
 use Rattle.rules_object.specs.Object.{Named, Object}
 use Rattle.rules_object.specs.Bytes.{objectBytes, readObject}
 use Rattle.rules_shared.specs.Lists.{Each}
 use Rattle.rules_object.specs.Writable.{IsByte, Writable}
 use Rattle.rules_object.specs.Machine.{State, cell, step}
-use Rattle.rules_object.specs.Check.{span, right41, flowOf, benchStep}
+use Rattle.rules_object.specs.Check.{span, flowOf, benchStep}
 use Rattle.rules_object.specs.Flow.{heightAt, Valid, NoTable, Reached, PathsAgree}
 use Rattle.rules_object.specs.Heights.{heights}
 use Rattle.rules_shared.specs.Refusals.{refusal, accepted}
 use Rattle.rules_shared.specs.Output.{notWritten}
-use Rattle.rules_object.specs.Calls.{refused42, refused43, checking, Lent, taken, Ran, notRun, running, benching, mapping}
-use Rattle.rules_object.specs.Safe.{Right, ranWithCells, afterSteps, freshLent}
+use Rattle.rules_object.specs.Calls.{checking, Lent, taken, Ran, notRun, running, benching, mapping}
+use Rattle.rules_object.specs.Safe.{Right, ranWithCells, afterSteps, freshLent, In}
 use Rattle.rules_object.specs.Small.{wordHLT, wordCON, wordADD, wordJMP, object, codeOnly}
+use Rattle.rules_object.specs.Promised.{Judged, rightStore, Runnable, TouchesOnly, StepsOf}
 use Rattle.rules_deck.specs.Trees.{Name, Statement}
 use Rattle.rules_deck.specs.Deck.{Do, endings}
 use Rattle.rules_deck.specs.Grammar.{readings}
@@ -32,7 +33,7 @@ use Rattle.rules_deck.specs.Meaning.{Cause, Key, bounds, Standing}
 use Rattle.rules_deck.specs.Translation.{addressAt, filled}
 use Rattle.rules_deck.specs.Compile.{deckOf, compiling}
 use Rattle.rules_deck.specs.Accepted.{Among}
-use Rattle.rules_deck.specs.Seen.{statementsOf, meaningOf, haltOf, deckSteps, InStatement, deckNames, deckDims, deckLevels, objectIn, namedCell, namedValues, lineOf, rightStore, series, sum}
+use Rattle.rules_deck.specs.Seen.{statementsOf, meaningOf, haltOf, deckSteps, InStatement, deckNames, deckDims, deckLevels, objectIn, namedCell, namedValues, lineOf, series, sum}
 use Rattle.rules_deck.specs.Worked.{decks, DecksRight}
 
 -- compiling the deck with k digits gives the object
@@ -131,13 +132,26 @@ pub record NamesOf (k : ℕ) (deck : List ℕ) (names : List Named) : Type 0 whe
 abbrev pub NamesOnce : Type 0
 NamesOnce = (k : ℕ) (deck object : List ℕ) → Compiled k deck object → (o : Object) → readObject object ≡ some o → NamesOf k deck (o .names)
 
--- ---- 3. A run can be split
+-- ---- 3. What may be run is run, and a run can be split
+
+-- What passes the check is run: from a fresh state and a store that 50 and 51 let pass it is never refused.
+abbrev pub CheckedRuns : Type 0
+CheckedRuns =
+    (object : List ℕ) (store : List ℤ) → checking object ≡ accepted → rightStore object store ≡ true → (a : ℕ) → running object store freshLent a .refusal ≡ accepted
+
+-- From any state a run is accepted exactly if the object, the store and the state may be run: 52 asks for no more than that a path comes to the state.
+abbrev pub RunsExactly : Type 0
+RunsExactly =
+    (object : List ℕ) (store : List ℤ) (l : Lent) → length (l .places) ≡ limits .stack → (a : ℕ) → (running object store l a .refusal ≡ accepted) ↔ Runnable object store l
+
+-- A fresh state may be run with whatever passes the check, and a right store.
+abbrev pub FreshRunnable : Type 0
+FreshRunnable = (object : List ℕ) (store : List ℤ) → checking object ≡ accepted → rightStore object store ≡ true → Runnable object store freshLent
 
 -- A run of a steps stopped by halt 2, then one of b, equals one of a + b, steps added.
 abbrev pub GoesOn : Type 0
 GoesOn =
-    (object : List ℕ) (store : List ℤ) (l : Lent) → length (l .places) ≡ limits .stack → (a b : ℕ) →
-    running object store l a .refusal ≡ accepted → running object store l a .halt ≡ 2 →
+    (object : List ℕ) (store : List ℤ) (l : Lent) → Runnable object store l → (a b : ℕ) → running object store l a .halt ≡ 2 →
     running object store l (a + b) ≡ afterSteps (running object store l a .steps) (running object (running object store l a .store) (running object store l a .lent) b)
 
 -- Runs one after the other are one run of all their allowances together.
@@ -146,34 +160,28 @@ SeriesIsRun =
     (object : List ℕ) (store : List ℤ) (l : Lent) → length (l .places) ≡ limits .stack → running object store l 0 .refusal ≡ accepted → (allowances : List ℕ) →
     series object store l allowances ≡ running object store l (sum allowances)
 
--- What a run leaves is never refused.
+-- What a run leaves may be run again: it is never refused.
 abbrev pub NeverRefused : Type 0
 NeverRefused =
-    (object : List ℕ) (store : List ℤ) (l : Lent) → length (l .places) ≡ limits .stack → (a b : ℕ) → running object store l a .refusal ≡ accepted →
-    running object (running object store l a .store) (running object store l a .lent) b .refusal ≡ accepted
+    (object : List ℕ) (store : List ℤ) (l : Lent) → Runnable object store l → (a : ℕ) →
+    Runnable object (running object store l a .store) (running object store l a .lent)
 
--- ---- 4. The steps reported are the machine's
+-- ---- 4. The steps reported are the machine's, and a halt leaves all as before its instruction
 
-pub record StepsOf (object : List ℕ) (store : List ℤ) (l : Lent) (a : ℕ) : Type 0 where
-  -- by definition the steps of the machine; halt 2 reports the whole allowance
-  pub whole : running object store l a .halt ≡ 2 → running object store l a .steps ≡ a
-  -- any other halt takes a step at least, is given at the steps reported too, and one step less gives halt 2
-  pub some : (running object store l a .halt ≡ 2 → ⊥) → 1 ≤ running object store l a .steps
-  pub exact : (running object store l a .halt ≡ 2 → ⊥) → running object store l (running object store l a .steps) ≡ running object store l a
-  pub less : (running object store l a .halt ≡ 2 → ⊥) → running object store l (running object store l a .steps - 1) .halt ≡ 2
-
+-- of a run and of a bench run
 abbrev pub StepsTrue : Type 0
-StepsTrue = (object : List ℕ) (store : List ℤ) (l : Lent) (a : ℕ) → running object store l a .refusal ≡ accepted → StepsOf object store l a
+StepsTrue =
+    (object : List ℕ) (store : List ℤ) (l : Lent) (a : ℕ) →
+    (running object store l a .refusal ≡ accepted → StepsOf (running object store l) a) ×
+    (benching object store l a .refusal ≡ accepted → StepsOf (benching object store l) a)
 
--- ---- 5. The stack test passes exactly when a table of heights exists, and that is exactly when all paths agree
+-- ---- 5. The check
 
--- the object passes 40 to 43
-pub record Judged (object : List ℕ) (o : Object) : Type 0 where
-  pub reads : readObject object ≡ some o
-  pub passes41 : right41 o ≡ true
-  pub passes42 : refused42 o ≡ none
-  pub passes43 : refused43 o ≡ none
+-- It accepts exactly the bytes of an object that passes 41, 42 and 43, and has a table of heights.
+abbrev pub CheckExactly : Type 0
+CheckExactly = (object : List ℕ) → (checking object ≡ accepted) ↔ ((o : Object) × (Judged object o × ((H : List ℕ) × Valid (flowOf o) H)))
 
+-- The stack test passes exactly when a table of heights exists, and that is exactly when all paths agree.
 pub record Exactly (object : List ℕ) (o : Object) : Type 0 where
   pub table : (checking object ≡ accepted) ↔ ((H : List ℕ) × Valid (flowOf o) H)
   pub paths : ((H : List ℕ) × Valid (flowOf o) H) ↔ PathsAgree (flowOf o)
@@ -184,47 +192,65 @@ pub record Exactly (object : List ℕ) (o : Object) : Type 0 where
 abbrev pub HeightsExactly : Type 0
 HeightsExactly = (object : List ℕ) (o : Object) → Judged object o → Exactly object o
 
--- ---- 6. What passes the check never faults, unguarded, at any allowance
+-- ---- 6. What may be run never faults, unguarded, at any allowance
 
 -- at every state of the unguarded run: the index is in the code, what is popped is there, the height after is at most 40, the instruction passes 43 and its entry 42, and
 -- every cell that it reads or writes is below the cell count
 abbrev pub NoFault : Type 0
 NoFault =
-    (object : List ℕ) (store : List ℤ) (l : Lent) → length (l .places) ≡ limits .stack → running object store l 0 .refusal ≡ accepted →
-    (o : Object) → readObject object ≡ some o → (n : ℕ) (t : State) → run (step o) n (taken l store) ≡ go t → Right o t
+    (object : List ℕ) (store : List ℤ) (l : Lent) → Runnable object store l → (o : Object) → readObject object ≡ some o →
+    (n : ℕ) (t : State) → run (step o) n (taken l store) ≡ go t → Right o t
 
 -- so the run that tests everything is the run that tests nothing, and 7 and 8 never come
 abbrev pub TestsNothing : Type 0
 TestsNothing =
-    (object : List ℕ) (store : List ℤ) (l : Lent) → length (l .places) ≡ limits .stack → running object store l 0 .refusal ≡ accepted →
-    (o : Object) → readObject object ≡ some o → (n : ℕ) → (run (benchStep o) n (taken l store) ≡ run (step o) n (taken l store)) × (running object store l n .halt < 7)
+    (object : List ℕ) (store : List ℤ) (l : Lent) → Runnable object store l → (o : Object) → readObject object ≡ some o →
+    (n : ℕ) → (run (benchStep o) n (taken l store) ≡ run (step o) n (taken l store)) × (running object store l n .halt < 7)
+
+-- The list of the cells that a step reads or writes is whole: what the step does hangs on no other cell, and it changes no other.
+abbrev pub TouchesListed : Type 0
+TouchesListed = (o : Object) (t : State) → TouchesOnly o t
 
 -- cells past the count neither change nor matter
 abbrev pub CellsPast : Type 0
 CellsPast =
-    (object : List ℕ) (store extra : List ℤ) (l : Lent) (a : ℕ) → length (l .places) ≡ limits .stack → running object store l a .refusal ≡ accepted →
+    (object : List ℕ) (store extra : List ℤ) (l : Lent) → Runnable object store l → (a : ℕ) →
     running object (store ++ extra) l a ≡ ranWithCells extra (running object store l a)
 
 -- the bench run of what passes the check is the run from a fresh state
 abbrev pub BenchIsRun : Type 0
 BenchIsRun = (object : List ℕ) → checking object ≡ accepted → (store : List ℤ) (a : ℕ) → benching object store freshLent a ≡ running object store freshLent a
 
+-- Whatever state is lent to a bench run, it is the one from a fresh state: refused alike, or with the same answer.
+abbrev pub BenchStartsFresh : Type 0
+BenchStartsFresh =
+    (object : List ℕ) (store : List ℤ) (l : Lent) (a : ℕ) → (benching object store l a .refusal ≡ benching object store freshLent a .refusal) ×
+    (benching object store l a .refusal ≡ accepted → benching object store l a ≡ benching object store freshLent a)
+
+-- a bench run refuses only by 40, 41, 50 and 51
+abbrev pub BenchRefuses : Type 0
+BenchRefuses = (object : List ℕ) (store : List ℤ) (l : Lent) (a : ℕ) → In (benching object store l a .refusal .number) (0 ∷ 40 ∷ 41 ∷ 50 ∷ 51 ∷ [])
+
+-- Every pair of subscripts from 1 to its dimension has a place in the array, another one for each pair; no other pair has one.
+pub record Places (rows columns : ℕ) : Type 0 where
+  pub each : (i j : ℕ) → i < rows → j < columns → (p : ℕ) × (place rows columns (pos (suc i)) (pos (suc j)) ≡ some p)
+  pub below : (v w : ℤ) (p : ℕ) → place rows columns v w ≡ some p → p < rows * columns
+  pub apart : (v w v′ w′ : ℤ) (p : ℕ) → place rows columns v w ≡ some p → place rows columns v′ w′ ≡ some p → (v ≡ v′) × (w ≡ w′)
+  pub only : (v w : ℤ) (p : ℕ) → place rows columns v w ≡ some p → (i j : ℕ) × (v ≡ pos (suc i)) × (i < rows) × (w ≡ pos (suc j)) × (j < columns)
+
+abbrev pub PlacesApart : Type 0
+PlacesApart = (rows columns : ℕ) → Places rows columns
+
 -- ---- 7. Everything compiled passes
 
 abbrev pub CompiledPasses : Type 0
 CompiledPasses = (k : ℕ) (deck object : List ℕ) → Compiled k deck object → checking object ≡ accepted
 
--- and its run, from a fresh state and a store that 50 and 51 let pass, is never refused
-abbrev pub CompiledRuns : Type 0
-CompiledRuns =
-    (k : ℕ) (deck object : List ℕ) (store : List ℤ) → Compiled k deck object → rightStore object store ≡ true → (a : ℕ) →
-    running object store freshLent a .refusal ≡ accepted
-
 -- a compiled deck with p levels of parentheses never stands above 2p+3, from whatever state it is run
 abbrev pub NeverAbove : Type 0
 NeverAbove =
-    (k : ℕ) (deck object : List ℕ) (store : List ℤ) (l : Lent) → Compiled k deck object → length (l .places) ≡ limits .stack → (a : ℕ) →
-    running object store l a .refusal ≡ accepted → running object store l a .lent .height ≤ 2 * deckLevels k deck + 3
+    (k : ℕ) (deck object : List ℕ) (store : List ℤ) (l : Lent) → Compiled k deck object → Runnable object store l → (a : ℕ) →
+    running object store l a .lent .height ≤ 2 * deckLevels k deck + 3
 
 -- ---- 8. A refusal changes nothing; each call is a function, so that each input has one outcome
 
@@ -267,17 +293,24 @@ pub record Kept : Type 0 where
   pub neverHalts : NeverHalts
   pub endsAfterDo : EndsAfterDo
   pub namesOnce : NamesOnce
+  pub checkedRuns : CheckedRuns
+  pub runsExactly : RunsExactly
+  pub freshRunnable : FreshRunnable
   pub goesOn : GoesOn
   pub seriesIsRun : SeriesIsRun
   pub neverRefused : NeverRefused
   pub stepsTrue : StepsTrue
+  pub checkExactly : CheckExactly
   pub heightsExactly : HeightsExactly
   pub noFault : NoFault
   pub testsNothing : TestsNothing
+  pub touchesListed : TouchesListed
   pub cellsPast : CellsPast
   pub benchIsRun : BenchIsRun
+  pub benchStartsFresh : BenchStartsFresh
+  pub benchRefuses : BenchRefuses
+  pub placesApart : PlacesApart
   pub compiledPasses : CompiledPasses
-  pub compiledRuns : CompiledRuns
   pub neverAbove : NeverAbove
   pub refusalKeeps : RefusalKeeps
   pub roundTrip : RoundTrip

@@ -1,18 +1,15 @@
 -- The map of a deck: every plain name, DO and element that the deck speaks of has a cell.
 -- Assumes nothing.
-use Prim.Native.Nat.{ℕ, zero, suc, _+_, _*_, _≤_, _<_}
+use Prim.Native.Nat.{ℕ, zero, suc}
 use mathlib.Core.Path.{_≡_, refl, sym, ap, _∙_, subst}
 use mathlib.Core.Bool.{Bool, true, false, _||_, cond}
 use mathlib.Core.Logic.{_⊎_, inl, inr}
 use mathlib.Core.List.{List, [], _∷_, _++_, append-nil, append-assoc}
-use mathlib.Core.Option.{Option, none, some}
+use mathlib.Core.Option.{some}
 use native.Mathlib.Omega.{arith}
-use native.Mathlib.Nat.{mul-le-mul-right, mul-comm}
-use lib.Dec.{ltb}
 use lib.ListN.{getElem?}
-use lib.IntN.{ℤ, pos, negsuc}
-use borrow.Author.Tests.{ltb-true, eq-eqb}
-use Rattle.rules_shared.specs.Choose.{below, right, byColumns, place}
+use borrow.Author.Tests.{eq-eqb}
+use Rattle.rules_object.proofs.Places.{place-below}
 use Rattle.rules_deck.specs.Trees.{Name, Subscripts, one, two, Form, loop, Statement}
 use Rattle.rules_deck.specs.Deck.{Do, doOf, dosFrom, dosOf, dimsOf, width}
 use Rattle.rules_deck.specs.Meaning.{plain, elementAt, Values, placeIn}
@@ -114,29 +111,6 @@ unfolding heldOf dosOf
 variable-has deck d a = do-from 0 deck [] d a .1
 
 -- ---- an element's place
-
-right-below : (n : ℕ) (v : ℤ) (i : ℕ) → right n v ≡ some i → i < n
-right-below n (pos zero) i e = absurd (let z : _≡_ {A = ℕ} 0 1 = cc in omega arith)
-right-below n (pos (suc m)) i e = go (ltb m n) refl e
-  where
-    go : (b : Bool) → ltb m n ≡ b → below b m ≡ some i → i < n
-    go true t f = let z : m ≡ i = cc in omega (arith, ltb-true m n t)
-    go false t f = absurd (let z : _≡_ {A = ℕ} 0 1 = cc in omega arith)
-right-below n (negsuc m) i e = absurd (let z : _≡_ {A = ℕ} 0 1 = cc in omega arith)
-
-pub place-below : (rows columns : ℕ) (v w : ℤ) (p : ℕ) → place rows columns v w ≡ some p → p < rows * columns
-unfolding place
-place-below rows columns v w p e = go (right rows v) (right columns w) refl refl e
-  where
-    go : (a b : Option ℕ) → right rows v ≡ a → right columns w ≡ b → byColumns rows a b ≡ some p → p < rows * columns
-    go none b f g e = absurd (let z : _≡_ {A = ℕ} 0 1 = cc in omega arith)
-    go (some i) none f g e = absurd (let z : _≡_ {A = ℕ} 0 1 = cc in omega arith)
-    go (some i) (some j) f g e =
-        let z : j * rows + i ≡ p = cc in
-        let k = right-below rows v i f in
-        let l = right-below columns w j g in
-        let m : suc j ≤ columns = omega arith in
-        omega (arith, mul-le-mul-right rows m, mul-comm rows columns)
 
 pub element-has : (deck : List Statement) (values : Values) (v : Name) (s : Subscripts) (p : ℕ) → placeIn values (dimsOf deck v) s ≡ some p
     → Has (heldOf deck) (key (elementAt v p))

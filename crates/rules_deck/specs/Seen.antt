@@ -1,7 +1,7 @@
 -- How a caller sees a deck: its meaning from its bytes, its values through body 7, its statements through body 6, and runs one after the other. The promises are said in these words.
 -- Assumes nothing.
 use Prim.Native.Nat.{ℕ, suc, _+_, _≤_, _<_, max}
-use mathlib.Core.Bool.{Bool, false, _&&_, cond}
+use mathlib.Core.Bool.{_&&_, cond}
 use mathlib.Core.List.{List, [], _∷_, _++_}
 use mathlib.Core.Option.{Option, none, some}
 use lib.Dec.{ltb, eqb, leb}
@@ -13,7 +13,7 @@ use Rattle.rules_object.specs.Bytes.{readObject}
 use Rattle.rules_object.specs.Machine.{cell}
 use Rattle.rules_object.specs.Check.{span}
 use Rattle.rules_shared.specs.Output.{Written}
-use Rattle.rules_object.specs.Calls.{Lent, sequenceOf, Ran, right50, right51, running}
+use Rattle.rules_object.specs.Calls.{Lent, sequenceOf, Ran, running}
 use Rattle.rules_object.specs.Safe.{afterSteps}
 use Rattle.rules_deck.specs.Trees.{Name, Statement, formNames, formLevels}
 use Rattle.rules_deck.specs.Cards.{withoutBlanks}
@@ -122,14 +122,6 @@ unfoldable pub lineOf : List ℕ → ℕ → ℕ
 lineOf object index = lineInObject (readObject object) index
 
 -- ---- runs
-
-abbrev pub rightStoreOf : Option Object → List ℤ → Bool
-rightStoreOf none store = false
-rightStoreOf (some o) store = right50 o store && right51 o store
-
--- the store has the object's cells, each within its digits
-unfoldable pub rightStore : List ℕ → List ℤ → Bool
-rightStore object store = rightStoreOf (readObject object) store
 
 -- runs one after the other, each with the last one's state and store, until one halts other than by 2; their steps are added
 abbrev pub goOn : List ℕ → Ran → List ℕ → Ran

@@ -13,6 +13,7 @@ use Rattle.rules_shared.specs.Limits.{limits}
 use Rattle.rules_shared.specs.Runs.{badStack, badInstruction, Out, go, halt, run, steps}
 use Rattle.rules_object.specs.Object.{Object}
 use Rattle.rules_object.specs.Machine.{State, fresh, step}
+use Rattle.rules_object.specs.Flow.{first}
 use Rattle.rules_object.specs.Check.{right41, pops, pushes, instruction, room, benchStep}
 use Rattle.rules_shared.specs.Refusals.{orElse, unless}
 use Rattle.rules_object.specs.Calls.{passed, checking, Lent, taken, given, right50, right51, right52, Ran, ran, runFrom, orRefused, runChecked, running, benchObject, benching}
@@ -20,7 +21,7 @@ use Rattle.rules_object.specs.Safe.{Right, Stands, freshLent}
 use Rattle.rules_shared.proofs.RunLaws.{run-same, steps-same}
 use Rattle.rules_object.specs.Passed.{Passed}
 use Rattle.rules_object.proofs.Safe.{step-stands, stands-right, run-halts}
-use Rattle.rules_object.proofs.Lents.{and-true, fresh-stands, taken-stands, stands-52, taken-given}
+use Rattle.rules_object.proofs.Lents.{and-true, fresh-stands, taken-stands, lent-right, taken-given}
 use Rattle.rules_object.proofs.Accepts.{checks, Answer, refuses, runs, answer, BenchAnswer, bench-answer}
 
 -- where all is right, the tests of the bench run pass
@@ -43,9 +44,8 @@ module _ {bytes : List ℕ} {o : Object} {table : List ℕ} (p : Passed bytes o 
   pub bench-steps : (n : ℕ) (t : State) → Stands o table t → steps (benchStep o) n t ≡ steps (step o) n t
   bench-steps = steps-same (Stands o table) (step o) (benchStep o) (step-stands p) alike
 
-  fresh-52 : (store : List ℤ) → right50 o store ≡ true → right51 o store ≡ true → right52 o table freshLent ≡ true
-  unfolding given
-  fresh-52 store e f = stands-52 (fresh store) (fresh-stands p store e f)
+  fresh-52 : right52 o table freshLent ≡ true
+  fresh-52 = lent-right p freshLent (record { reached = first; stack = tt; mark = omega arith })
 
   same-object : (store : List ℤ) (a : ℕ) → benchObject (some o) store freshLent a ≡ runChecked (passed o table) store freshLent a
   unfolding given
@@ -67,7 +67,7 @@ module _ {bytes : List ℕ} {o : Object} {table : List ℕ} (p : Passed bytes o 
           ap₂ (λ x y. B x y (right51 o store)) (p .right) e ∙ ap (B true true) f
           ∙ ap₂ (λ n x. ran o n x) (bench-steps a (fresh store) s) (bench-is-run a (fresh store) s)
           ∙ ap (runFrom o (step o) a) (sym (taken-given (fresh store)))
-          ∙ ap (R true true) (sym (fresh-52 store e f)) ∙ ap₂ (λ y z. R y z (right52 o table freshLent)) (sym e) (sym f)
+          ∙ ap (R true true) (sym fresh-52) ∙ ap₂ (λ y z. R y z (right52 o table freshLent)) (sym e) (sym f)
 
 -- ---- over bytes
 

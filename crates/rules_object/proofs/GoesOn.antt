@@ -1,8 +1,8 @@
--- A run stopped by its allowance goes on as one run, what a run leaves is never refused, and what the steps are. Promises 3 and 4.
+-- A run stopped by its allowance goes on as one run, one that halted stays halted, and what a run leaves is never refused. Promise 3.
 -- Assumes nothing.
 use mathlib.Core.Path.{_≡_, refl, sym, ap, ap₂, _∙_, subst}
 use mathlib.Core.List.{List}
-use Prim.Native.Nat.{ℕ, _+_, _-_, _≤_}
+use Prim.Native.Nat.{ℕ, _+_, _-_}
 use native.Mathlib.Omega.{arith}
 use lib.ListN.{length, drop, replicate}
 use lib.IntN.{ℤ, pos}
@@ -13,7 +13,7 @@ use Rattle.rules_object.specs.Machine.{State, step}
 use Rattle.rules_shared.specs.Refusals.{accepted}
 use Rattle.rules_object.specs.Calls.{Lent, taken, given, Ran, halted, ran, runFrom, running}
 use Rattle.rules_object.specs.Safe.{Stands, afterSteps}
-use Rattle.rules_shared.proofs.RunLaws.{run-add, steps-add, steps-go, steps-some, halts-at, steps-at, goes-before, halts-more, steps-more}
+use Rattle.rules_shared.proofs.RunLaws.{run-add, steps-add, steps-go, halts-more, steps-more}
 use Rattle.rules_object.proofs.Safe.{run-stands, run-halts}
 use Rattle.rules_object.proofs.Lents.{taken-stands, stands-50, stands-51, stands-52, taken-given, given-forty, given-above}
 use Rattle.rules_object.proofs.Refusals.{from-accepts}
@@ -127,54 +127,17 @@ module _ (bytes : List ℕ) (store : List ℤ) (l : Lent) (forty : length (l .pl
       let w = left bytes store l (accepts bytes store l a e) forty a in
       subst (λ k. drop (k .height) (k .places) ≡ replicate (limits .stack - k .height) (pos 0)) (sym (w .1 .1 .1)) (given-above (w .0))
 
-module _ (bytes : List ℕ) (store : List ℤ) (l : Lent) (a : ℕ) (e : running bytes store l a .refusal .number ≡ 0) where
-  x : Accepts bytes store l
-  x = accepts bytes store l a e
+-- a halt other than 2 is given at every larger allowance, in as many steps
+pub stays-halted : (bytes : List ℕ) (store : List ℤ) (l : Lent) (a : ℕ) → running bytes store l a .refusal .number ≡ 0 → (running bytes store l a .halt ≡ 2 → ⊥) → (b : ℕ)
+    → running bytes store l (a + b) ≡ running bytes store l a
+stays-halted bytes store l a e other b = by (did bytes store l x a)
+  where
+    x : Accepts bytes store l
+    x = accepts bytes store l a e
 
-  -- halt 2 reports the whole allowance
-  pub steps-two : running bytes store l a .halt ≡ 2 → running bytes store l a .steps ≡ a
-  steps-two two = by (did bytes store l x a)
-    where
-      by : Did bytes store l x a → running bytes store l a .steps ≡ a
-      by (went u q r) = ap (λ z. z .steps) r
-      by (stopped h u q r) = absurd (not-two h (ap (λ z. z .halt) (sym r) ∙ two))
+    f : State → Out State
+    f = step (x .object)
 
-  module _ (other : running bytes store l a .halt ≡ 2 → ⊥) where
-    -- any other halt is given at every larger allowance, in as many steps
-    pub stays-halted : (b : ℕ) → running bytes store l (a + b) ≡ running bytes store l a
-    stays-halted b = by (did bytes store l x a)
-      where
-        f : State → Out State
-        f = step (x .object)
-
-        by : Did bytes store l x a → running bytes store l (a + b) ≡ running bytes store l a
-        by (went u q r) = absurd (other (ap (λ z. z .halt) r))
-        by (stopped h u q r) =
-            accepts-run x (a + b) ∙ ap₂ (λ n z. ran (x .object) n z) (steps-more f a b (taken l store) u h q) (halts-more f a b (taken l store) u h q) ∙ sym r
-
-    -- it takes a step at least; it is given at the allowance of its steps, and halt 2 at one less
-    pub halts-exactly : (1 ≤ running bytes store l a .steps)
-        × ((running bytes store l (running bytes store l a .steps) ≡ running bytes store l a)
-        × ((running bytes store l (running bytes store l a .steps - 1) .halt ≡ 2) × (running bytes store l (running bytes store l a .steps - 1) .refusal ≡ accepted)))
-    halts-exactly = by (did bytes store l x a)
-      where
-        f : State → Out State
-        f = step (x .object)
-
-        P : Ran → ℕ → Type 0
-        P r n = (1 ≤ n) × ((running bytes store l n ≡ r) × ((running bytes store l (n - 1) .halt ≡ 2) × (running bytes store l (n - 1) .refusal ≡ accepted)))
-
-        by : Did bytes store l x a → P (running bytes store l a) (running bytes store l a .steps)
-        by (went u q r) = absurd (other (ap (λ z. z .halt) r))
-        by (stopped h u q r) =
-            let n = steps f a (taken l store) in
-            let w = goes-before f a (taken l store) u h q in
-            let less : running bytes store l (n - 1) ≡ ran (x .object) (steps f (n - 1) (taken l store)) (go (w .0)) =
-            accepts-run x (n - 1) ∙ ap (λ z. ran (x .object) (steps f (n - 1) (taken l store)) z) (w .1 .0) in
-            subst (λ m. P (running bytes store l a) m) (ap (λ z. z .steps) (sym r)) (
-              steps-some f a (taken l store) u h q,
-              (
-                accepts-run x n ∙ ap₂ (λ m z. ran (x .object) m z) (steps-at f a (taken l store) u h q) (halts-at f a (taken l store) u h q) ∙ sym r,
-                (ap (λ z. z .halt) less, ap (λ z. z .refusal) less),
-              ),
-            )
+    by : Did bytes store l x a → running bytes store l (a + b) ≡ running bytes store l a
+    by (went u q r) = absurd (other (ap (λ z. z .halt) r))
+    by (stopped h u q r) = accepts-run x (a + b) ∙ ap₂ (λ n z. ran (x .object) n z) (steps-more f a b (taken l store) u h q) (halts-more f a b (taken l store) u h q) ∙ sym r

@@ -17,10 +17,11 @@ use Rattle.rules_object.specs.Object.{Object}
 use Rattle.rules_object.specs.Machine.{State, state, fresh, cell, ruleOf}
 use Rattle.rules_object.specs.Flow.{heightAt}
 use Rattle.rules_object.specs.Check.{flowOf}
-use Rattle.rules_shared.specs.Lists.{all}
+use Rattle.rules_shared.specs.Lists.{all, Each}
 use Rattle.rules_object.specs.Calls.{Lent, taken, given, right50, right51, right52}
-use Rattle.rules_shared.specs.Lists.{Each}
 use Rattle.rules_object.specs.Safe.{Within, Stands}
+use Rattle.rules_object.specs.Promised.{RightLent}
+use Rattle.rules_object.proofs.HeightsExact.{height-reached, reached-height}
 use Rattle.rules_object.specs.Passed.{Passed}
 use Rattle.rules_object.proofs.Passed.{both}
 
@@ -95,6 +96,34 @@ unfolding flowOf
 fresh-stands {o = o} p store e f =
     let b = p .least .valid .begins in
     record { inside = b .0; height = b .1; low = omega arith; stack = tt; long = long-enough o store e; store = cells-within o store e f; mark = omega arith }
+
+-- ---- 52 and paths
+
+module _ {bytes : List ℕ} {o : Object} {table : List ℕ} (p : Passed bytes o table) (l : Lent) where
+  pub right-lent : right52 o table l ≡ true → RightLent o l
+  unfolding right52 flowOf
+  right-lent e =
+      let e₁ = both (ltb (l .index) (length (o .code))) _ e in
+      let e₂ = both (leb (at table (l .index)) (limits .stack)) _ (e₁ .1) in
+      let e₃ = both (eqb (l .height) (at table (l .index))) _ (e₂ .1) in
+      let e₄ = both (all (fits (ruleOf o)) (take (l .height) (l .places))) _ (e₃ .1) in
+      let low = leb-true (at table (l .index)) (limits .stack) (e₂ .0) in
+      let same = eqb-true (l .height) (at table (l .index)) (e₃ .0) in
+      record {
+        reached = height-reached (flowOf o) table (p .least) (l .index) (l .height) (ltb-true _ _ (e₁ .0)) (sym same) (omega arith);
+        stack = all-each o (take (l .height) (l .places)) (e₄ .0);
+        mark = leb-true _ _ (e₄ .1);
+      }
+
+  pub lent-right : RightLent o l → right52 o table l ≡ true
+  unfolding right52 flowOf
+  lent-right r =
+      let h = reached-height (flowOf o) table (p .least) (l .index) (l .height) (r .reached) in
+      let same = h .1 .0 in
+      let low = h .1 .1 in
+      and-true (lt-ltb _ _ (h .0))
+      (and-true (le-leb (at table (l .index)) (limits .stack) (omega arith))
+      (and-true (eq-eqb _ _ (sym same)) (and-true (each-all o (take (l .height) (l .places)) (r .stack)) (le-leb _ _ (r .mark)))))
 
 -- ---- and back
 

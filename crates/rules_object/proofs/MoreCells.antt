@@ -1,108 +1,53 @@
 -- Over bytes: a longer store is the same run with its further cells put back, and no run changes a store's length.
 -- Assumes nothing.
-use mathlib.Core.Path.{_≡_, refl, sym, ap, ap₂, _∙_, subst}
+use mathlib.Core.Path.{_≡_, refl, sym, ap, ap₂, _∙_}
 use mathlib.Core.Bool.{Bool, true, false}
 use mathlib.Core.List.{List, _++_}
-use mathlib.Core.Option.{Option, none, some}
-use Prim.Native.Nat.{ℕ, zero, suc, _+_}
+use Prim.Native.Nat.{ℕ, zero, suc}
 use native.Mathlib.Omega.{arith}
-use lib.ListN.{length, set, length-set, length-append}
+use lib.ListN.{length, length-append}
 use lib.Seq.{take-append-le}
 use lib.IntN.{ℤ}
 use borrow.Author.Tests.{le-leb}
-use Rattle.number.specs.Number.{Rule, Result, value, byZero, apply, fits}
+use Rattle.number.specs.Number.{fits}
 use Rattle.rules_shared.specs.Limits.{limits}
 use Rattle.rules_shared.specs.Runs.{Out, go, halt, then, run, steps}
-use Rattle.rules_shared.specs.Choose.{exit, positive, allPositive, Turn, again, over, turn}
-use Rattle.rules_object.specs.Object.{Element, Loop, Object}
-use Rattle.rules_object.specs.Machine.{Instr, HLT, CON, LOD, STO, LDE, STE, OP, NEG, JMP, BR3, BRC, DOI, DOE, State, cell, top, under, operated, placeOf, elementLoaded, elementStored, branched, begun, turned, ended, act, ruleOf, step}
-use Rattle.rules_object.specs.Check.{instruction}
+use Rattle.rules_object.specs.Object.{Object}
+use Rattle.rules_object.specs.Machine.{State, ruleOf, step}
 use Rattle.rules_shared.specs.Refusals.{refusal, orElse, unless}
 use Rattle.rules_shared.specs.Lists.{all}
 use Rattle.rules_object.specs.Calls.{Lent, taken, given, right50, right51, right52, Ran, ran, runFrom, orRefused, runChecked, running}
 use Rattle.rules_object.specs.Safe.{withCells, ranWithCells}
+use Rattle.rules_object.specs.Promised.{cameTo}
 use Rattle.rules_shared.proofs.RunLaws.{mapOut}
 use Rattle.rules_object.specs.Passed.{Passed}
 use Rattle.rules_object.proofs.Lents.{long-enough, taken-stands}
+use Rattle.rules_object.proofs.Touches.{same-length}
 use Rattle.rules_object.proofs.PastCells.{run-past-cells, steps-past-cells}
 use Rattle.rules_object.proofs.Accepts.{Verdict, bad, good, judge, Answer, refuses, runs, answer}
 
--- ---- a step keeps the store's length
+-- ---- a store comes back as long as it was lent
 
--- going on or halted, with a store of n cells
-abbrev pub Long : ℕ → Out State → Type 0
-Long n (go u) = length (u .store) ≡ n
-Long n (halt h u) = length (u .store) ≡ n
-
-module _ (t : State) where
-  operated-long : (r : Result) (s : List ℤ) → Long (length (t .store)) (operated r t s)
-  operated-long (value v lost) s = refl
-  operated-long byZero s = refl
-
-  loaded-long : (e : Element) (p : Option ℕ) → Long (length (t .store)) (elementLoaded p e t)
-  loaded-long e none = refl
-  loaded-long e (some p) = refl
-
-  stored-long : (e : Element) (p : Option ℕ) → Long (length (t .store)) (elementStored p e t)
-  stored-long e none = refl
-  stored-long e (some p) = length-set (t .store) (e .base + p) (top (t .stack))
-
-  branched-long : (p : Option ℕ) → Long (length (t .store)) (branched p t)
-  branched-long none = refl
-  branched-long (some a) = refl
-
-  begun-long : (b : Bool) (d : Loop) (m₁ m₂ m₃ : ℤ) → Long (length (t .store)) (begun b d m₁ m₂ m₃ t)
-  begun-long false d m₁ m₂ m₃ = refl
-  begun-long true d m₁ m₂ m₃ =
-      let c₁ = set (t .store) (d .variable) m₁ in
-      let c₂ = set c₁ (d .limit) m₂ in
-      length-set c₂ (d .step) m₃ ∙ length-set c₁ (d .limit) m₂ ∙ length-set (t .store) (d .variable) m₁
-
-  turned-long : (r : Turn) (d : Loop) → Long (length (t .store)) (turned r d t)
-  turned-long (again i) d = length-set (t .store) (d .variable) i
-  turned-long over d = refl
-
-  ended-long : (b : Bool) (d : Loop) → Long (length (t .store)) (ended b d t)
-  ended-long false d = refl
-  ended-long true d = turned-long (turn (cell (t .store) (d .variable)) (cell (t .store) (d .limit)) (cell (t .store) (d .step))) d
-
-  act-long : (r : Rule) (i : Instr) → Long (length (t .store)) (act r i t)
-  act-long r (HLT x) = refl
-  act-long r (CON c) = refl
-  act-long r (LOD a) = refl
-  act-long r (STO a) = length-set (t .store) a (top (t .stack))
-  act-long r (LDE e) = loaded-long e (placeOf (t .store) e)
-  act-long r (STE e) = stored-long e (placeOf (t .store) e)
-  act-long r (OP f) = operated-long (apply r f (top (under (t .stack))) (top (t .stack))) (under (under (t .stack)))
-  act-long r NEG = refl
-  act-long r (JMP a) = refl
-  act-long r (BR3 a b c) = refl
-  act-long r (BRC ts) = branched-long (exit ts (top (t .stack)))
-  act-long r (DOI n d) =
-      begun-long (allPositive (top (under (under (t .stack)))) (top (under (t .stack))) (top (t .stack))) d (top (under (under (t .stack)))) (top (under (t .stack))) (top (t .stack))
-  act-long r (DOE n d) = ended-long (positive (cell (t .store) (d .step))) d
-
-pub run-long : (o : Object) (n : ℕ) (t : State) → Long (length (t .store)) (run (step o) n t)
-unfolding step
+run-long : (o : Object) (n : ℕ) (t : State) → length (cameTo (run (step o) n t) .store) ≡ length (t .store)
 run-long o zero t = refl
-run-long o (suc n) t = on (step o t) (act-long t (ruleOf o) (instruction o (t .index))) (λ u. run-long o n u)
+run-long o (suc n) t = on (step o t) (same-length o t) (run-long o n)
   where
-    on : (x : Out State) → Long (length (t .store)) x → ((u : State) → Long (length (u .store)) (run (step o) n u)) → Long (length (t .store)) (then x (λ u. run (step o) n u))
-    on (go u) e f = subst (λ m. Long m (run (step o) n u)) e (f u)
+    on : (x : Out State) → length (cameTo x .store) ≡ length (t .store) → ((u : State) → length (cameTo (run (step o) n u) .store) ≡ length (u .store))
+        → length (cameTo (then x (λ u. run (step o) n u)) .store) ≡ length (t .store)
+    on (go u) e f = f u ∙ e
     on (halt h u) e f = e
 
--- a store comes back as long as it was lent
 pub store-length : (bytes : List ℕ) (store : List ℤ) (l : Lent) (a : ℕ) → length (running bytes store l a .store) ≡ length store
 unfolding taken
 store-length bytes store l a = by (answer bytes store l)
   where
-    out : (o : Object) (n : ℕ) (x : Out State) → Long (length store) x → length (ran o n x .store) ≡ length store
-    out o n (go u) e = e
-    out o n (halt h u) e = e
+    out : (o : Object) (n : ℕ) (x : Out State) → ran o n x .store ≡ cameTo x .store
+    out o n (go u) = refl
+    out o n (halt h u) = refl
 
     by : Answer bytes store l → length (running bytes store l a .store) ≡ length store
     by (refuses r p q) = ap (λ x. length (x .store)) (q a)
-    by (runs x q) = ap (λ x. length (x .store)) (q a) ∙ out (x .object) _ (run (step (x .object)) a (taken l store)) (run-long (x .object) a (taken l store))
+    by (runs x q) = ap (λ x. length (x .store)) (q a) ∙ ap length (out (x .object) _ (run (step (x .object)) a (taken l store))) ∙ run-long (x .object) a (taken l store)
 
 -- ---- cells past the count
 

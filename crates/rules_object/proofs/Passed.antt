@@ -1,21 +1,24 @@
 -- What a passed check tells of the object: every entry is right, every word, and there is the least table of heights.
 -- Assumes nothing.
-use mathlib.Core.Path.{_≡_, refl, subst}
+use mathlib.Core.Path.{_≡_, refl, sym, ap, _∙_, subst}
 use mathlib.Core.Bool.{Bool, true, false, _&&_, cond}
 use mathlib.Core.List.{List, [], _∷_}
 use mathlib.Core.Option.{Option, none, some}
 use Prim.Native.Nat.{ℕ, zero, suc, _<_}
+use native.Mathlib.Decide.{decLt}
 use native.Mathlib.Omega.{arith}
-use lib.ListN.{length, getD}
+use lib.ListN.{length, getD, List·getD-eq-default}
 use Rattle.rules_object.specs.Object.{Object}
-use Rattle.rules_object.specs.Machine.{noElement, noLoop}
-use Rattle.rules_object.specs.Check.{right41, rightConstant, rightElement, rightLoop, right43, flowOf}
+use Rattle.rules_object.specs.Machine.{noElement, noLoop, operationOf, operandOf}
+use Rattle.rules_object.specs.Check.{right41, rightConstant, rightElement, rightLoop, right43, flowOf, rightLine, rightNamed, operandTests, unknownOperation}
 use Rattle.rules_object.specs.Heights.{heights}
 use Rattle.rules_shared.specs.Refusals.{Refusal, atEntry, orElse, unless}
 use Rattle.rules_shared.specs.Lists.{firstBad}
 use Rattle.rules_object.specs.Calls.{refused42, refused43, refused, passed, judged44, judged, checkedObject, checked}
 use Rattle.rules_object.specs.Bytes.{readObject}
 use Rattle.rules_object.specs.Passed.{Passed}
+use Rattle.rules_shared.specs.Lists.{Each}
+use Rattle.rules_object.specs.Promised.{RightWord, Judged}
 use Rattle.rules_object.proofs.HeightsExact.{heights-some}
 
 -- ---- answers that are none
@@ -35,16 +38,57 @@ entry-none : (number kind : ℕ) (o : Option ℕ) → atEntry number kind o ≡ 
 entry-none number kind none e = refl
 entry-none number kind (some n) e = absurd (some-none e)
 
--- none is bad: every one is right
-first-none : {A : Type 0} (test : A → Bool) (l : List A) (n : ℕ) (d : A) → firstBad test l n ≡ none → (i : ℕ) → i < length l → test (getD l i d) ≡ true
-first-none test [] n d e i l = absurd (omega arith)
-first-none test (a ∷ more) n d e i l = by (test a) refl e (λ j q r. first-none test more (suc n) d q j r) i l
+-- none is bad: each is right
+each-right : {A : Type 0} (test : A → Bool) (l : List A) (n : ℕ) → firstBad test l n ≡ none → Each (λ a. test a ≡ true) l
+each-right test [] n e = tt
+each-right test (a ∷ more) n e = by (test a) refl e (each-right test more (suc n))
   where
-    by : (b : Bool) → test a ≡ b → cond b (firstBad test more (suc n)) (some n) ≡ none → ((j : ℕ) → firstBad test more (suc n) ≡ none → j < length more → test (getD more j d) ≡ true)
-        → (i : ℕ) → i < suc (length more) → test (getD (a ∷ more) i d) ≡ true
-    by true q e ih zero l = q
-    by true q e ih (suc i) l = ih i e (omega arith)
-    by false q e ih i l = absurd (some-none e)
+    by : (b : Bool) → test a ≡ b → cond b (firstBad test more (suc n)) (some n) ≡ none → (firstBad test more (suc n) ≡ none → Each (λ a. test a ≡ true) more) → Each (λ a. test a ≡ true) (a ∷ more)
+    by true q e ih = (q, ih e)
+    by false q e ih = absurd (some-none e)
+
+each-at : {A : Type 0} (test : A → Bool) (l : List A) (d : A) → Each (λ a. test a ≡ true) l → (i : ℕ) → i < length l → test (getD l i d) ≡ true
+each-at test [] d h i l = absurd (omega arith)
+each-at test (a ∷ more) d h zero l = h .0
+each-at test (a ∷ more) d h (suc i) l = each-at test more d (h .1) i (omega arith)
+
+pub each-map : {A : Type 0} {P Q : A → Type 0} → ((a : A) → P a → Q a) → (l : List A) → Each P l → Each Q l
+each-map f [] h = tt
+each-map f (a ∷ more) h = (f a (h .0), each-map f more (h .1))
+
+-- ---- 40 to 43 passed
+
+-- an operation that there is not is refused, wherever it stands
+right-word : (o : Object) (word : ℕ) → right43 o word ≡ true → RightWord o word
+unfolding right43
+right-word o word e = record { known = by (decLt (operationOf word) 16); operand = e }
+  where
+    by : Dec (operationOf word < 16) → operationOf word < 16
+    by (yes l) = l
+    by (no l) =
+        let q = ap (λ test. test o (operandOf word)) (List·getD-eq-default operandTests unknownOperation {n = operationOf word} (omega arith)) in
+        let t : true ≡ false = sym e ∙ q in
+        absurd (let z : _≡_ {A = ℕ} 0 1 = cc in omega arith)
+
+none-judged : {bytes : List ℕ} {o : Object} → readObject bytes ≡ some o → orElse (unless (right41 o) 41) (orElse (refused42 o) (refused43 o)) ≡ none → Judged bytes o
+unfolding refused42 refused43
+none-judged {o = o} r e =
+    let n₁ = or-none (unless (right41 o) 41) _ e in
+    let n₂ = or-none (refused42 o) _ (n₁ .1) in
+    let c = or-none (atEntry 42 1 (firstBad (rightConstant o) (o .constants) 0)) _ (n₂ .0) in
+    let l = or-none (atEntry 42 2 (firstBad (rightElement o) (o .elements) 0)) _ (c .1) in
+    let d = or-none (atEntry 42 4 (firstBad (rightLoop o) (o .dos) 0)) _ (l .1) in
+    let s = or-none (atEntry 42 6 (firstBad (rightLine o) (o .lines) 0)) _ (d .1) in
+    record {
+      reads = r;
+      limits = unless-none _ _ (n₁ .0);
+      constants = each-right (rightConstant o) (o .constants) 0 (entry-none _ _ _ (c .0));
+      elements = each-right (rightElement o) (o .elements) 0 (entry-none _ _ _ (l .0));
+      dos = each-right (rightLoop o) (o .dos) 0 (entry-none _ _ _ (d .0));
+      lines = each-right (rightLine o) (o .lines) 0 (entry-none _ _ _ (s .0));
+      names = each-right (rightNamed o) (o .names) 0 (entry-none _ _ _ (s .1));
+      code = each-map (right-word o) (o .code) (each-right (right43 o) (o .code) 0 (entry-none _ _ _ (n₂ .1)));
+    }
 
 -- ---- the check passed
 
@@ -56,38 +100,41 @@ both false b e = absurd (let z : _≡_ {A = ℕ} 0 1 = cc in omega arith)
 refused-passed : {r : Refusal} {o : Object} {table : List ℕ} → refused r ≡ passed o table → ⊥
 refused-passed e = let z : _≡_ {A = ℕ} 0 1 = cc in omega arith
 
-pub check-passed : (bytes : List ℕ) (o : Object) (table : List ℕ) → checked bytes ≡ passed o table → Passed bytes o table
-unfolding checked refused42 refused43 flowOf
-check-passed bytes o table e = read (readObject bytes) refl e
+pub passed-judged : (bytes : List ℕ) (o : Object) (table : List ℕ) → checked bytes ≡ passed o table → Judged bytes o × (heights (flowOf o) ≡ some table)
+unfolding checked
+passed-judged bytes o table e = read (readObject bytes) refl e
   where
-    all : (p : Object) → readObject bytes ≡ some p → orElse (unless (right41 p) 41) (orElse (refused42 p) (refused43 p)) ≡ none → (h : Option (List ℕ)) → heights (flowOf p) ≡ h → judged44 p h ≡ passed o table → Passed bytes o table
+    Told : Type 0
+    Told = Judged bytes o × (heights (flowOf o) ≡ some table)
+
+    all : (p : Object) → readObject bytes ≡ some p → orElse (unless (right41 p) 41) (orElse (refused42 p) (refused43 p)) ≡ none → (h : Option (List ℕ)) → heights (flowOf p) ≡ h → judged44 p h ≡ passed o table → Told
     all p r n none q e = absurd (refused-passed e)
     all p r n (some H) q e =
         let ep : p ≡ o = cc in
         let eH : H ≡ table = cc in
-        let n₁ = or-none (unless (right41 p) 41) _ n in
-        let n₂ = or-none (refused42 p) _ (n₁ .1) in
-        let c = or-none (atEntry 42 1 (firstBad (rightConstant p) (p .constants) 0)) _ (n₂ .0) in
-        let l = or-none (atEntry 42 2 (firstBad (rightElement p) (p .elements) 0)) _ (c .1) in
-        let d = or-none (atEntry 42 4 (firstBad (rightLoop p) (p .dos) 0)) _ (l .1) in
-        let h = heights-some (flowOf p) H q in
-        subst (λ x. Passed bytes x table) ep
-        (subst (λ x. Passed bytes p x) eH
-        (record {
-          reads = r;
-          right = unless-none _ _ (n₁ .0);
-          constants = first-none (rightConstant p) (p .constants) 0 0 (entry-none _ _ _ (c .0));
-          elements = first-none (rightElement p) (p .elements) 0 noElement (entry-none _ _ _ (l .0));
-          dos = first-none (rightLoop p) (p .dos) 0 noLoop (entry-none _ _ _ (d .0));
-          words = first-none (right43 p) (p .code) 0 0 (entry-none _ _ _ (n₂ .1));
-          least = h .0;
-          sized = h .1;
-        }))
+        subst (λ x. Judged bytes x × (heights (flowOf x) ≡ some table)) ep (none-judged r n, q ∙ ap some eH)
 
-    judge : (p : Object) → readObject bytes ≡ some p → (r : Option Refusal) → orElse (unless (right41 p) 41) (orElse (refused42 p) (refused43 p)) ≡ r → judged p r ≡ passed o table → Passed bytes o table
+    judge : (p : Object) → readObject bytes ≡ some p → (r : Option Refusal) → orElse (unless (right41 p) 41) (orElse (refused42 p) (refused43 p)) ≡ r → judged p r ≡ passed o table → Told
     judge p q (some r) n e = absurd (refused-passed e)
     judge p q none n e = all p q n (heights (flowOf p)) refl e
 
-    read : (p : Option Object) → readObject bytes ≡ p → checkedObject p ≡ passed o table → Passed bytes o table
+    read : (p : Option Object) → readObject bytes ≡ p → checkedObject p ≡ passed o table → Told
     read none q e = absurd (refused-passed e)
     read (some p) q e = judge p q _ refl e
+
+pub check-passed : (bytes : List ℕ) (o : Object) (table : List ℕ) → checked bytes ≡ passed o table → Passed bytes o table
+unfolding flowOf
+check-passed bytes o table e =
+    let x = passed-judged bytes o table e in
+    let j = x .0 in
+    let h = heights-some (flowOf o) table (x .1) in
+    record {
+      reads = j .reads;
+      right = j .limits;
+      constants = each-at (rightConstant o) (o .constants) 0 (j .constants);
+      elements = each-at (rightElement o) (o .elements) noElement (j .elements);
+      dos = each-at (rightLoop o) (o .dos) noLoop (j .dos);
+      words = each-at (right43 o) (o .code) 0 (each-map (λ w r. r .operand) (o .code) (j .code));
+      least = h .0;
+      sized = h .1;
+    }

@@ -19,7 +19,8 @@ use Rattle.rules_object.specs.Safe.{Stands, withCells}
 use Rattle.rules_shared.proofs.RunLaws.{mapOut, run-map, steps-map}
 use Rattle.rules_object.specs.Passed.{Passed}
 use Rattle.rules_object.proofs.GoodWords.{GoodElement, GoodLoop, Good, word-good}
-use Rattle.rules_object.proofs.Safe.{place-below, step-stands}
+use Rattle.rules_object.proofs.Places.{place-below}
+use Rattle.rules_object.proofs.Safe.{step-stands}
 
 module _ (o : Object) (extra : List ℤ) (t : State) (long : o .cells ≤ length (t .store)) where
   abbrev more : Out State → Out State

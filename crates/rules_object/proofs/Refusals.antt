@@ -3,7 +3,7 @@
 use mathlib.Core.Path.{_≡_, refl, sym, ap, _∙_, subst}
 use mathlib.Core.Logic.{_⊎_, inl, inr}
 use mathlib.Core.Bool.{Bool, true, false}
-use mathlib.Core.List.{List}
+use mathlib.Core.List.{List, [], _∷_}
 use mathlib.Core.Option.{Option, none, some}
 use Prim.Native.Nat.{ℕ, _<_}
 use native.Mathlib.Omega.{arith}
@@ -20,7 +20,7 @@ use Rattle.rules_object.specs.Check.{right41, benchStep}
 use Rattle.rules_shared.specs.Refusals.{Refusal, refusal, accepted, orElse, unless}
 use Rattle.rules_shared.specs.Output.{Written, notWritten, writtenIf, write}
 use Rattle.rules_object.specs.Calls.{refused, passed, checked, verdict, checking, Lent, right50, right51, Ran, notRun, ran, runFrom, orRefused, runChecked, running, benchObject, benching, mapOf, mapChecked, mapping}
-use Rattle.rules_object.specs.Safe.{Unchanged, MapUnchanged, MapWritten}
+use Rattle.rules_object.specs.Safe.{Unchanged, MapUnchanged, MapWritten, In}
 use Rattle.rules_object.proofs.Accepts.{If, or-if, unless-if, Why, unread, over, later, Verdict, bad, good, judge, refusedBench, Answer, refuses, runs, answer, BenchAnswer, bench-answer}
 
 -- ---- check
@@ -98,28 +98,24 @@ module _ (bytes : List ℕ) (store : List ℤ) (l : Lent) (a : ℕ) where
 
 -- ---- by which numbers a bench run refuses
 
-abbrev pub BenchNumber : ℕ → Type 0
-BenchNumber n = (n ≡ 40) ⊎ ((n ≡ 41) ⊎ ((n ≡ 50) ⊎ (n ≡ 51)))
+abbrev BenchNumber : Refusal → Type 0
+BenchNumber r = In (r .number) (0 ∷ 40 ∷ 41 ∷ 50 ∷ 51 ∷ [])
 
--- only by 40, 41, 50 and 51
-pub bench-only : (bytes : List ℕ) (store : List ℤ) (l : Lent) (a : ℕ) → (benching bytes store l a .refusal .number ≡ 0) ⊎ BenchNumber (benching bytes store l a .refusal .number)
+pub bench-only : (bytes : List ℕ) (store : List ℤ) (l : Lent) (a : ℕ) → In (benching bytes store l a .refusal .number) (0 ∷ 40 ∷ 41 ∷ 50 ∷ 51 ∷ [])
 unfolding benching
 bench-only bytes store l a = by (readObject bytes)
   where
-    P : Refusal → Type 0
-    P r = BenchNumber (r .number)
-
-    on : (o : Object) (r : Option Refusal) → If P r
-        → (orRefused r l store (runFrom o (benchStep o) a (fresh store)) .refusal .number ≡ 0) ⊎ BenchNumber (orRefused r l store (runFrom o (benchStep o) a (fresh store)) .refusal .number)
-    on o (some r) h = inr h
+    on : (o : Object) (r : Option Refusal) → If BenchNumber r → BenchNumber (orRefused r l store (runFrom o (benchStep o) a (fresh store)) .refusal)
+    on o (some r) h = h
     on o none h = inl (ap (λ r. r .number) (from-accepts o (benchStep o) a (fresh store)))
 
-    by : (p : Option Object) → (benchObject p store l a .refusal .number ≡ 0) ⊎ BenchNumber (benchObject p store l a .refusal .number)
+    by : (p : Option Object) → BenchNumber (benchObject p store l a .refusal)
     by none = inr (inl refl)
     by (some o) =
         on o (refusedBench o store)
-        (or-if P (unless (right41 o) 41) (orElse (unless (right50 o store) 50) (unless (right51 o store) 51)) (unless-if P (right41 o) 41 (inr (inl refl)))
-        (or-if P (unless (right50 o store) 50) (unless (right51 o store) 51) (unless-if P (right50 o store) 50 (inr (inr (inl refl)))) (unless-if P (right51 o store) 51 (inr (inr (inr refl))))))
+        (or-if BenchNumber (unless (right41 o) 41) (orElse (unless (right50 o store) 50) (unless (right51 o store) 51)) (unless-if BenchNumber (right41 o) 41 (inr (inr (inl refl))))
+        (or-if BenchNumber (unless (right50 o store) 50) (unless (right51 o store) 51) (unless-if BenchNumber (right50 o store) 50 (inr (inr (inr (inl refl)))))
+        (unless-if BenchNumber (right51 o store) 51 (inr (inr (inr (inr (inl refl))))))))
 
 -- ---- a refusal by the check
 

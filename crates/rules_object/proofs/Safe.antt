@@ -5,51 +5,25 @@ use mathlib.Core.Bool.{Bool, true, false}
 use mathlib.Core.List.{List, [], _∷_}
 use mathlib.Core.Option.{Option, none, some}
 use Prim.Native.Nat.{ℕ, zero, suc, _+_, _-_, _*_, _≤_, _<_}
-use native.Mathlib.Nat.{mul-le-mul-right, mul-comm, suc-mul}
 use native.Mathlib.Omega.{arith}
-use lib.Dec.{ltb}
 use lib.ListN.{length, getD, getElem?, set, length-set}
 use lib.IntN.{ℤ, pos, negsuc}
-use borrow.Author.Tests.{ltb-true}
 use Rattle.number.specs.Number.{Op, add, sub, mul, div, Result, value, byZero, apply}
 use Rattle.number.proofs.Laws.{ResultFits, apply-fits, neg-fits}
 use Rattle.rules_shared.specs.Limits.{limits}
 use Rattle.rules_shared.specs.Runs.{Halt, haltNumber, Out, go, halt, run}
-use Rattle.rules_shared.specs.Choose.{sign3, exit, below, right, byColumns, place, positive, allPositive, Turn, again, over, turn, marked}
+use Rattle.rules_shared.specs.Choose.{sign3, exit, positive, allPositive, Turn, again, over, turn, marked}
 use Rattle.rules_object.specs.Object.{Element, Loop, Object}
 use Rattle.rules_object.specs.Machine.{Instr, HLT, CON, LOD, STO, LDE, STE, OP, NEG, JMP, BR3, BRC, DOI, DOE, State, state, cell, top, under, operated, placeOf, elementLoaded, elementStored, branched, begun, turned, ended, halts, act, ruleOf, step}
 use Rattle.rules_object.specs.Check.{pops, pushes, instruction}
 use Rattle.rules_shared.specs.Lists.{Each}
 use Rattle.rules_object.specs.Safe.{elementCell, elementCells, touchedBy, touches, Right, Within, Stands}
 use Rattle.rules_shared.proofs.RunLaws.{run-keeps, halted}
+use Rattle.rules_object.proofs.Places.{place-below}
+use Rattle.rules_object.proofs.HaltsThere.{step-there}
 use Rattle.rules_object.specs.Passed.{Passed}
 use Rattle.rules_object.proofs.Numbers.{top-within, under-within, set-within, TurnWithin, turn-within, under-length}
 use Rattle.rules_object.proofs.GoodWords.{GoodElement, GoodLoop, Good, word-good, Led, Leads, word-leads}
-
--- ---- an element's place is in its array
-
-right-below : (dimension : ℕ) (z : ℤ) (p : ℕ) → right dimension z ≡ some p → p < dimension
-right-below d (pos zero) p e = absurd (let z : _≡_ {A = ℕ} 0 1 = cc in omega arith)
-right-below d (pos (suc n)) p e = by (ltb n d) refl e
-  where
-    by : (b : Bool) → ltb n d ≡ b → below b n ≡ some p → p < d
-    by true q e = let s : n ≡ p = cc in let l = ltb-true n d q in omega arith
-    by false q e = absurd (let z : _≡_ {A = ℕ} 0 1 = cc in omega arith)
-right-below d (negsuc n) p e = absurd (let z : _≡_ {A = ℕ} 0 1 = cc in omega arith)
-
-pub place-below : (rows columns : ℕ) (v w : ℤ) (p : ℕ) → place rows columns v w ≡ some p → p < rows * columns
-unfolding place
-place-below rows columns v w p e = by (right rows v) (right columns w) refl refl e
-  where
-    by : (i j : Option ℕ) → right rows v ≡ i → right columns w ≡ j → byColumns rows i j ≡ some p → p < rows * columns
-    by none j q r e = absurd (let z : _≡_ {A = ℕ} 0 1 = cc in omega arith)
-    by (some i) none q r e = absurd (let z : _≡_ {A = ℕ} 0 1 = cc in omega arith)
-    by (some i) (some j) q r e =
-        let s : j * rows + i ≡ p = cc in
-        let l = right-below rows v i q in
-        let m = right-below columns w j r in
-        let n : suc j * rows ≤ columns * rows = mul-le-mul-right rows m in
-        omega (arith, suc-mul j rows, mul-comm columns rows)
 
 -- ---- one step
 
@@ -58,10 +32,10 @@ unfolding haltNumber
 halts-fault zero = omega arith
 halts-fault (suc x) = omega arith
 
--- going on where it stands, or halted at t by no fault
-abbrev Kept : Object → List ℕ → State → Out State → Type 0
-Kept o H t (go u) = Stands o H u
-Kept o H t (halt h u) = (u ≡ t) × (haltNumber h < 7)
+-- going on where it stands, or halted by no fault
+abbrev Kept : Object → List ℕ → Out State → Type 0
+Kept o H (go u) = Stands o H u
+Kept o H (halt h u) = haltNumber h < 7
 
 abbrev LedTo : Object → List ℕ → ℕ → Option ℕ → Type 0
 LedTo o H h none = Unit {0}
@@ -130,31 +104,31 @@ module _ (o : Object) (H : List ℕ) (t : State) (s : Stands o H t) where
   writes : (a h x : ℕ) (v : ℤ) (stack : List ℤ) → Led o H a h → length stack ≡ h → Each (Within o) stack → Within o v → Stands o H (state a stack (set (t .store) x v) (t .mark))
   writes a h x v stack l e w z = let n = s .long in arrive a h stack _ (t .mark) l e w (omega (arith, length-set (t .store) x v)) (set-within o (t .store) x v (s .store) z) (s .mark)
 
-  operated-kept : (r : Result) (h : ℕ) → ResultFits (ruleOf o) r → Led o H (suc (t .index)) h → length (under (under (t .stack))) + 1 ≡ h → Kept o H t (operated r t (under (under (t .stack))))
+  operated-kept : (r : Result) (h : ℕ) → ResultFits (ruleOf o) r → Led o H (suc (t .index)) h → length (under (under (t .stack))) + 1 ≡ h → Kept o H (operated r t (under (under (t .stack))))
   unfolding haltNumber
   operated-kept (value v lost) h f l e =
       arrive _ h _ (t .store) (marked (t .mark) lost (t .index)) l (omega arith) (f, rest₂) (s .long) (s .store) (marked-inside (t .mark) lost (t .index) _ (s .mark) (s .inside))
-  operated-kept byZero h f l e = (refl, omega arith)
+  operated-kept byZero h f l e = omega arith
 
-  loaded-kept : (e : Element) (p : Option ℕ) (h : ℕ) → GoodElement o e → ((q : ℕ) → p ≡ some q → q < e .rows * e .columns) → Led o H (suc (t .index)) h → suc (length (t .stack)) ≡ h → Kept o H t (elementLoaded p e t)
+  loaded-kept : (e : Element) (p : Option ℕ) (h : ℕ) → GoodElement o e → ((q : ℕ) → p ≡ some q → q < e .rows * e .columns) → Led o H (suc (t .index)) h → suc (length (t .stack)) ≡ h → Kept o H (elementLoaded p e t)
   unfolding haltNumber
-  loaded-kept e none h g b l q = (refl, omega arith)
+  loaded-kept e none h g b l q = omega arith
   loaded-kept e (some p) h g b l q = let z = b p refl in let y = g .span in moves _ h _ l q (s .store (e .base + p) (omega arith), s .stack)
 
-  stored-kept : (e : Element) (p : Option ℕ) (h : ℕ) → Led o H (suc (t .index)) h → length (under (t .stack)) ≡ h → Kept o H t (elementStored p e t)
+  stored-kept : (e : Element) (p : Option ℕ) (h : ℕ) → Led o H (suc (t .index)) h → length (under (t .stack)) ≡ h → Kept o H (elementStored p e t)
   unfolding haltNumber
-  stored-kept e none h l q = (refl, omega arith)
+  stored-kept e none h l q = omega arith
   stored-kept e (some p) h l q = writes _ h (e .base + p) (top (t .stack)) _ l q rest₁ top₁
 
-  branched-kept : (p : Option ℕ) (h : ℕ) → LedTo o H h p → length (under (t .stack)) ≡ h → Kept o H t (branched p t)
+  branched-kept : (p : Option ℕ) (h : ℕ) → LedTo o H h p → length (under (t .stack)) ≡ h → Kept o H (branched p t)
   unfolding haltNumber
-  branched-kept none h l q = (refl, omega arith)
+  branched-kept none h l q = omega arith
   branched-kept (some a) h l q = moves a h _ l q rest₁
 
   begun-kept : (b : Bool) (d : Loop) (h : ℕ) → Led o H (suc (t .index)) h → length (under (under (under (t .stack)))) ≡ h
-      → Kept o H t (begun b d (top (under (under (t .stack)))) (top (under (t .stack))) (top (t .stack)) t)
+      → Kept o H (begun b d (top (under (under (t .stack)))) (top (under (t .stack))) (top (t .stack)) t)
   unfolding haltNumber
-  begun-kept false d h l q = (refl, omega arith)
+  begun-kept false d h l q = omega arith
   begun-kept true d h l q =
       let m₁ = top (under (under (t .stack))) in
       let m₂ = top (under (t .stack)) in
@@ -166,21 +140,21 @@ module _ (o : Object) (H : List ℕ) (t : State) (s : Stands o H t) where
       (omega (arith, length-set (t .store) (d .variable) m₁, length-set c₁ (d .limit) m₂, length-set c₂ (d .step) m₃))
       (set-within o c₂ (d .step) m₃ (set-within o c₁ (d .limit) m₂ (set-within o (t .store) (d .variable) m₁ (s .store) top₃) top₂) top₁) (s .mark)
 
-  turned-kept : (r : Turn) (d : Loop) (h : ℕ) → TurnWithin o r → Led o H (d .body) h → Led o H (suc (t .index)) h → length (t .stack) ≡ h → Kept o H t (turned r d t)
+  turned-kept : (r : Turn) (d : Loop) (h : ℕ) → TurnWithin o r → Led o H (d .body) h → Led o H (suc (t .index)) h → length (t .stack) ≡ h → Kept o H (turned r d t)
   turned-kept (again i) d h w l m q = writes (d .body) h (d .variable) i _ l q (s .stack) w
   turned-kept over d h w l m q = moves _ h _ m q (s .stack)
 
-  ended-kept : (b : Bool) (d : Loop) (h : ℕ) → positive (cell (t .store) (d .step)) ≡ b → GoodLoop o d → Led o H (d .body) h → Led o H (suc (t .index)) h → length (t .stack) ≡ h → Kept o H t (ended b d t)
+  ended-kept : (b : Bool) (d : Loop) (h : ℕ) → positive (cell (t .store) (d .step)) ≡ b → GoodLoop o d → Led o H (d .body) h → Led o H (suc (t .index)) h → length (t .stack) ≡ h → Kept o H (ended b d t)
   unfolding haltNumber
-  ended-kept false d h e g l m q = (refl, omega arith)
+  ended-kept false d h e g l m q = omega arith
   ended-kept true d h e g l m q =
       let v = cell (t .store) (d .variable) in
       let m₂ = cell (t .store) (d .limit) in
       let m₃ = cell (t .store) (d .step) in
       turned-kept (turn v m₂ m₃) d h (turn-within o v m₂ m₃ e (s .store _ (g .variable)) (s .store _ (g .limit)) (s .store _ (g .step))) l m q
 
-  act-kept : (i : Instr) → Good o i → pops i ≤ length (t .stack) → Leads o H (t .index) i (length (t .stack)) → Kept o H t (act (ruleOf o) i t)
-  act-kept (HLT x) g p l = (refl, halts-fault x)
+  act-kept : (i : Instr) → Good o i → pops i ≤ length (t .stack) → Leads o H (t .index) i (length (t .stack)) → Kept o H (act (ruleOf o) i t)
+  act-kept (HLT x) g p l = halts-fault x
   act-kept (CON c) g p l = moves _ _ _ (l 0 (omega arith)) (omega arith) (g, s .stack)
   act-kept (LOD a) g p l = moves _ _ _ (l 0 (omega arith)) (omega arith) (s .store a g, s .stack)
   act-kept (STO a) g p l = writes _ _ a _ _ (l 0 (omega arith)) (omega (arith, under-length (t .stack))) rest₁ top₁
@@ -245,18 +219,18 @@ module _ (o : Object) where
 
 module _ {bytes : List ℕ} {o : Object} {table : List ℕ} (p : Passed bytes o table) where
   -- one step
-  kept : (t : State) → Stands o table t → Kept o table t (step o t)
+  kept : (t : State) → Stands o table t → Kept o table (step o t)
   unfolding step
   kept t s =
       let l = word-leads p (t .index) (length (t .stack)) (s .inside) (s .height) (s .low) in
       act-kept o table t s (instruction o (t .index)) (word-good p (t .index) (s .inside) .1) (l .0) (l .1)
 
   pub step-stands : (t u : State) → Stands o table t → step o t ≡ go u → Stands o table u
-  step-stands t u s e = subst (λ x. Kept o table t x) e (kept t s)
+  step-stands t u s e = subst (λ x. Kept o table x) e (kept t s)
 
   -- a halt leaves all as before the instruction, and is none of 7 and 8
   pub step-halts : (t u : State) (h : Halt) → Stands o table t → step o t ≡ halt h u → (u ≡ t) × (haltNumber h < 7)
-  step-halts t u h s e = subst (λ x. Kept o table t x) e (kept t s)
+  step-halts t u h s e = (step-there o t u h e, subst (λ x. Kept o table x) e (kept t s))
 
   pub stands-right : (t : State) → Stands o table t → Right o t
   unfolding touches

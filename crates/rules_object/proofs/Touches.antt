@@ -11,73 +11,79 @@ use lib.ListN.{length, set, length-set}
 use lib.Seq.{getD-set-other}
 use lib.IntN.{ℤ, pos, _+ℤ_, _*ℤ_}
 use Rattle.number.specs.Number.{Rule, Result, value, byZero, apply}
-use Rattle.rules_shared.specs.Runs.{Out, go, halt}
+use Rattle.rules_shared.specs.Runs.{Out}
 use Rattle.rules_shared.specs.Choose.{exit, place, positive, allPositive, Turn, again, over, turn}
 use Rattle.rules_object.specs.Object.{SubscriptEntry, Element, Loop, Object}
 use Rattle.rules_object.specs.Machine.{Instr, HLT, CON, LOD, STO, LDE, STE, OP, NEG, JMP, BR3, BRC, DOI, DOE, State, state, cell, top, under, operated, subscriptValue, placeOf, elementLoaded, elementStored, branched, begun, turned, ended, act, ruleOf, step}
 use Rattle.rules_object.specs.Check.{instruction}
 use Rattle.rules_object.specs.Safe.{elementCell, elementCells, loopCells, touchedBy, touches, In, AgreeIn, AlikeIn}
+use Rattle.rules_object.specs.Promised.{cameTo, TouchesOnly}
 
--- ---- what it writes
+-- ---- what it writes: what is true of the store, and stays so where a cell of the list is set, is true after the step
 
-abbrev Same : ℕ → State → Out State → Type 0
-Same a t (go u) = cell (u .store) a ≡ cell (t .store) a
-Same a t (halt h u) = cell (u .store) a ≡ cell (t .store) a
+module _ (P : List ℤ → Type 0) (t : State) (start : P (t .store)) where
+  -- in the cells of a list
+  abbrev Sets : List ℕ → Type 0
+  Sets cells = (c : List ℤ) (x : ℕ) (v : ℤ) → In x cells → P c → P (set c x v)
 
-module _ (a : ℕ) (t : State) where
-  unset : (c : List ℤ) (x : ℕ) (v : ℤ) → (a ≡ x → ⊥) → cell (set c x v) a ≡ cell c a
-  unset c x v n = getD-set-other c x a v (pos 0) n
+  abbrev Leaves : Out State → Type 0
+  Leaves x = P (cameTo x .store)
 
-  operated-same : (r : Result) (s : List ℤ) → Same a t (operated r t s)
-  operated-same (value v lost) s = refl
-  operated-same byZero s = refl
+  operated-leaves : (r : Result) (s : List ℤ) → Leaves (operated r t s)
+  operated-leaves (value v lost) s = start
+  operated-leaves byZero s = start
 
-  loaded-same : (e : Element) (p : Option ℕ) → Same a t (elementLoaded p e t)
-  loaded-same e none = refl
-  loaded-same e (some p) = refl
+  loaded-leaves : (e : Element) (p : Option ℕ) → Leaves (elementLoaded p e t)
+  loaded-leaves e none = start
+  loaded-leaves e (some p) = start
 
-  stored-same : (e : Element) (p : Option ℕ) → (In a (elementCell e p) → ⊥) → Same a t (elementStored p e t)
-  stored-same e none n = refl
-  stored-same e (some p) n = unset (t .store) (e .base + p) (top (t .stack)) (λ q. n (inl q))
+  stored-leaves : (e : Element) (p : Option ℕ) → Sets (elementCell e p) → Leaves (elementStored p e t)
+  stored-leaves e none sets = start
+  stored-leaves e (some p) sets = sets (t .store) (e .base + p) (top (t .stack)) (inl refl) start
 
-  branched-same : (p : Option ℕ) → Same a t (branched p t)
-  branched-same none = refl
-  branched-same (some x) = refl
+  branched-leaves : (p : Option ℕ) → Leaves (branched p t)
+  branched-leaves none = start
+  branched-leaves (some x) = start
 
-  begun-same : (b : Bool) (d : Loop) (m₁ m₂ m₃ : ℤ) → (In a (loopCells d) → ⊥) → Same a t (begun b d m₁ m₂ m₃ t)
-  begun-same false d m₁ m₂ m₃ n = refl
-  begun-same true d m₁ m₂ m₃ n =
-      let c₁ = set (t .store) (d .variable) m₁ in
-      unset (set c₁ (d .limit) m₂) (d .step) m₃ (λ q. n (inr (inr (inl q)))) ∙ unset c₁ (d .limit) m₂ (λ q. n (inr (inl q))) ∙ unset (t .store) (d .variable) m₁ (λ q. n (inl q))
+  begun-leaves : (b : Bool) (d : Loop) (m₁ m₂ m₃ : ℤ) → Sets (loopCells d) → Leaves (begun b d m₁ m₂ m₃ t)
+  begun-leaves false d m₁ m₂ m₃ sets = start
+  begun-leaves true d m₁ m₂ m₃ sets =
+      sets _ (d .step) m₃ (inr (inr (inl refl))) (sets _ (d .limit) m₂ (inr (inl refl)) (sets (t .store) (d .variable) m₁ (inl refl) start))
 
-  turned-same : (r : Turn) (d : Loop) → (In a (loopCells d) → ⊥) → Same a t (turned r d t)
-  turned-same (again i) d n = unset (t .store) (d .variable) i (λ q. n (inl q))
-  turned-same over d n = refl
+  turned-leaves : (r : Turn) (d : Loop) → Sets (loopCells d) → Leaves (turned r d t)
+  turned-leaves (again i) d sets = sets (t .store) (d .variable) i (inl refl) start
+  turned-leaves over d sets = start
 
-  ended-same : (b : Bool) (d : Loop) → (In a (loopCells d) → ⊥) → Same a t (ended b d t)
-  ended-same false d n = refl
-  ended-same true d n = turned-same (turn (cell (t .store) (d .variable)) (cell (t .store) (d .limit)) (cell (t .store) (d .step))) d n
+  ended-leaves : (b : Bool) (d : Loop) → Sets (loopCells d) → Leaves (ended b d t)
+  ended-leaves false d sets = start
+  ended-leaves true d sets = turned-leaves (turn (cell (t .store) (d .variable)) (cell (t .store) (d .limit)) (cell (t .store) (d .step))) d sets
 
-  act-same : (r : Rule) (i : Instr) → (In a (touchedBy i (t .store)) → ⊥) → Same a t (act r i t)
-  act-same r (HLT x) n = refl
-  act-same r (CON c) n = refl
-  act-same r (LOD x) n = refl
-  act-same r (STO x) n = unset (t .store) x (top (t .stack)) (λ q. n (inl q))
-  act-same r (LDE e) n = loaded-same e (placeOf (t .store) e)
-  act-same r (STE e) n = stored-same e (placeOf (t .store) e) (λ q. n (inr (inr q)))
-  act-same r (OP f) n = operated-same (apply r f (top (under (t .stack))) (top (t .stack))) (under (under (t .stack)))
-  act-same r NEG n = refl
-  act-same r (JMP x) n = refl
-  act-same r (BR3 x y z) n = refl
-  act-same r (BRC ts) n = branched-same (exit ts (top (t .stack)))
-  act-same r (DOI k d) n =
-      begun-same (allPositive (top (under (under (t .stack)))) (top (under (t .stack))) (top (t .stack))) d (top (under (under (t .stack)))) (top (under (t .stack))) (top (t .stack)) n
-  act-same r (DOE k d) n = ended-same (positive (cell (t .store) (d .step))) d n
+  act-leaves : (r : Rule) (i : Instr) → Sets (touchedBy i (t .store)) → Leaves (act r i t)
+  act-leaves r (HLT x) sets = start
+  act-leaves r (CON c) sets = start
+  act-leaves r (LOD x) sets = start
+  act-leaves r (STO x) sets = sets (t .store) x (top (t .stack)) (inl refl) start
+  act-leaves r (LDE e) sets = loaded-leaves e (placeOf (t .store) e)
+  act-leaves r (STE e) sets = stored-leaves e (placeOf (t .store) e) (λ c x v q. sets c x v (inr (inr q)))
+  act-leaves r (OP f) sets = operated-leaves (apply r f (top (under (t .stack))) (top (t .stack))) (under (under (t .stack)))
+  act-leaves r NEG sets = start
+  act-leaves r (JMP x) sets = start
+  act-leaves r (BR3 x y z) sets = start
+  act-leaves r (BRC ts) sets = branched-leaves (exit ts (top (t .stack)))
+  act-leaves r (DOI k d) sets =
+      begun-leaves (allPositive (top (under (under (t .stack)))) (top (under (t .stack))) (top (t .stack))) d (top (under (under (t .stack)))) (top (under (t .stack))) (top (t .stack)) sets
+  act-leaves r (DOE k d) sets = ended-leaves (positive (cell (t .store) (d .step))) d sets
 
 -- a cell that is not touched stays
-pub untouched : (o : Object) (t u : State) → step o t ≡ go u → (a : ℕ) → (In a (touches o t) → ⊥) → cell (u .store) a ≡ cell (t .store) a
+untouched : (o : Object) (t : State) (a : ℕ) → (In a (touches o t) → ⊥) → cell (cameTo (step o t) .store) a ≡ cell (t .store) a
 unfolding step touches
-untouched o t u e a n = subst (Same a t) e (act-same a t (ruleOf o) (instruction o (t .index)) n)
+untouched o t a n =
+    act-leaves (λ c. cell c a ≡ cell (t .store) a) t refl (ruleOf o) (instruction o (t .index))
+    (λ c x v q e. getD-set-other c x a v (pos 0) (λ s. n (subst (λ b. In b (touches o t)) (sym s) q)) ∙ e)
+
+pub same-length : (o : Object) (t : State) → length (cameTo (step o t) .store) ≡ length (t .store)
+unfolding step touches
+same-length o t = act-leaves (λ c. length c ≡ length (t .store)) t refl (ruleOf o) (instruction o (t .index)) (λ c x v q e. length-set c x v ∙ e)
 
 -- ---- what it reads: a state with other cells, alike in those that are touched
 
@@ -182,10 +188,13 @@ module _ (r : Rule) (index : ℕ) (stack c d : List ℤ) (mark : ℕ) (long : le
       (ended-alike (loopCells l) index stack c d mark long v (positive (cell c (l .step))) l (λ x q. q))
 
 -- states that agree in the touched cells do alike, and agree in them after
-pub touched-alike : (o : Object) (t u : State) → AgreeIn (touches o t) t u → AlikeIn (touches o t) (step o t) (step o u)
+touched-alike : (o : Object) (t u : State) → AgreeIn (touches o t) t u → AlikeIn (touches o t) (step o t) (step o u)
 unfolding step touches
 touched-alike o t u g =
     let e : state (t .index) (t .stack) (u .store) (t .mark) ≡ u =
     ap₂ (λ i s. state i s (u .store) (t .mark)) (g .index) (g .stack) ∙ ap (λ m. state (u .index) (u .stack) (u .store) m) (g .mark) in
     subst (λ v. AlikeIn (touches o t) (step o t) (step o v)) e
     (act-alike (ruleOf o) (t .index) (t .stack) (t .store) (u .store) (t .mark) (g .long) (instruction o (t .index)) (g .values))
+
+pub touches-only : (o : Object) (t : State) → TouchesOnly o t
+touches-only o t = record { reads = touched-alike o t; writes = untouched o t; long = same-length o t }

@@ -9,4 +9,5 @@ pub mod Check
 pub mod Calls
 pub mod Passed
 pub mod Safe
+pub mod Promised
 pub mod Small

@@ -23,7 +23,8 @@ use Rattle.rules_deck.specs.Translation.{cellOf, baseOf, limitOf, formPlain, he
 use Rattle.rules_deck.specs.Judge.{right11, right12, right13, right14, right15, formReferences, right16, formPooled, formWords, formExitWords, takes, right18, judgeForm}
 use Rattle.rules_deck.specs.Whole.{refused20, right21, right22, right24, formSets, right25, judgeDeck}
 use Rattle.rules_deck.specs.Compile.{deckOf, compiling}
-use Rattle.rules_deck.specs.Seen.{meaningOf, deckNames, deckDims, deckLevels, objectIn, namedCell, namedValues, rightStore, series}
+use Rattle.rules_object.specs.Promised.{rightStore}
+use Rattle.rules_deck.specs.Seen.{meaningOf, deckNames, deckDims, deckLevels, objectIn, namedCell, namedValues, series}
 use Rattle.rules_program.specs.Text.{numeral, signed as signedNumeral, stated, haltLine, refusedLine, subscripts as subscriptsText, valueLine}
 use Rattle.rules_program.specs.Program.{controlDigits, printedObject, printed}
 use mathlib.Core.List.{_++_}

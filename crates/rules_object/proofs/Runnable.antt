@@ -1,0 +1,71 @@
+-- A run is accepted exactly where its object passes the check, its store 50 and 51, and its state 52, in terms of paths. A fresh state always does, and so does what a run leaves.
+-- Assumes nothing.
+use mathlib.Core.Path.{_≡_, refl, sym, ap, _∙_, subst}
+use mathlib.Core.Logic.{_↔_}
+use mathlib.Core.Bool.{true}
+use mathlib.Core.List.{List}
+use mathlib.Core.Option.{Option, some}
+use Prim.Native.Nat.{ℕ}
+use native.Mathlib.Omega.{arith}
+use lib.ListN.{length}
+use lib.IntN.{ℤ}
+use Rattle.rules_shared.specs.Limits.{limits}
+use Rattle.rules_object.specs.Object.{Object}
+use Rattle.rules_object.specs.Bytes.{readObject}
+use Rattle.rules_object.specs.Machine.{step}
+use Rattle.rules_object.specs.Flow.{first}
+use Rattle.rules_shared.specs.Refusals.{accepted}
+use Rattle.rules_object.specs.Calls.{verdict, checking, Lent, taken, right50, right51, running}
+use Rattle.rules_object.specs.Safe.{Stands, freshLent}
+use Rattle.rules_object.specs.Promised.{rightStoreOf, rightStore, RightLent, Runnable}
+use Rattle.rules_object.proofs.Passed.{Passed, both}
+use Rattle.rules_object.proofs.Lents.{and-true, taken-stands, right-lent, lent-right}
+use Rattle.rules_object.proofs.Accepts.{checks, Accepts, accepts, accepts-run}
+use Rattle.rules_object.proofs.Refusals.{from-accepts}
+use Rattle.rules_object.proofs.GoesOn.{leaves-right, places-forty}
+
+-- the bytes are one object
+one-object : (bytes : List ℕ) {o p : Object} → readObject bytes ≡ some o → readObject bytes ≡ some p → o ≡ p
+one-object bytes {o = o} {p = p} e f = let q : _≡_ {A = Option Object} (some o) (some p) = sym e ∙ f in cc
+
+module _ {bytes : List ℕ} {store : List ℤ} {l : Lent} where
+  pub runnable-accepts : Runnable bytes store l → Accepts bytes store l
+  unfolding rightStore
+  runnable-accepts r =
+      let x = checks bytes (ap (λ r. r .number) (r .passes)) in
+      let o = x .object in
+      let s = both (right50 o store) (right51 o store) (sym (ap (λ p. rightStoreOf p store) (x .passes .reads)) ∙ r .stored) in
+      record { object = o; table = x .table; is = x .is; passes = x .passes; right50 = s .0; right51 = s .1; right52 = lent-right (x .passes) l (r .stands o (x .passes .reads)) }
+
+  pub accepts-runnable : length (l .places) ≡ limits .stack → Accepts bytes store l → Runnable bytes store l
+  unfolding rightStore checking
+  accepts-runnable forty x =
+      record {
+        passes = ap verdict (x .is);
+        stored = ap (λ p. rightStoreOf p store) (x .passes .reads) ∙ and-true (x .right50) (x .right51);
+        stands = λ o e. subst (λ p. RightLent p l) (one-object bytes (x .passes .reads) e) (right-lent (x .passes) l (x .right52));
+        forty = forty;
+      }
+
+pub runs-exactly : (bytes : List ℕ) (store : List ℤ) (l : Lent) → length (l .places) ≡ limits .stack → (a : ℕ) → (running bytes store l a .refusal ≡ accepted) ↔ Runnable bytes store l
+runs-exactly bytes store l forty a = (
+  λ e. accepts-runnable forty (accepts bytes store l a (ap (λ r. r .number) e)),
+  λ r. let x = runnable-accepts r in ap (λ z. z .refusal) (accepts-run x a) ∙ from-accepts (x .object) (step (x .object)) a (taken l store),
+)
+
+-- from the start, and again
+
+pub fresh-runnable : (bytes : List ℕ) (store : List ℤ) → checking bytes ≡ accepted → rightStore bytes store ≡ true → Runnable bytes store freshLent
+fresh-runnable bytes store e s = record { passes = e; stored = s; stands = λ o r. record { reached = first; stack = tt; mark = omega arith }; forty = refl }
+
+pub leaves-runnable : (bytes : List ℕ) (store : List ℤ) (l : Lent) → Runnable bytes store l → (a : ℕ) → Runnable bytes (running bytes store l a .store) (running bytes store l a .lent)
+leaves-runnable bytes store l r a =
+    let e = ap (λ r. r .number) (runs-exactly bytes store l (r .forty) a .1 r) in
+    runs-exactly bytes _ _ (places-forty bytes store l (r .forty) a) 0 .0 (leaves-right bytes store l (r .forty) a e 0)
+
+-- the object's state, and that it stands
+pub runnable-stands : {bytes : List ℕ} {store : List ℤ} {l : Lent} → Runnable bytes store l → (o : Object) → readObject bytes ≡ some o → (table : List ℕ) × (Passed bytes o table × Stands o table (taken l store))
+runnable-stands {bytes} {store} {l} r o e =
+    let x = runnable-accepts r in
+    subst (λ p. (table : List ℕ) × (Passed bytes p table × Stands p table (taken l store))) (one-object bytes (x .passes .reads) e)
+    (x .table, (x .passes, taken-stands (x .object) (x .table) l store (r .forty) (x .right50) (x .right51) (x .right52)))
