@@ -104,11 +104,11 @@ module _ {bytes : List ℕ} {o : Object} {table : List ℕ} (p : Passed bytes o 
   unfolding right52 flowOf
   right-lent e =
       let e₁ = both (ltb (l .index) (length (o .code))) _ e in
-      let e₂ = both (leb (at table (l .index)) (limits .stack)) _ (e₁ .1) in
-      let e₃ = both (eqb (l .height) (at table (l .index))) _ (e₂ .1) in
+      let e₂ = both (leb (heightAt table (l .index)) (limits .stack)) _ (e₁ .1) in
+      let e₃ = both (eqb (l .height) (heightAt table (l .index))) _ (e₂ .1) in
       let e₄ = both (all (fits (ruleOf o)) (take (l .height) (l .places))) _ (e₃ .1) in
-      let low = leb-true (at table (l .index)) (limits .stack) (e₂ .0) in
-      let same = eqb-true (l .height) (at table (l .index)) (e₃ .0) in
+      let low = leb-true (heightAt table (l .index)) (limits .stack) (e₂ .0) in
+      let same = eqb-true (l .height) (heightAt table (l .index)) (e₃ .0) in
       record {
         reached = height-reached (flowOf o) table (p .least) (l .index) (l .height) (ltb-true _ _ (e₁ .0)) (sym same) (omega arith);
         stack = all-each o (take (l .height) (l .places)) (e₄ .0);
@@ -122,7 +122,7 @@ module _ {bytes : List ℕ} {o : Object} {table : List ℕ} (p : Passed bytes o 
       let same = h .1 .0 in
       let low = h .1 .1 in
       and-true (lt-ltb _ _ (h .0))
-      (and-true (le-leb (at table (l .index)) (limits .stack) (omega arith))
+      (and-true (le-leb (heightAt table (l .index)) (limits .stack) (omega arith))
       (and-true (eq-eqb _ _ (sym same)) (and-true (each-all o (take (l .height) (l .places)) (r .stack)) (le-leb _ _ (r .mark)))))
 
 -- ---- and back

@@ -18,7 +18,8 @@ use Rattle.rules_shared.specs.Refusals.{accepted}
 use Rattle.rules_object.specs.Calls.{verdict, checking, Lent, taken, right50, right51, running}
 use Rattle.rules_object.specs.Safe.{Stands, freshLent}
 use Rattle.rules_object.specs.Promised.{rightStoreOf, rightStore, RightLent, Runnable}
-use Rattle.rules_object.proofs.Passed.{Passed, both}
+use Rattle.rules_object.specs.Passed.{Passed}
+use Rattle.rules_object.proofs.Passed.{both}
 use Rattle.rules_object.proofs.Lents.{and-true, taken-stands, right-lent, lent-right}
 use Rattle.rules_object.proofs.Accepts.{checks, Accepts, accepts, accepts-run}
 use Rattle.rules_object.proofs.Refusals.{from-accepts}
