@@ -11,7 +11,7 @@ use Rattle.rules_shared.specs.Refusals.{accepted}
 use Rattle.rules_shared.specs.Output.{notWritten, writtenIf, write}
 use Rattle.rules_object.proofs.ObjectExamples.{p9, p10, p11, p12}
 use Rattle.rules_object.proofs.CheckExactly.{check-exactly}
-use Rattle.rules_object.proofs.Runnable.{runs-exactly, fresh-runnable, leaves-runnable}
+use Rattle.rules_object.proofs.Runnable.{runs-exactly, benches-exactly, fresh-runnable, leaves-runnable}
 use Rattle.rules_object.proofs.Touches.{touches-only}
 use Rattle.rules_object.proofs.Refusals.{run-keeps, bench-keeps, map-keeps, bench-only}
 use Rattle.rules_object.proofs.RoundTrip.{reads-back, writes-back}
@@ -68,6 +68,7 @@ kept =
       cellsPast = cells-past-kept;
       benchIsRun = bench-is-run-kept;
       benchStartsFresh = bench-starts-fresh-kept;
+      benchesExactly = benches-exactly;
       benchRefuses = bench-only;
       placesApart = places-kept;
       compiledPasses = passes-kept;

@@ -1,5 +1,5 @@
 -- Every promise, each under a sentence in plain words. Decks and objects are bytes here; `compiling`, `checking`, `running`, `benching` and `mapping` are the calls,
--- `meaningOf` is what a deck means. `proofs/Kept.antt` has the proof of each.
+-- `meaningOf` is what a deck means. `Judged`, `Runnable`, `TouchesOnly` and `StepsOf` stand in `rules_object`, in `Promised.antt`. `proofs/Kept.antt` has the proof of each.
 -- Assumes nothing.
 use mathlib.Core.Path.{_≡_}
 use mathlib.Core.Logic.{_↔_}
@@ -17,7 +17,7 @@ use Rattle.rules_object.specs.Bytes.{objectBytes, readObject}
 use Rattle.rules_shared.specs.Lists.{Each}
 use Rattle.rules_object.specs.Writable.{IsByte, Writable}
 use Rattle.rules_object.specs.Machine.{State, cell, step}
-use Rattle.rules_object.specs.Check.{span, flowOf, benchStep}
+use Rattle.rules_object.specs.Check.{span, flowOf, benchStep, right41}
 use Rattle.rules_object.specs.Flow.{heightAt, Valid, NoTable, Reached, PathsAgree}
 use Rattle.rules_object.specs.Heights.{heights}
 use Rattle.rules_shared.specs.Refusals.{refusal, accepted}
@@ -139,7 +139,7 @@ abbrev pub CheckedRuns : Type 0
 CheckedRuns =
     (object : List ℕ) (store : List ℤ) → checking object ≡ accepted → rightStore object store ≡ true → (a : ℕ) → running object store freshLent a .refusal ≡ accepted
 
--- From any state a run is accepted exactly if the object, the store and the state may be run: 52 asks for no more than that a path comes to the state.
+-- From any state a run is accepted exactly if object, store and state may be run. 52 asks for no more than a path to the state with its height, numbers that fit, and a mark of the code.
 abbrev pub RunsExactly : Type 0
 RunsExactly =
     (object : List ℕ) (store : List ℤ) (l : Lent) → length (l .places) ≡ limits .stack → (a : ℕ) → (running object store l a .refusal ≡ accepted) ↔ Runnable object store l
@@ -227,7 +227,12 @@ BenchStartsFresh =
     (object : List ℕ) (store : List ℤ) (l : Lent) (a : ℕ) → (benching object store l a .refusal ≡ benching object store freshLent a .refusal) ×
     (benching object store l a .refusal ≡ accepted → benching object store l a ≡ benching object store freshLent a)
 
--- a bench run refuses only by 40, 41, 50 and 51
+-- A bench run is accepted exactly if the bytes are an object that passes 41, and the store is right; it refuses only by 40, 41, 50 and 51.
+abbrev pub BenchesExactly : Type 0
+BenchesExactly =
+    (object : List ℕ) (store : List ℤ) (l : Lent) (a : ℕ) → (benching object store l a .refusal ≡ accepted) ↔
+    ((o : Object) × (readObject object ≡ some o) × (right41 o ≡ true) × (rightStore object store ≡ true))
+
 abbrev pub BenchRefuses : Type 0
 BenchRefuses = (object : List ℕ) (store : List ℤ) (l : Lent) (a : ℕ) → In (benching object store l a .refusal .number) (0 ∷ 40 ∷ 41 ∷ 50 ∷ 51 ∷ [])
 
@@ -308,6 +313,7 @@ pub record Kept : Type 0 where
   pub cellsPast : CellsPast
   pub benchIsRun : BenchIsRun
   pub benchStartsFresh : BenchStartsFresh
+  pub benchesExactly : BenchesExactly
   pub benchRefuses : BenchRefuses
   pub placesApart : PlacesApart
   pub compiledPasses : CompiledPasses

@@ -1,10 +1,11 @@
 -- A run is accepted exactly where its object passes the check, its store 50 and 51, and its state 52, in terms of paths. A fresh state always does, and so does what a run leaves.
+-- A bench run asks for 40, 41, 50 and 51 alone.
 -- Assumes nothing.
 use mathlib.Core.Path.{_≡_, refl, sym, ap, _∙_, subst}
 use mathlib.Core.Logic.{_↔_}
 use mathlib.Core.Bool.{true}
 use mathlib.Core.List.{List}
-use mathlib.Core.Option.{Option, some}
+use mathlib.Core.Option.{Option, none, some}
 use Prim.Native.Nat.{ℕ}
 use native.Mathlib.Omega.{arith}
 use lib.ListN.{length}
@@ -12,16 +13,17 @@ use lib.IntN.{ℤ}
 use Rattle.rules_shared.specs.Limits.{limits}
 use Rattle.rules_object.specs.Object.{Object}
 use Rattle.rules_object.specs.Bytes.{readObject}
-use Rattle.rules_object.specs.Machine.{step}
+use Rattle.rules_object.specs.Machine.{fresh, step}
 use Rattle.rules_object.specs.Flow.{first}
+use Rattle.rules_object.specs.Check.{right41, benchStep}
 use Rattle.rules_shared.specs.Refusals.{accepted}
-use Rattle.rules_object.specs.Calls.{verdict, checking, Lent, taken, right50, right51, running}
+use Rattle.rules_object.specs.Calls.{verdict, checking, Lent, taken, right50, right51, runFrom, orRefused, running, benchObject, benching}
 use Rattle.rules_object.specs.Safe.{Stands, freshLent}
 use Rattle.rules_object.specs.Promised.{rightStoreOf, rightStore, RightLent, Runnable}
 use Rattle.rules_object.specs.Passed.{Passed}
 use Rattle.rules_object.proofs.Passed.{both}
 use Rattle.rules_object.proofs.Lents.{and-true, taken-stands, right-lent, lent-right}
-use Rattle.rules_object.proofs.Accepts.{checks, Accepts, accepts, accepts-run}
+use Rattle.rules_object.proofs.Accepts.{checks, Accepts, accepts, accepts-run, BenchAnswer, refuses, runs, refusedBench, bench-answer}
 use Rattle.rules_object.proofs.Refusals.{from-accepts}
 use Rattle.rules_object.proofs.GoesOn.{leaves-right, places-forty}
 
@@ -54,7 +56,27 @@ runs-exactly bytes store l forty a = (
   λ r. let x = runnable-accepts r in ap (λ z. z .refusal) (accepts-run x a) ∙ from-accepts (x .object) (step (x .object)) a (taken l store),
 )
 
--- from the start, and again
+-- a bench run is accepted by 40, 41, 50 and 51 alone
+pub benches-exactly : (bytes : List ℕ) (store : List ℤ) (l : Lent) (a : ℕ)
+    → (benching bytes store l a .refusal ≡ accepted) ↔ ((o : Object) × (readObject bytes ≡ some o) × (right41 o ≡ true) × (rightStore bytes store ≡ true))
+unfolding benching rightStore
+benches-exactly bytes store l a = (there (bench-answer bytes store), back)
+  where
+    there : BenchAnswer bytes store → benching bytes store l a .refusal ≡ accepted → (o : Object) × (readObject bytes ≡ some o) × (right41 o ≡ true) × (rightStore bytes store ≡ true)
+    there (refuses r p q) e = let z : r .number ≡ 0 = ap (λ x. x .refusal .number) (sym (q l a)) ∙ ap (λ r. r .number) e in absurd (omega arith)
+    there (runs x q) e = (x .object, x .reads, x .right41, ap (λ p. rightStoreOf p store) (x .reads) ∙ and-true (x .right50) (x .right51))
+
+    back : (o : Object) × (readObject bytes ≡ some o) × (right41 o ≡ true) × (rightStore bytes store ≡ true) → benching bytes store l a .refusal ≡ accepted
+    back x =
+        let o = x .0 in
+        let s = both (right50 o store) (right51 o store) (sym (ap (λ p. rightStoreOf p store) (x .1)) ∙ x .3) in
+        let q₁ = x .2 in
+        let q₂ = s .0 in
+        let q₃ = s .1 in
+        let q : refusedBench o store ≡ none = rw (q₁, q₂, q₃) refl in
+        ap (λ p. benchObject p store l a .refusal) (x .1) ∙ ap (λ r. orRefused r l store (runFrom o (benchStep o) a (fresh store)) .refusal) q ∙ from-accepts o (benchStep o) a (fresh store)
+
+-- ---- from the start, and again
 
 pub fresh-runnable : (bytes : List ℕ) (store : List ℤ) → checking bytes ≡ accepted → rightStore bytes store ≡ true → Runnable bytes store freshLent
 fresh-runnable bytes store e s = record { passes = e; stored = s; stands = λ o r. record { reached = first; stack = tt; mark = omega arith }; forty = refl }

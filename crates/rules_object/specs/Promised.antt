@@ -1,4 +1,4 @@
--- What the page of promises says of objects and runs: what passes the check, what may be run, which cells a step touches, what a run's steps are.
+-- What the page of promises says of objects and runs, next to its theorems: what passes the check, what may be run, which cells a step touches, what a run's steps are.
 -- Assumes nothing.
 use mathlib.Core.Path.{_≡_}
 use mathlib.Core.Bool.{Bool, true, false, _&&_}
@@ -47,12 +47,13 @@ rightStoreOf (some o) store = right50 o store && right51 o store
 unfoldable pub rightStore : List ℕ → List ℤ → Bool
 rightStore bytes store = rightStoreOf (readObject bytes) store
 
--- 52 in terms of paths: one comes to the index with the height
+-- 52 lets the state pass, in terms of paths: one comes to its index with its height; the stack's numbers are within the digits, and the mark is of the code or 0
 pub record RightLent (o : Object) (l : Lent) : Type 0 where
   pub reached : Reached (flowOf o) (l .index) (l .height)
   pub stack : Each (Within o) (take (l .height) (l .places))
   pub mark : l .mark ≤ length (o .code)
 
+-- an object that passes the check, a store that 50 and 51 let pass, and a state of forty places that 52 lets pass
 pub record Runnable (bytes : List ℕ) (store : List ℤ) (l : Lent) : Type 0 where
   pub passes : checking bytes ≡ accepted
   pub stored : rightStore bytes store ≡ true
