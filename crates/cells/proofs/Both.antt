@@ -10,8 +10,9 @@ use Rattle.draft.specs.Parts.{itemsPlain, rightItems}
 use Rattle.draft.specs.Names.{Lists, namesFit}
 use Rattle.names.specs.declared.Grown.{Grown}
 use Rattle.names.specs.declared.Grown.the-variants.{Names, Full}
-use Rattle.names.specs.Lookups.{References}
-use Rattle.names.specs.Appears.{Appeared, Within, Appears}
+use Rattle.judge_references.specs.Rights.{References}
+use Rattle.names.specs.Appears.{Appeared, Within}
+use Rattle.take_names.specs.Takes.{Appears}
 use Rattle.names.proofs.Growth.{cells-append, lists-hidden, over-cells, over-appear, appear-append}
 use Rattle.cells.specs.Operands.{RightBoth, TakesBoth, Hides}
 

@@ -11,10 +11,10 @@ pub fn right_operands(first: &[u64], items: &[u64], table: &[u64], n: usize) -> 
     requires { ⌜ Worded (now first) × (Worded (now items) × (4 * n ≤ length (now table))) ⌝ }
     ensures { λ r. ⌜ RightBoth (now (first .entry)) (now (items .entry)) (now (table .entry)) n r ⌝ }
 {
-    if !names::references_right(first, table, n) {
+    if !judge_references::references_right(first, table, n) {
         return false;
     }
-    names::references_right(items, table, n)
+    judge_references::references_right(items, table, n)
 }
 
 pub fn take_operands(
@@ -27,10 +27,10 @@ pub fn take_operands(
     requires { ⌜ Worded (now first) × (Worded (now items) × ((length (now table) ≡ 400) × ((n ≤ 100) × (cells ≤ 4096)))) ⌝ }
     ensures { λ r. ⌜ TakesBoth (now (first .entry)) (now (items .entry)) (now (table .entry)) (now (table .exit)) n cells r ⌝ }
 {
-    let Grown::Names { names: a, cells: b } = names::appear(first, table, n, cells) else {
+    let Grown::Names { names: a, cells: b } = take_names::appear(first, table, n, cells) else {
         return Grown::Full;
     };
-    names::appear(items, table, a, b)
+    take_names::appear(items, table, a, b)
 }
 
 // A DO's limit and step come after its names.

@@ -6,15 +6,14 @@ use native.Mathlib.Omega.{arith}
 use native.Mathlib.Nat.{mod-eq-of-lt}
 use mathlib.Core.List.{List, [], _∷_, _++_}
 use lib.ListN.{length, length-append}
-use Rattle.rules_object.specs.Machine.{HLT, LOD, JMP, BR3, BRC, DOI}
-use Rattle.rules_deck.specs.Translation.{cellOf, Tables, tablesAfter}
+use Rattle.rules_object.specs.Machine.{HLT, JMP, BR3, BRC, DOI}
+use Rattle.rules_deck.specs.Translation.{Tables, tablesAfter}
 use Rattle.draft.specs.declared.Counts.{Counts}
 use Rattle.draft.specs.Kept.{Tabled, Fit}
-use Rattle.names.specs.Lookups.{CellOf}
 use Rattle.emission.specs.declared.Emitted.{Emitted}
 use Rattle.emission.specs.declared.Emitted.the-variants as emitted
 use Rattle.emission.specs.Emits.{Grows, Appends}
-use Rattle.emission.specs.Contracts.{EmitsLoad, EmitsJump, EmitsHalt, EmitsThree, EmitsChoose, EmitsEnter}
+use Rattle.emission.specs.Contracts.{EmitsJump, EmitsHalt, EmitsThree, EmitsChoose, EmitsEnter}
 use Rattle.emission.proofs.Fits.{exits-over, code-over}
 use Rattle.emission.proofs.Both.{no-room}
 use Rattle.emission.proofs.One.{Between, itself, grows-with, grows, one-with, one, no-counts}
@@ -31,12 +30,6 @@ module _ {ws ws′ : List ℕ} {n : Counts} {r : Emitted} (f : Fit n) where
     λ s T c e t.
         let same : word ≡ number = w ∙ mod-eq-of-lt (let k : number < 4294967296 = omega (arith, s) in k) in
         one (itself n) f a T (JMP number) t refl same (omega (arith, s, same)),
-  )
-
-  pub loaded : {names : List ℕ} {word x : ℕ} → CellOf names (n .names) word x → Appends ws ws′ n 2 x r → Grows 0 n r × EmitsLoad word names ws ws′ n r
-  loaded {names} {word} {x} g a = (
-    grows (itself n) f a,
-    λ held v T c e l t q told h. one (itself n) f a T (LOD (cellOf held v)) t refl (g .is held (n .cells) v l told q h) (omega (arith, g .low)),
   )
 
   pub entered : (n .code + n .dos < 4095) → Appends ws ws′ n 14 (n .dos) r → Grows 1 n r × EmitsEnter ws ws′ n r

@@ -22,7 +22,8 @@ use Rattle.draft.proofs.ReadForm.{rightNumber, number-exact, right13-capped}
 use Rattle.emission.specs.declared.Emitted.{Emitted}
 use Rattle.emission.specs.declared.Emitted.the-variants as emitted
 use Rattle.emission.specs.Emits.{Grows, EmitsWith}
-use Rattle.emission.specs.Contracts.{EmitsStore, EmitsLoad, EmitsJump, EmitsHalt, EmitsThree, EmitsChoose, EmitsEnter}
+use Rattle.emission.specs.Contracts.{EmitsJump, EmitsHalt, EmitsThree, EmitsChoose, EmitsEnter}
+use Rattle.emit_operands.specs.Operands.{EmitsStore, EmitsLoad}
 use Rattle.emission.proofs.Both.{emits-both, full-then}
 use Rattle.plans.specs.declared.Plan.{Plan}
 use Rattle.plans.specs.Plans.{formPlan}

@@ -18,7 +18,7 @@ use Rattle.draft.proofs.FormParts.{form-code}
 use Rattle.emission.specs.declared.Emitted.{Emitted}
 use Rattle.emission.specs.declared.Emitted.the-variants as emitted
 use Rattle.emission.specs.Emits.{Beside, Grows, EmitsWith}
-use Rattle.emission.specs.Contracts.{EmitsItems}
+use Rattle.emit_operands.specs.Operands.{EmitsItems}
 use Rattle.emission.proofs.Both.{emits-both, full-then, has-room}
 use Rattle.plans.specs.declared.Plan.{Plan}
 use Rattle.endings.specs.Endings.{EmitsEnding, EmitsPlan}

@@ -17,7 +17,7 @@ fn choose_exit(p: Plan, names: &[u64], code: &mut [u32], n: Counts) -> Emitted
 {
     let target = p.target;
     let name = marks::cell_word(target);
-    let Emitted::Counts(m) = emission::load(name, names, code, n) else {
+    let Emitted::Counts(m) = emit_operands::load(name, names, code, n) else {
         return Emitted::Full;
     };
     emission::choose(p.listed, code, m)
@@ -29,7 +29,7 @@ fn end(p: Plan, names: &[u64], elements: &mut [u32], code: &mut [u32], n: Counts
 {
     if p.kind == 0 {
         let target = p.target;
-        return emission::store(target, names, elements, code, n);
+        return emit_operands::store(target, names, elements, code, n);
     }
     if p.kind == 1 {
         return emission::jump(p.below, code, n);
@@ -65,8 +65,14 @@ pub fn emit_plan(
     ensures { λ r. ⌜ Grows (doesOf p) n r × EmitsPlan p (now (items .entry)) (now (names .entry)) (now (constants .entry)) (now (elements .entry)) (now (code .entry)) (now (constants .exit)) (now (elements .exit)) (now (code .exit)) n r ⌝ }
 {
     let count = p.count;
-    let Emitted::Counts(m) = emission::emit(&items[0..count], names, constants, elements, code, n)
-    else {
+    let Emitted::Counts(m) = emit_operands::emit(
+        &items[0..count],
+        names,
+        constants,
+        elements,
+        code,
+        n,
+    ) else {
         return Emitted::Full;
     };
     end(p, names, elements, code, m)

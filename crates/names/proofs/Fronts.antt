@@ -6,7 +6,7 @@ use native.Mathlib.Omega.{arith}
 use mathlib.Core.List.{List, [], _∷_, _++_}
 use lib.ListN.{length, getD, take, drop, length-append, length-drop}
 use lib.Seq.{drop-drop, drop-at, take-all}
-use Rattle.number.specs.Number.{add, sub, mul, div}
+use Rattle.number.specs.Number.{Op, add, sub, mul, div}
 use Rattle.draft.specs.Parts.{Item, value, plain, place, negate, apply, itemWords, itemsWords, Worded}
 use Rattle.names.specs.Find.{itemLength}
 use Rattle.names.proofs.Tests.{head-at}
@@ -103,3 +103,13 @@ pub rest-worded : (words : List ℕ) (at : ℕ) → Worded (drop at words) → a
     → Worded (take (length words - at) (drop at words)) × (0 < length (take (length words - at) (drop at words)))
 rest-worded words at w l =
     subst (λ (x : List ℕ). Worded x × (0 < length x)) (sym (lent words at)) (w, (let d = length-drop at words in omega (arith, d, l)))
+
+pub kind-is : {items : List ℕ} (i : Item) (more : List ℕ) → items ≡ itemWords i ++ more → (k : ℕ) → getD items 0 0 ≡ k → getD (itemWords i ++ more) 0 0 ≡ k
+kind-is i more e k h = ap (λ (x : List ℕ). getD x 0 0) (sym e) ∙ h
+
+-- an operation's first word is none of an operand
+pub no-operand : (o : Op) (more : List ℕ) (k : ℕ) → k < 5 → getD (itemWords (apply o) ++ more) 0 0 ≡ k → ⊥
+no-operand add more k l e = omega (arith, l, e)
+no-operand sub more k l e = omega (arith, l, e)
+no-operand mul more k l e = omega (arith, l, e)
+no-operand div more k l e = omega (arith, l, e)

@@ -11,7 +11,7 @@ use lib.Seq.{getD-drop, drop-drop}
 use borrow.Author.Tests.{eq-eqb, ne-eqb, lt-ltb, le-ltb}
 use Rattle.items.specs.Parsed.{Put}
 use Rattle.items.proofs.Tables.{put-both, put-more}
-use Rattle.names.specs.Find.{ofKind, isEntry, firstEntry, rightWords, itemLength}
+use Rattle.names.specs.Find.{ofKind, isEntry, firstEntry, itemLength}
 use Rattle.names.proofs.Tests.{head-at}
 
 -- ---- one entry
@@ -84,13 +84,7 @@ put-four t n x y z w l =
     let e : 4 * n + 2 + 2 ≡ 4 * n + 4 = omega arith in
     subst (λ (r : ℕ). Put t (set (set (set (set t (4 * n) x) (4 * n + 1) y) (4 * n + 2) z) (4 * n + 2 + 1) w) (4 * n) (x ∷ y ∷ z ∷ w ∷ []) r) e p
 
--- ---- subscripts counted, and an item's length
-
-pub count-one : (c d : ℕ) → c ≡ 1 → eqb d 0 ≡ rightWords c d
-count-one c d e = ap (λ (x : ℕ). rightWords x d) (sym e)
-
-pub count-two : (c d : ℕ) → (c ≡ 1 → ⊥) → leb 1 d ≡ rightWords c d
-count-two c d n = ap (λ (b : Bool). cond b (eqb d 0) (leb 1 d)) (sym (ne-eqb c 1 n))
+-- ---- an item's length
 
 pub eleven : (k : ℕ) → k ≡ 4 → 11 ≡ itemLength k
 eleven k e = ap itemLength (sym e)

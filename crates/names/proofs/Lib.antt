@@ -3,7 +3,4 @@ pub mod Spots
 pub mod Leaves
 pub mod Looks
 pub mod Fronts
-pub mod Rights
 pub mod Growth
-pub mod Takes
-pub mod Growing

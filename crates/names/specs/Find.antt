@@ -19,10 +19,6 @@ unfoldable pub firstEntry : Bool → ℕ → ℕ → List ℕ → ℕ
 firstEntry arrays name zero words = 0
 firstEntry arrays name (suc n) words = cond (isEntry arrays name words) 0 (suc (firstEntry arrays name n (drop 4 words)))
 
--- as many subscripts as dimensions
-abbrev pub rightWords : ℕ → ℕ → Bool
-rightWords count columns = cond (eqb count 1) (eqb columns 0) (leb 1 columns)
-
 -- how many words an item has, by its first
 abbrev pub itemLength : ℕ → ℕ
 itemLength kind = cond (eqb kind 4) 11 (cond (ltb kind 3) 2 1)

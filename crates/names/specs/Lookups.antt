@@ -1,16 +1,13 @@
--- What is read of the table of names: what it holds, cells, dimensions, and 16 of some operands.
+-- What is read of the table of names: what it holds, cells and dimensions.
 -- Assumes nothing.
 use mathlib.Core.Path.{_≡_}
 use Prim.Native.Nat.{ℕ, _≤_, _<_}
-use mathlib.Core.Bool.{Bool, true, false, _&&_, not}
-use mathlib.Core.List.{List, _++_}
-use Rattle.rules_shared.specs.Lists.{all}
-use Rattle.rules_deck.specs.Trees.{Name, Subscripts}
+use mathlib.Core.Bool.{Bool, true, false}
+use mathlib.Core.List.{List}
+use Rattle.rules_deck.specs.Trees.{Name}
 use Rattle.rules_deck.specs.Translation.{Held, isName, isArray, holds, cellOf, baseOf}
 use Rattle.rules_deck.specs.Judge.{Reference, rightReference}
-use Rattle.rules_deck.proofs.Readers.{All}
 use Rattle.tokens.specs.Words.{nameWord}
-use Rattle.draft.specs.Parts.{Item, place, itemWords, itemsWords, itemNames, itemsNames, itemPlain, itemReferences, rightItems}
 use Rattle.draft.specs.Names.{Lists, Told, dimsHeld}
 use Rattle.names.specs.declared.Entry.{Entry}
 
@@ -42,21 +39,3 @@ pub record ArrayOf (table : List ℕ) (n name : ℕ) (r : Entry) : Type 0 where
   pub columns-low : r .columns ≤ 4096
   pub is : (held : List Held) (cells : ℕ) (e : Reference) → Lists held table n cells → Told (e .name) → name ≡ nameWord (e .name) → rightReference held e ≡ true
       → Stands held (e .name) r
-
--- 16 of the operand that some words start with
-abbrev pub rightItem : List Held → Item → Bool
-rightItem held i = all (rightReference held) (itemReferences i) && all (λ v. not (holds (isArray v) held)) (itemPlain i)
-
-abbrev pub RightItem : List ℕ → List ℕ → ℕ → Bool → Type 0
-RightItem items table n r =
-    (held : List Held) (cells : ℕ) (i : Item) (more : List ℕ) → Lists held table n cells → items ≡ itemWords i ++ more → All Told (itemNames i) → r ≡ rightItem held i
-
-abbrev pub RightPlace : List ℕ → List ℕ → ℕ → Bool → Type 0
-RightPlace items table n r =
-    (held : List Held) (cells : ℕ) (v : Name) (s : Subscripts) (more : List ℕ) → Lists held table n cells → items ≡ itemWords (place v s) ++ more
-    → All Told (itemNames (place v s)) → r ≡ rightItem held (place v s)
-
--- 16 of some operands
-abbrev pub References : List ℕ → List ℕ → ℕ → Bool → Type 0
-References items table n r =
-    (held : List Held) (cells : ℕ) (is : List Item) → Lists held table n cells → items ≡ itemsWords is → All Told (itemsNames is) → r ≡ rightItems held is

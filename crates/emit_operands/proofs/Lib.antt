@@ -1,0 +1,3 @@
+pub mod Operands
+pub mod Items
+pub mod Emitting

@@ -1,0 +1,155 @@
+-- One name, and the names of one operand, taking their cells.
+-- Assumes nothing.
+use mathlib.Core.Path.{_≡_, sym, ap, _∙_, subst}
+use Prim.Native.Nat.{ℕ, _+_, _*_, _≤_, _<_}
+use native.Mathlib.Omega.{arith}
+use mathlib.Core.Bool.{Bool, true, false, cond}
+use mathlib.Core.List.{List, [], _∷_, _++_}
+use lib.ListN.{getD, take}
+use Rattle.rules_deck.specs.Trees.{Name, Subscript, constant, linear, Subscripts, one, two, subscriptNames, subscriptsNames}
+use Rattle.rules_deck.specs.Translation.{Held, name, appear}
+use Rattle.rules_deck.proofs.Readers.{All, all-none, all-more, all-one}
+use Rattle.tokens.specs.Words.{nameWord}
+use Rattle.elements.specs.Values.{subscriptValue, subscriptsValue}
+use Rattle.items.specs.Parsed.{Put}
+use Rattle.draft.specs.Parts.{Item, value, plain, place, negate, apply, itemWords, itemNames, itemPlain}
+use Rattle.draft.specs.Names.{heldWords, Told, Lists, namesFit}
+use Rattle.names.specs.declared.Grown.{Grown}
+use Rattle.names.specs.declared.Grown.the-variants.{Names, Full}
+use Rattle.names.specs.Lookups.{Holds}
+use Rattle.names.specs.Appears.{Appeared, Within}
+use Rattle.take_names.specs.Takes.{TakesName, TakesAny, TakesItem}
+use Rattle.names.proofs.Tests.{split-all}
+use Rattle.draft.proofs.NameWords.{some-word}
+use Rattle.names.proofs.Fronts.{no-operand, kind-is}
+use Rattle.names.proofs.Growth.{count-append, cells-append, lists-more, over-names, over-cells, over-appear, appear-append}
+
+pub within-names : {r : Grown} {a b : ℕ} → Within r → r ≡ Names a b → (a ≤ 100) × (b ≤ 4096)
+within-names w e = subst (λ (x : Grown). Within x) e w
+
+-- ---- one name
+
+module _ (t : List ℕ) (n cells word : ℕ) (r : Bool) (h : Holds t n word false r) where
+  -- it is held, or it comes at the end
+  kept : (held : List Held) (v : Name) → Lists held t n cells → word ≡ nameWord v → Told v → r ≡ true → held ≡ appear held (v ∷ [])
+  kept held v l e tv p = ap (λ (b : Bool). cond b held (held ++ (name v ∷ []))) (sym p ∙ h .is held cells v l tv e)
+
+  comes : (held : List Held) (v : Name) → Lists held t n cells → word ≡ nameWord v → Told v → r ≡ false → held ++ (name v ∷ []) ≡ appear held (v ∷ [])
+  comes held v l e tv p = ap (λ (b : Bool). cond b held (held ++ (name v ∷ []))) (sym p ∙ h .is held cells v l tv e)
+
+  pub take-same : r ≡ true → n ≤ 100 → cells ≤ 4096 → TakesName t t n cells word (Names n cells)
+  take-same p fn fc = record { within = (fn, fc); is = λ held v l e tv. subst (λ (x : List Held). Lists x t n cells) (kept held v l e tv p) l }
+
+  pub take-names : r ≡ false → n ≡ 100 → TakesName t t n cells word Full
+  take-names p fn =
+      record {
+        within = tt;
+        is = λ held v l e tv.
+            subst (λ (x : List Held). namesFit x ≡ false) (comes held v l e tv p)
+            (over-names (held ++ (name v ∷ [])) (let a = l .names-are in let b = count-append held (name v ∷ []) in omega (arith, a, b, fn)));
+      }
+
+  pub take-cells : r ≡ false → cells ≡ 4096 → TakesName t t n cells word Full
+  take-cells p fc =
+      record {
+        within = tt;
+        is = λ held v l e tv.
+            subst (λ (x : List Held). namesFit x ≡ false) (comes held v l e tv p)
+            (over-cells (held ++ (name v ∷ [])) (let a = l .cells-are in let b = cells-append held (name v ∷ []) in omega (arith, a, b, fc)));
+      }
+
+  pub take-new : (t′ : List ℕ) → r ≡ false → n < 100 → cells < 4096 → Put t t′ (4 * n) (word ∷ cells ∷ 0 ∷ 0 ∷ []) (4 * n + 4)
+      → TakesName t t′ n cells word (Names (n + 1) (cells + 1))
+  take-new t′ p fn fc put =
+      record {
+        within = (omega arith, omega arith);
+        is = λ held v l e tv.
+            let four : 4 * (n + 1) ≡ 4 * n + 4 = omega arith in
+            let words : take (4 * (n + 1)) t′ ≡ take (4 * n) t ++ heldWords cells (name v ∷ []) =
+            ap (λ (k : ℕ). take k t′) four ∙ put .table ∙ ap (λ (w : ℕ). take (4 * n) t ++ (w ∷ cells ∷ 0 ∷ 0 ∷ [])) e in
+            subst (λ (x : List Held). Lists x t′ (n + 1) (cells + 1)) (comes held v l e tv p)
+            (lists-more (name v ∷ []) l words (omega arith) (omega arith) (omega arith) (omega arith) (all-one tv) all-none);
+      }
+
+pub none-word : (t : List ℕ) (n cells word : ℕ) → word ≡ 0 → n ≤ 100 → cells ≤ 4096 → TakesAny t t n cells word (Names n cells)
+none-word t n cells word z fn fc = record { within = (fn, fc); is = λ held v l e tv. absurd (some-word v tv (sym e ∙ z)); none = λ held l e. l }
+
+pub some-name : (t t′ : List ℕ) (n cells word : ℕ) (r : Grown) → (word ≡ 0 → ⊥) → TakesName t t′ n cells word r → TakesAny t t′ n cells word r
+some-name t t′ n cells word r z h = record { within = h .within; is = h .is; none = λ held l e. absurd (z e) }
+
+-- ---- a subscript's name
+
+subscript-takes : {t t′ : List ℕ} {n cells word : ℕ} {r : Grown} (x : Subscript) (held : List Held) → TakesAny t t′ n cells word r
+    → word ≡ subscriptValue x .name → All Told (subscriptNames x) → Lists held t n cells → Appeared (appear held (subscriptNames x)) t′ r
+unfolding subscriptValue
+subscript-takes (constant c) held h e told l = h .none held l e
+subscript-takes (linear m v a) held h e (all-more tv none) l = h .is held v l e tv
+
+-- ---- one operand
+
+module _ (items t : List ℕ) (n cells : ℕ) where
+  pub takes-plain : (t′ : List ℕ) (r : Grown) → getD items 0 0 ≡ 2 → TakesName t t′ n cells (getD items 1 0) r → TakesItem items t t′ n cells r
+  takes-plain t′ r k h = record { within = h .within; is = go }
+    where
+      go : (held : List Held) (i : Item) (more : List ℕ) → Lists held t n cells → items ≡ itemWords i ++ more → All Told (itemNames i) → Appeared (appear held (itemPlain i)) t′ r
+      go held (value c) more l e told = absurd (let z = kind-is (value c) more e 2 k in omega (arith, z))
+      go held (plain v) more l e (all-more tv none) = h .is held v l (ap (λ (x : List ℕ). getD x 1 0) e) tv
+      go held (place v s) more l e told = absurd (let z = kind-is (place v s) more e 2 k in omega (arith, z))
+      go held negate more l e told = absurd (let z = kind-is negate more e 2 k in omega (arith, z))
+      go held (apply o) more l e told = absurd (no-operand o more 2 (omega arith) (kind-is (apply o) more e 2 k))
+
+  pub takes-none : (getD items 0 0 ≡ 2 → ⊥) → (getD items 0 0 ≡ 4 → ⊥) → n ≤ 100 → cells ≤ 4096 → TakesItem items t t n cells (Names n cells)
+  takes-none k₂ k₄ fn fc = record { within = (fn, fc); is = go }
+    where
+      go : (held : List Held) (i : Item) (more : List ℕ) → Lists held t n cells → items ≡ itemWords i ++ more → All Told (itemNames i)
+          → Appeared (appear held (itemPlain i)) t (Names n cells)
+      go held (value c) more l e told = l
+      go held (plain v) more l e told = absurd (k₂ (ap (λ (x : List ℕ). getD x 0 0) e))
+      go held (place v s) more l e told = absurd (k₄ (ap (λ (x : List ℕ). getD x 0 0) e))
+      go held negate more l e told = l
+      go held (apply o) more l e told = l
+
+  -- what an element's subscripts take
+  abbrev Subscribed : List ℕ → Grown → Type 0
+  Subscribed t′ r =
+      (held : List Held) (s : Subscripts) → Lists held t n cells → getD items 4 0 ≡ subscriptsValue s .first .name → getD items 8 0 ≡ subscriptsValue s .second .name
+      → All Told (subscriptsNames s) → Appeared (appear held (subscriptsNames s)) t′ r
+
+  -- is all that it takes
+  takes-place : (t′ : List ℕ) (r : Grown) → getD items 0 0 ≡ 4 → Within r → Subscribed t′ r → TakesItem items t t′ n cells r
+  takes-place t′ r k w f = record { within = w; is = go }
+    where
+      go : (held : List Held) (i : Item) (more : List ℕ) → Lists held t n cells → items ≡ itemWords i ++ more → All Told (itemNames i) → Appeared (appear held (itemPlain i)) t′ r
+      go held (value c) more l e told = absurd (let z = kind-is (value c) more e 4 k in omega (arith, z))
+      go held (plain v) more l e told = absurd (let z = kind-is (plain v) more e 4 k in omega (arith, z))
+      go held (place v s) more l e (all-more tv told) = f held s l (ap (λ (x : List ℕ). getD x 4 0) e) (ap (λ (x : List ℕ). getD x 8 0) e) told
+      go held negate more l e told = absurd (let z = kind-is negate more e 4 k in omega (arith, z))
+      go held (apply o) more l e told = absurd (no-operand o more 4 (omega arith) (kind-is (apply o) more e 4 k))
+
+  pub takes-full : (t′ : List ℕ) (r : Grown) → getD items 0 0 ≡ 4 → TakesAny t t′ n cells (getD items 4 0) r → r ≡ Full → TakesItem items t t′ n cells Full
+  unfolding subscriptsValue
+  takes-full t′ r k h e = takes-place t′ Full k tt full
+    where
+      stopped : TakesAny t t′ n cells (getD items 4 0) Full
+      stopped = subst (λ (x : Grown). TakesAny t t′ n cells (getD items 4 0) x) e h
+
+      full : Subscribed t′ Full
+      full held (one x) l e₁ e₂ told = subscript-takes x held stopped e₁ told l
+      full held (two x y) l e₁ e₂ told =
+          subst (λ (z : List Held). namesFit z ≡ false) (sym (appear-append (subscriptNames x) (subscriptNames y) held))
+          (over-appear (subscriptNames y) (appear held (subscriptNames x)) (subscript-takes x held stopped e₁ (split-all (subscriptNames x) told .0) l))
+
+  pub takes-both : (t₁ t₂ : List ℕ) (a b : ℕ) (q r : Grown) → getD items 0 0 ≡ 4 → TakesAny t t₁ n cells (getD items 4 0) q → q ≡ Names a b
+      → TakesAny t₁ t₂ a b (getD items 8 0) r → TakesItem items t t₂ n cells r
+  unfolding subscriptsValue
+  takes-both t₁ t₂ a b q r k h e g = takes-place t₂ r k (g .within) both
+    where
+      first : TakesAny t t₁ n cells (getD items 4 0) (Names a b)
+      first = subst (λ (x : Grown). TakesAny t t₁ n cells (getD items 4 0) x) e h
+
+      both : Subscribed t₂ r
+      both held (one x) l e₁ e₂ told = g .none (appear held (subscriptNames x)) (subscript-takes x held first e₁ told l) e₂
+      both held (two x y) l e₁ e₂ told =
+          let halves = split-all (subscriptNames x) told in
+          subst (λ (z : List Held). Appeared z t₂ r) (sym (appear-append (subscriptNames x) (subscriptNames y) held))
+          (subscript-takes y (appear held (subscriptNames x)) g e₂ (halves .1) (subscript-takes x held first e₁ (halves .0) l))

@@ -1,0 +1,77 @@
+// The plain names of a statement's operands take cells, each where it first appears.
+ghost use mathlib.Core.Path.{_≡_};
+ghost use Prim.Native.Nat.{_≤_, _<_};
+ghost use lib.ListN.{length};
+ghost use Rattle.draft.specs.Parts.{Worded};
+ghost use Rattle.take_names.specs.Takes.{TakesName, TakesAny, TakesItem, Appears};
+use names::Grown;
+
+fn take_name(table: &mut [u64], n: usize, cells: usize, name: u64) -> Grown
+    requires { ⌜ (length (now table) ≡ 400) × ((n ≤ 100) × (cells ≤ 4096)) ⌝ }
+    ensures { λ r. ⌜ TakesName (now (table .entry)) (now (table .exit)) n cells name r ⌝ }
+{
+    if names::holds(table, n, name, false) {
+        return Grown::Names { names: n, cells };
+    }
+    if n == 100 {
+        return Grown::Full;
+    }
+    if cells == 4096 {
+        return Grown::Full;
+    }
+    names::put_entry(table, n, name, cells as u64, 0, 0);
+    Grown::Names {
+        names: n + 1,
+        cells: cells + 1,
+    }
+}
+
+fn take_any(table: &mut [u64], n: usize, cells: usize, name: u64) -> Grown
+    requires { ⌜ (length (now table) ≡ 400) × ((n ≤ 100) × (cells ≤ 4096)) ⌝ }
+    ensures { λ r. ⌜ TakesAny (now (table .entry)) (now (table .exit)) n cells name r ⌝ }
+{
+    if name == 0 {
+        return Grown::Names { names: n, cells };
+    }
+    take_name(table, n, cells, name)
+}
+
+fn take_item(items: &[u64], table: &mut [u64], n: usize, cells: usize) -> Grown
+    requires { ⌜ (Worded (now items) × (0 < length (now items))) × ((length (now table) ≡ 400) × ((n ≤ 100) × (cells ≤ 4096))) ⌝ }
+    ensures { λ r. ⌜ TakesItem (now (items .entry)) (now (table .entry)) (now (table .exit)) n cells r ⌝ }
+{
+    let kind = items[0];
+    if kind == 2 {
+        return take_name(table, n, cells, items[1]);
+    }
+    if kind != 4 {
+        return Grown::Names { names: n, cells };
+    }
+    let Grown::Names { names: a, cells: b } = take_any(table, n, cells, items[4]) else {
+        return Grown::Full;
+    };
+    take_any(table, a, b, items[8])
+}
+
+// The plain names of some operands, subscripts' too, each taking a cell where it first appears.
+pub fn appear(items: &[u64], table: &mut [u64], n: usize, cells: usize) -> Grown
+    requires { ⌜ Worded (now items) × ((length (now table) ≡ 400) × ((n ≤ 100) × (cells ≤ 4096))) ⌝ }
+    ensures { λ r. ⌜ Appears (now (items .entry)) (now (table .entry)) (now (table .exit)) n cells r ⌝ }
+{
+    let mut at = 0;
+    let mut names = n;
+    let mut taken = cells;
+    while at < items.len() {
+        let Grown::Names { names: a, cells: b } = take_item(&items[at..], table, names, taken)
+        else {
+            return Grown::Full;
+        };
+        names = a;
+        taken = b;
+        at += names::item_length(items[at]);
+    }
+    Grown::Names {
+        names,
+        cells: taken,
+    }
+}
