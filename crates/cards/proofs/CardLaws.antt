@@ -21,7 +21,7 @@ use Rattle.cards.specs.declared.Value.{Value}
 use Rattle.cards.specs.declared.Value.the-variants as value
 use Rattle.cards.specs.declared.Columns.{Columns}
 use Rattle.cards.specs.declared.Columns.the-variants as columns
-use Rattle.cards.specs.Judging.{digitsOf, punchedOf}
+use Rattle.cards.specs.Columns.{digitsOf, punchedOf}
 
 -- ---- one column
 

@@ -1,3 +1,2 @@
 pub mod CardLaws
 pub mod DeckLaws
-pub mod JudgeLaws

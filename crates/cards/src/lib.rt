@@ -1,22 +1,16 @@
-// A deck's cards, refused by 1 to 5 or 7, or how many statements they hold.
+// A deck's cards, and what stands in a card's columns.
 ghost use mathlib.Core.Path.{_≡_};
-ghost use Prim.Native.Nat.{_/_, _<_, _≤_};
+ghost use Prim.Native.Nat.{_/_, _<_};
 ghost use lib.ListN.{length};
 ghost use Rattle.rules_object.specs.Check.{blanks};
-ghost use Rattle.rules_deck.specs.Cards.{cardsOf, columnsRead, numberColumns, comment, firstCard, character, characters, nothingRead, wrongFirst, wrongContinuation, wrongCard, cardByCard, carded};
-ghost use Rattle.cards.specs.Judging.{judgedOf, digitsOf, punchedOf, afterOf, CardAt};
+ghost use Rattle.rules_deck.specs.Cards.{columnsRead, numberColumns, comment, firstCard, character, characters};
+ghost use Rattle.cards.specs.Columns.{digitsOf, punchedOf, CardAt};
 
 // A statement's number as punched, 0 where none is.
 pub struct Number(pub u32);
 
 // A statement's place in card order, from 1 on.
 pub struct Sequence(pub u32);
-
-pub enum Judged {
-    Refused { number: u32, place: u32 },
-    // How many there are: the last one's sequence number.
-    Statements(Sequence),
-}
 
 // ---- a card's columns: column c is the byte at c - 1
 
@@ -50,7 +44,7 @@ fn is_character(c: u8) -> bool
     }
 }
 
-fn all_characters(card: &[u8]) -> bool
+pub fn all_characters(card: &[u8]) -> bool
     requires { ⌜ length (now card) ≡ 80 ⌝ }
     ensures { λ r. ⌜ r ≡ characters (columnsRead (now (card .entry))) ⌝ }
 {
@@ -64,7 +58,7 @@ fn all_characters(card: &[u8]) -> bool
     true
 }
 
-fn no_number(card: &[u8]) -> bool
+pub fn no_number(card: &[u8]) -> bool
     requires { ⌜ length (now card) ≡ 80 ⌝ }
     ensures { λ r. ⌜ r ≡ blanks (numberColumns (now (card .entry))) ⌝ }
 {
@@ -133,7 +127,7 @@ pub fn punched(card: &[u8]) -> Columns
     Columns::Punched(Number(value))
 }
 
-// ---- the card at an index, and what it is refused by
+// ---- the card at an index
 
 // Cards are counted from 0 here; their places from 1.
 pub fn card_at(deck: &[u8], card: usize) -> &[u8]
@@ -142,138 +136,4 @@ pub fn card_at(deck: &[u8], card: usize) -> &[u8]
 {
     let at = card * 80;
     &deck[at..at + 80]
-}
-
-fn wrong_first(card: &[u8]) -> u32
-    requires { ⌜ length (now card) ≡ 80 ⌝ }
-    ensures { λ r. ⌜ r ≡ wrongFirst (now (card .entry)) ⌝ }
-{
-    match punched(card) {
-        Columns::Punched(_) => 0,
-        Columns::Wrong => 4,
-    }
-}
-
-fn wrong_continuation(room: u32, card: &[u8]) -> u32
-    requires { ⌜ length (now card) ≡ 80 ⌝ }
-    ensures { λ r. ⌜ r ≡ wrongContinuation room (now (card .entry)) ⌝ }
-{
-    let blank = no_number(card);
-    if !blank {
-        return 4;
-    }
-    if room == 0 {
-        return 5;
-    }
-    0
-}
-
-fn wrong_card(room: u32, card: &[u8]) -> u32
-    requires { ⌜ length (now card) ≡ 80 ⌝ }
-    ensures { λ r. ⌜ r ≡ wrongCard room (now (card .entry)) ⌝ }
-{
-    if is_comment(card) {
-        return 0;
-    }
-    if !all_characters(card) {
-        return 3;
-    }
-    if starts(card) {
-        return wrong_first(card);
-    }
-    wrong_continuation(room, card)
-}
-
-// ---- card by card
-
-// What is read so far: the next card's place, how many statements are begun, and how many continuations may yet follow.
-struct Begun {
-    place: u32,
-    statements: u32,
-    room: u32,
-}
-
-fn after_card(b: Begun, card: &[u8]) -> Begun
-    requires { ⌜ (length (now card) ≡ 80) × ((wrongCard (b .room) (now card) ≡ 0) × ((b .place < 1000) × (b .statements < 1000))) ⌝ }
-    ensures { λ r. ⌜ r ≡ afterOf b (now (card .entry)) ⌝ }
-{
-    if is_comment(card) {
-        let passed = b.place + 1;
-        return Begun {
-            place: passed,
-            statements: b.statements,
-            room: b.room,
-        };
-    }
-    if starts(card) {
-        return Begun {
-            place: b.place + 1,
-            statements: b.statements + 1,
-            room: 9,
-        };
-    }
-    Begun {
-        place: b.place + 1,
-        statements: b.statements,
-        room: b.room - 1,
-    }
-}
-
-fn card_by_card(deck: &[u8]) -> Judged
-    requires { ⌜ length (now deck) ≤ 40960 ⌝ }
-    ensures { λ r. ⌜ r ≡ judgedOf (cardByCard 1 nothingRead (cardsOf (now (deck .entry)))) ⌝ }
-{
-    let cards = deck.len() / 80;
-    let mut b = Begun {
-        place: 1,
-        statements: 0,
-        room: 0,
-    };
-    let mut i = 0;
-    while i < cards {
-        let card = card_at(deck, i);
-        let number = wrong_card(b.room, card);
-        if number != 0 {
-            return Judged::Refused {
-                number,
-                place: b.place,
-            };
-        }
-        b = after_card(b, card);
-        i += 1;
-    }
-    Judged::Statements(Sequence(b.statements))
-}
-
-// ---- the whole deck
-
-pub fn judge(k: u32, deck: &[u8]) -> Judged
-    ensures { λ r. ⌜ r ≡ judgedOf (carded k (now (deck .entry))) ⌝ }
-{
-    if k < 1 || 9 < k {
-        return Judged::Refused {
-            number: 1,
-            place: 0,
-        };
-    }
-    let n = deck.len();
-    // 512 cards of 80.
-    if n < 1 || n % 80 != 0 || 40960 < n {
-        return Judged::Refused {
-            number: 2,
-            place: 0,
-        };
-    }
-    match card_by_card(deck) {
-        Judged::Refused { number, place } => Judged::Refused { number, place },
-        Judged::Statements(last) => {
-            if 400 < last.0 {
-                return Judged::Refused {
-                    number: 7,
-                    place: 0,
-                };
-            }
-            Judged::Statements(last)
-        }
-    }
 }

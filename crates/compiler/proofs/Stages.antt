@@ -22,10 +22,10 @@ use Rattle.rules_deck.specs.Cells.{namesHeld}
 use Rattle.rules_deck.proofs.MapNames.{name-among}
 use Rattle.rules_deck.proofs.BodySeven.{all-here}
 use Rattle.rules_deck.proofs.Readers.{All}
-use Rattle.cards.specs.declared.Judged.{Judged}
-use Rattle.cards.specs.declared.Judged.the-variants as judged
+use Rattle.judge_cards.specs.declared.Judged.{Judged}
+use Rattle.judge_cards.specs.declared.Judged.the-variants as judged
 use Rattle.cards.specs.declared.Sequence.{Sequence}
-use Rattle.cards.specs.Judging.{judgedOf}
+use Rattle.judge_cards.specs.Judging.{judgedOf}
 use Rattle.draft.specs.declared.Counts.{Counts}
 use Rattle.draft.specs.Names.{Told}
 use Rattle.draft.specs.Draft.{draftOf}

@@ -5,9 +5,9 @@ ghost use mathlib.Core.List.{List};
 ghost use Rattle.rules_deck.specs.Trees.{Statement};
 ghost use Rattle.rules_deck.specs.Compile.{read, judgeRead, writeRead, compiling};
 ghost use Rattle.compiler.specs.Compiled.{answer, Punches, Holds, HoldsOne};
-use cards::Judged;
 use draft::Counts;
 use drafting::Drafted;
+use judge_cards::Judged;
 use whole::Verdict;
 use writer::Wrote;
 
@@ -112,7 +112,7 @@ fn compile_statements(k: u32, deck: &[u8], output: &mut [u8]) -> Compiled
 pub fn compile(k: u32, deck: &[u8], output: &mut [u8]) -> Compiled
     ensures { λ r. ⌜ answer r (now (output .exit)) ≡ compiling k (now (deck .entry)) (now (output .entry)) ⌝ }
 {
-    match cards::judge(k, deck) {
+    match judge_cards::judge(k, deck) {
         Judged::Refused { number, place } => Compiled::Refused { number, place },
         Judged::Statements(_) => compile_statements(k, deck, output),
     }

@@ -17,7 +17,7 @@ use Rattle.cards.specs.declared.Columns.the-variants as columns
 use Rattle.texts.specs.declared.Reached.{Reached}
 use Rattle.texts.specs.declared.Taken.the-variants.{Statement, End}
 use Rattle.cards.specs.declared.Number.{Number}
-use Rattle.cards.specs.Judging.{CardAt, punchedOf}
+use Rattle.cards.specs.Columns.{CardAt, punchedOf}
 use Rattle.texts.specs.Taking.{Accepted, over, begins, skipped, passed, firstOf, firstText, Takes, Follows}
 use Rattle.cards.proofs.DeckLaws.{cards-end}
 use Rattle.texts.proofs.TextLaws.{over-none, over-append, text-append}

@@ -7,7 +7,7 @@ use mathlib.Core.List.{List, [], _++_}
 use native.Mathlib.Omega.{arith}
 use lib.ListN.{length, drop, length-append}
 use Rattle.rules_deck.specs.Cards.{cardsOf, textColumns, comment, firstCard, textOf, following}
-use Rattle.cards.specs.Judging.{CardAt}
+use Rattle.cards.specs.Columns.{CardAt}
 use Rattle.texts.specs.Taking.{over, begins, skipped, added, Follows}
 use Rattle.cards.proofs.DeckLaws.{cards-end}
 use Rattle.texts.proofs.TextLaws.{over-none, over-append, text-append, text-none}

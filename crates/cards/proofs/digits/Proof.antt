@@ -4,7 +4,7 @@ use mathlib.Core.Logic.{⊎-elim}
 use Prim.Native.Nat.{ℕ, _≤_, _<_, _+_, _*_, _-_, _^_}
 use native.Mathlib.Omega.{arith}
 use lib.ListN.{take, drop}
-use Rattle.cards.specs.Judging.{digitsOf}
+use Rattle.cards.specs.Columns.{digitsOf}
 use Rattle.cards.proofs.CardLaws.{from, from-start, digits-low, digits-high, digits-end, digits-turn, blank-turn, small}
 use borrow.Author.Needs.{needs}
 use Rattle.cards.proofs.digits.Statement.{statement}

@@ -1,13 +1,13 @@
--- `cards::card_by_card` meets its contract. Assumes nothing.
+-- `judge_cards::card_by_card` meets its contract. Assumes nothing.
 use mathlib.Core.Path.{sym, _∙_, subst}
 use Prim.Native.Nat.{_-_, _/_, _+_}
 use native.Mathlib.Omega.{arith}
 use lib.ListN.{length}
-use Rattle.cards.specs.declared.Begun.{Begun}
-use Rattle.cards.proofs.DeckLaws.{Going, going-start, going-refused, going-on, going-end}
+use Rattle.judge_cards.specs.declared.Begun.{Begun}
+use Rattle.judge_cards.proofs.CardByCard.{Going, going-start, going-refused, going-on, going-end}
 use borrow.Author.Needs.{needs}
-use Rattle.cards.proofs.card_by_card.Statement.{statement}
-use Rattle.cards.proofs.card_by_card.Tie as tie
+use Rattle.judge_cards.proofs.card_by_card.Statement.{statement}
+use Rattle.judge_cards.proofs.card_by_card.Tie as tie
 
 abbrev Inv-loop : tie.InvT-loop
 Inv-loop deck cards b₀ i₀ b i = Going deck b i

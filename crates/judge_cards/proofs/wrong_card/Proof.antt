@@ -1,10 +1,10 @@
--- `cards::wrong_card` meets its contract. Assumes nothing.
+-- `judge_cards::wrong_card` meets its contract. Assumes nothing.
 use mathlib.Core.Path.{sym, _∙_}
 use borrow.Author.Tests.{not-true, not-false}
-use Rattle.cards.proofs.DeckLaws.{wrong-comment, wrong-characters, wrong-as-first, wrong-as-continuation}
+use Rattle.judge_cards.proofs.CardByCard.{wrong-comment, wrong-characters, wrong-as-first, wrong-as-continuation}
 use borrow.Author.Needs.{needs}
-use Rattle.cards.proofs.wrong_card.Statement.{statement}
-use Rattle.cards.proofs.wrong_card.Tie as tie
+use Rattle.judge_cards.proofs.wrong_card.Statement.{statement}
+use Rattle.judge_cards.proofs.wrong_card.Tie as tie
 
 is-comment-requires : tie.Need-is-comment-requires
 is-comment-requires c κs = search needs

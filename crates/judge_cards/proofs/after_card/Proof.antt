@@ -1,9 +1,9 @@
--- `cards::after_card` meets its contract. Assumes nothing.
+-- `judge_cards::after_card` meets its contract. Assumes nothing.
 use mathlib.Core.Path.{sym, _∙_}
-use Rattle.cards.proofs.DeckLaws.{after-comment, after-first, after-continuation, has-room}
+use Rattle.judge_cards.proofs.CardByCard.{after-comment, after-first, after-continuation, has-room}
 use borrow.Author.Needs.{needs}
-use Rattle.cards.proofs.after_card.Statement.{statement}
-use Rattle.cards.proofs.after_card.Tie as tie
+use Rattle.judge_cards.proofs.after_card.Statement.{statement}
+use Rattle.judge_cards.proofs.after_card.Tie as tie
 
 is-comment-requires : tie.Need-is-comment-requires
 is-comment-requires c κs = search needs

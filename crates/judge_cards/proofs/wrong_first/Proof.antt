@@ -1,9 +1,9 @@
--- `cards::wrong_first` meets its contract. Assumes nothing.
+-- `judge_cards::wrong_first` meets its contract. Assumes nothing.
 use mathlib.Core.Path.{sym, _∙_}
-use Rattle.cards.proofs.DeckLaws.{first-wrong, first-right}
+use Rattle.judge_cards.proofs.CardByCard.{first-wrong, first-right}
 use borrow.Author.Needs.{needs}
-use Rattle.cards.proofs.wrong_first.Statement.{statement}
-use Rattle.cards.proofs.wrong_first.Tie as tie
+use Rattle.judge_cards.proofs.wrong_first.Statement.{statement}
+use Rattle.judge_cards.proofs.wrong_first.Tie as tie
 
 punched-requires : tie.Need-punched-requires
 punched-requires c κs = search needs

@@ -8,9 +8,9 @@ use native.Mathlib.Omega.{arith}
 use lib.ListN.{length}
 use borrow.Author.Tests.{le-leb, lt-leb, ne-eqb}
 use Rattle.rules_deck.specs.Cards.{cardsOf, nothingRead, Carded, cardsRefused, statements, cardByCard, rightDigits, rightLength, counted, carded}
-use Rattle.cards.specs.declared.Judged.the-variants.{Refused, Statements}
+use Rattle.judge_cards.specs.declared.Judged.the-variants.{Refused, Statements}
 use Rattle.cards.specs.declared.Sequence.{Sequence}
-use Rattle.cards.specs.Judging.{judgedOf}
+use Rattle.judge_cards.specs.Judging.{judgedOf}
 
 and-no : (a : Bool) → (a && false) ≡ false
 and-no true = refl

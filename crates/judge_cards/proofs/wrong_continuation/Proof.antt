@@ -1,10 +1,10 @@
--- `cards::wrong_continuation` meets its contract. Assumes nothing.
+-- `judge_cards::wrong_continuation` meets its contract. Assumes nothing.
 use mathlib.Core.Path.{sym, _∙_}
 use borrow.Author.Tests.{not-true, not-false}
-use Rattle.cards.proofs.DeckLaws.{continuation-wrong, continuation-none, continuation-right}
+use Rattle.judge_cards.proofs.CardByCard.{continuation-wrong, continuation-none, continuation-right}
 use borrow.Author.Needs.{needs}
-use Rattle.cards.proofs.wrong_continuation.Statement.{statement}
-use Rattle.cards.proofs.wrong_continuation.Tie as tie
+use Rattle.judge_cards.proofs.wrong_continuation.Statement.{statement}
+use Rattle.judge_cards.proofs.wrong_continuation.Tie as tie
 
 no-number-requires : tie.Need-no-number-requires
 no-number-requires c κs = search needs

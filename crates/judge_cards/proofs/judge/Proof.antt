@@ -1,13 +1,13 @@
--- `cards::judge` meets its contract. Assumes nothing.
+-- `judge_cards::judge` meets its contract. Assumes nothing.
 use mathlib.Core.Path.{sym, _∙_}
 use mathlib.Core.Logic.{⊎-elim}
 use Prim.Native.Nat.{_≤_}
 use native.Mathlib.Omega.{arith}
 use borrow.Author.Tests.{ltb-true, ltb-false, eqb-true, eqb-false, not-true, not-false}
-use Rattle.cards.proofs.JudgeLaws.{digits-below, digits-above, length-none, length-broken, length-above, deck-refused, deck-over, deck-within}
+use Rattle.judge_cards.proofs.JudgeLaws.{digits-below, digits-above, length-none, length-broken, length-above, deck-refused, deck-over, deck-within}
 use borrow.Author.Needs.{needs}
-use Rattle.cards.proofs.judge.Statement.{statement}
-use Rattle.cards.proofs.judge.Tie as tie
+use Rattle.judge_cards.proofs.judge.Statement.{statement}
+use Rattle.judge_cards.proofs.judge.Tie as tie
 
 returns : tie.Need-returns
 returns c =

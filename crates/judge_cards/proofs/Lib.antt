@@ -1,0 +1,2 @@
+pub mod CardByCard
+pub mod JudgeLaws
