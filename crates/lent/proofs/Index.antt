@@ -14,7 +14,8 @@ use borrow.Author.Tests.{ltb-true, leb-true}
 use Rattle.number.specs.Number.{Rule, Op, add, sub, mul, div, Result, value, byZero, apply}
 use Rattle.rules_shared.specs.Limits.{limits}
 use Rattle.rules_object.specs.Object.{Element, Loop, Object}
-use Rattle.rules_shared.specs.Runs.{badStack, badInstruction, Out, go, halt, then, run, steps}
+use Rattle.rules_shared.specs.Runs.{go, halt, then, run, steps}
+use Rattle.rules_object.specs.Halts.{badStack, badInstruction, Out}
 use Rattle.rules_shared.specs.Choose.{sign3, exit, positive, allPositive, Turn, again, over, turn}
 use Rattle.rules_object.specs.Machine.{Instr, HLT, CON, LOD, STO, LDE, STE, OP, NEG, JMP, BR3, BRC, DOI, DOE, operationOf, operandOf, noLoop, meanings, unknown, decode, State, state, top, under, cell, operated, placeOf, elementLoaded, elementStored, branched, begun, turned, ended, act, ruleOf, step}
 use Rattle.rules_object.specs.Check.{inCode, inCells, targets, exitAt, rightLoop, operandTests, unknownOperation, right43, noEntry, entryTests, entryRight, pops, pushes, instruction, room, benchStep}

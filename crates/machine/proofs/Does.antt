@@ -12,7 +12,8 @@ use lib.IntN.{ℤ, pos, negsuc, natAbs, negℤ, subℕ, _+ℤ_}
 use lib.Signed.{leZ}
 use Rattle.number.specs.Number.{Rule, Op, add, sub, mul, div, Result, value, byZero, ceiling, apply}
 use Rattle.number.proofs.Laws.{ResultFits, apply-fits, neg-fits, ceiling-pos}
-use Rattle.rules_shared.specs.Runs.{Halt, atStop, atEnd, divideByZero, badSubscript, badExit, badParameter, haltNumber, Out, go, halt}
+use Rattle.rules_shared.specs.Runs.{go, halt}
+use Rattle.rules_object.specs.Halts.{Halt, atStop, atEnd, divideByZero, badSubscript, badExit, badParameter, haltNumber, Out}
 use Rattle.rules_shared.specs.Choose as choose
 use Rattle.rules_shared.specs.Choose.{sign3, exit, positive, allPositive, again, over, turn, marked}
 use Rattle.rules_object.specs.Object.{Element, Loop}

@@ -7,7 +7,8 @@ use native.Mathlib.Omega.{arith}
 use lib.ListN.{length}
 use lib.IntN.{ℤ}
 use Rattle.number.specs.Number.{ceiling}
-use Rattle.rules_shared.specs.Runs.{haltNumber, Out, go, halt, then, run, stepsFrom, steps}
+use Rattle.rules_shared.specs.Runs.{go, halt, then, run, stepsFrom, steps}
+use Rattle.rules_object.specs.Halts.{haltNumber, Out}
 use Rattle.rules_object.specs.Object.{Object}
 use Rattle.rules_object.specs.Machine.{State, ruleOf, act, step}
 use Rattle.rules_object.specs.Check.{instruction, benchStep}

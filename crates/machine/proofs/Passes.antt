@@ -6,7 +6,8 @@ use native.Mathlib.Omega.{arith}
 use lib.Dec.{leb}
 use lib.ListN.{length}
 use borrow.Author.Tests.{ltb-true, leb-true, lt-ltb}
-use Rattle.rules_shared.specs.Runs.{Halt, haltNumber, badStack, badInstruction, halt}
+use Rattle.rules_shared.specs.Runs.{halt}
+use Rattle.rules_object.specs.Halts.{Halt, haltNumber, badStack, badInstruction}
 use Rattle.rules_object.specs.Object.{Object}
 use Rattle.rules_object.specs.Machine.{Instr, State, operationOf, operandOf, meant, decode, step}
 use Rattle.rules_object.specs.Check.{inCode, right43, entryRight, pops, pushes, instruction, benchStep}

@@ -10,7 +10,8 @@ use mathlib.Core.List.{List, [], _∷_}
 use mathlib.Core.Option.{some}
 use lib.ListN.{length, getElem?}
 use lib.IntN.{ℤ}
-use Rattle.rules_shared.specs.Runs.{Outcome, Out, go, halt, run, steps}
+use Rattle.rules_shared.specs.Runs.{Outcome, go, halt, run, steps}
+use Rattle.rules_object.specs.Halts.{Out}
 use Rattle.rules_shared.specs.Choose.{positive}
 use Rattle.rules_object.specs.Object.{Named, Object}
 use Rattle.rules_object.specs.Bytes.{readObject}

@@ -13,7 +13,7 @@ use Rattle.rules_object.proofs.Steps.{run-steps, bench-steps-of}
 use Rattle.rules_object.proofs.NoFault.{runnable-no-fault}
 use Rattle.rules_object.proofs.BenchRuns.{run-no-fault, bench-is-running, bench-lent, bench-refusal-lent}
 use Rattle.rules_object.proofs.MoreCells.{past-cells}
-use Rattle.rules_object.proofs.Places.{placed, place-some, place-below, place-apart}
+use Rattle.rules_shared.proofs.Places.{placed, place-some, place-below, place-apart}
 use Rattle.promises.specs.Promises.{CheckedRuns, GoesOn, StepsTrue, HeightsExactly, NoFault, TestsNothing, CellsPast, BenchIsRun, BenchStartsFresh, PlacesApart}
 
 -- an acceptance's number is 0

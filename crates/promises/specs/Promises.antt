@@ -10,7 +10,8 @@ use mathlib.Core.Option.{some}
 use lib.ListN.{length, getElem?}
 use lib.IntN.{ℤ, pos}
 use Rattle.rules_shared.specs.Limits.{limits}
-use Rattle.rules_shared.specs.Runs.{haltNumber, go, halt, run}
+use Rattle.rules_shared.specs.Runs.{go, halt, run}
+use Rattle.rules_object.specs.Halts.{haltNumber}
 use Rattle.rules_shared.specs.Choose.{positive, place}
 use Rattle.rules_object.specs.Object.{Named, Object}
 use Rattle.rules_object.specs.Bytes.{objectBytes, readObject}

@@ -9,7 +9,7 @@ use mathlib.Core.Option.{some}
 use native.Mathlib.Omega.{arith}
 use lib.ListN.{getElem?}
 use borrow.Author.Tests.{eq-eqb}
-use Rattle.rules_object.proofs.Places.{place-below}
+use Rattle.rules_shared.proofs.Places.{place-below}
 use Rattle.rules_deck.specs.Trees.{Name, Subscripts, one, two, Form, loop, Statement}
 use Rattle.rules_deck.specs.Deck.{Do, doOf, dosFrom, dosOf, dimsOf, width}
 use Rattle.rules_deck.specs.Meaning.{plain, elementAt, Values, placeIn}

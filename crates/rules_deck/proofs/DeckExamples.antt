@@ -8,7 +8,7 @@ use lib.ListN.{replicate}
 use lib.IntN.{pos}
 use Rattle.rules_deck.specs.Punch.{bytes, deck}
 use Rattle.number.specs.Number.{ceiling, fits, keep, drops, kept, divided, apply}
-use Rattle.rules_shared.specs.Runs.{haltNumber}
+use Rattle.rules_object.specs.Halts.{haltNumber}
 use Rattle.rules_shared.specs.Choose.{place, turn}
 use Rattle.rules_object.specs.Bytes.{signedOf, signedWord, objectWords, objectBytes, readObject}
 use Rattle.rules_object.specs.Machine.{operationOf, operandOf, decode, step}

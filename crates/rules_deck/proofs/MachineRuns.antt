@@ -8,7 +8,8 @@ use mathlib.Core.Option.{some}
 use lib.ListN.{getElem?}
 use lib.IntN.{ℤ}
 use Rattle.number.specs.Number.{Rule}
-use Rattle.rules_shared.specs.Runs.{Halt, Out, go, halt, stepsFrom, steps}
+use Rattle.rules_shared.specs.Runs.{go, halt, stepsFrom, steps}
+use Rattle.rules_object.specs.Halts.{Halt, Out}
 use Rattle.rules_object.specs.Machine.{Instr, State, state, act, ruleOf, step}
 use Rattle.rules_shared.proofs.RunLaws.{steps-add, Steps, rest, seq, one, last}
 use Rattle.rules_deck.specs.Trees.{Statement}

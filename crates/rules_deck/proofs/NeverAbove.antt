@@ -8,7 +8,8 @@ use mathlib.Core.Option.{some}
 use lib.ListN.{length}
 use lib.IntN.{ℤ}
 use Rattle.rules_shared.specs.Limits.{limits}
-use Rattle.rules_shared.specs.Runs.{Out, go, halt, run, steps}
+use Rattle.rules_shared.specs.Runs.{go, halt, run, steps}
+use Rattle.rules_object.specs.Halts.{Out}
 use Rattle.rules_object.specs.Object.{Object}
 use Rattle.rules_object.specs.Bytes.{objectBytes}
 use Rattle.rules_object.specs.Machine.{State, step}

@@ -10,7 +10,8 @@ use mathlib.Core.List.{List, [], _∷_}
 use mathlib.Core.Option.{some}
 use lib.ListN.{length, getElem?}
 use lib.IntN.{ℤ}
-use Rattle.rules_shared.specs.Runs.{Outcome, Halt, Out, go, halt, then, run, stepsFrom, steps}
+use Rattle.rules_shared.specs.Runs.{Outcome, go, halt, then, run, stepsFrom, steps}
+use Rattle.rules_object.specs.Halts.{Halt, Out}
 use Rattle.rules_shared.specs.Choose.{positive}
 use Rattle.rules_object.specs.Machine.{State, state, fresh, step}
 use Rattle.rules_shared.proofs.RunLaws.{halt-same, Steps, one, last, more, same-halt, onward, steps-more, steps-some, steps-most}

@@ -7,7 +7,8 @@ use mathlib.Core.Option.{Option, none, some}
 use lib.Dec.{eqb}
 use lib.ListN.{replicate}
 use lib.IntN.{ℤ, pos}
-use Rattle.rules_shared.specs.Runs.{haltNumber, Outcome, go, halt}
+use Rattle.rules_shared.specs.Runs.{Outcome, go, halt}
+use Rattle.rules_object.specs.Halts.{haltNumber}
 use Rattle.rules_object.specs.Object.{Object}
 use Rattle.rules_object.specs.Bytes.{readObject}
 use Rattle.rules_shared.specs.Refusals.{Refusal}

@@ -7,7 +7,8 @@ use mathlib.Core.Option.{Option, none, some}
 use lib.Dec.{ltb, eqb, leb}
 use lib.ListN.{take}
 use lib.IntN.{ℤ, pos}
-use Rattle.rules_shared.specs.Runs.{Outcome, Halt, atStop, atEnd, divideByZero, badSubscript, badExit, badParameter}
+use Rattle.rules_shared.specs.Runs.{Outcome}
+use Rattle.rules_object.specs.Halts.{Halt, atStop, atEnd, divideByZero, badSubscript, badExit, badParameter}
 use Rattle.rules_object.specs.Object.{Named, Object}
 use Rattle.rules_object.specs.Bytes.{readObject}
 use Rattle.rules_object.specs.Machine.{cell}

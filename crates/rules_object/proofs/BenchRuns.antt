@@ -10,7 +10,8 @@ use lib.ListN.{length, getD, length-replicate}
 use lib.IntN.{ℤ, pos}
 use borrow.Author.Tests.{lt-ltb, le-leb}
 use Rattle.rules_shared.specs.Limits.{limits}
-use Rattle.rules_shared.specs.Runs.{badStack, badInstruction, Out, go, halt, run, steps}
+use Rattle.rules_shared.specs.Runs.{go, halt, run, steps}
+use Rattle.rules_object.specs.Halts.{badStack, badInstruction, Out}
 use Rattle.rules_object.specs.Object.{Object}
 use Rattle.rules_object.specs.Machine.{State, fresh, step}
 use Rattle.rules_object.specs.Flow.{first}

@@ -7,7 +7,8 @@ use native.Mathlib.Omega.{arith}
 use lib.ListN.{length, drop, replicate}
 use lib.IntN.{ℤ, pos}
 use Rattle.rules_shared.specs.Limits.{limits}
-use Rattle.rules_shared.specs.Runs.{Halt, atStop, atEnd, divideByZero, badSubscript, badExit, badParameter, badStack, badInstruction, haltNumber, Out, go, halt, then, run, stepsFrom, steps}
+use Rattle.rules_shared.specs.Runs.{go, halt, then, run, stepsFrom, steps}
+use Rattle.rules_object.specs.Halts.{Halt, atStop, atEnd, divideByZero, badSubscript, badExit, badParameter, badStack, badInstruction, haltNumber, Out}
 use Rattle.rules_object.specs.Object.{Object}
 use Rattle.rules_object.specs.Machine.{State, step}
 use Rattle.rules_shared.specs.Refusals.{accepted}

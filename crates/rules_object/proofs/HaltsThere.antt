@@ -8,7 +8,8 @@ use Prim.Native.Nat.{ℕ}
 use lib.ListN.{getD}
 use lib.IntN.{ℤ}
 use Rattle.number.specs.Number.{Rule, Result, value, byZero, apply}
-use Rattle.rules_shared.specs.Runs.{Halt, badStack, badInstruction, Out, go, halt}
+use Rattle.rules_shared.specs.Runs.{go, halt}
+use Rattle.rules_object.specs.Halts.{Halt, badStack, badInstruction, Out}
 use Rattle.rules_shared.specs.Choose.{exit, positive, allPositive, Turn, again, over, turn}
 use Rattle.rules_object.specs.Object.{Element, Loop, Object}
 use Rattle.rules_object.specs.Machine.{Instr, HLT, CON, LOD, STO, LDE, STE, OP, NEG, JMP, BR3, BRC, DOI, DOE, State, cell, top, under, operated, placeOf, elementLoaded, elementStored, branched, begun, turned, ended, act, ruleOf, step}

@@ -8,7 +8,6 @@ pub mod RoundTrip
 pub mod BytesExamples
 pub mod Passed
 pub mod Numbers
-pub mod Places
 pub mod Touches
 pub mod HaltsThere
 pub mod Safe

@@ -11,7 +11,8 @@ use lib.IntN.{ℤ}
 use borrow.Author.Tests.{le-leb}
 use Rattle.number.specs.Number.{fits}
 use Rattle.rules_shared.specs.Limits.{limits}
-use Rattle.rules_shared.specs.Runs.{Out, go, halt, then, run, steps}
+use Rattle.rules_shared.specs.Runs.{go, halt, then, run, steps}
+use Rattle.rules_object.specs.Halts.{Out}
 use Rattle.rules_object.specs.Object.{Object}
 use Rattle.rules_object.specs.Machine.{State, ruleOf, step}
 use Rattle.rules_shared.specs.Refusals.{refusal, orElse, unless}

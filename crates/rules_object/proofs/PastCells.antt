@@ -10,7 +10,8 @@ use lib.ListN.{length, set, length-set, List·getD-append}
 use lib.Seq.{set-append-left}
 use lib.IntN.{ℤ, pos, _+ℤ_, _*ℤ_}
 use Rattle.number.specs.Number.{Rule, Result, value, byZero, apply}
-use Rattle.rules_shared.specs.Runs.{Out, go, run, steps}
+use Rattle.rules_shared.specs.Runs.{go, run, steps}
+use Rattle.rules_object.specs.Halts.{Out}
 use Rattle.rules_shared.specs.Choose.{exit, place, positive, allPositive, Turn, again, over, turn}
 use Rattle.rules_object.specs.Object.{SubscriptEntry, Element, Loop, Object}
 use Rattle.rules_object.specs.Machine.{Instr, HLT, CON, LOD, STO, LDE, STE, OP, NEG, JMP, BR3, BRC, DOI, DOE, State, state, cell, top, under, operated, subscriptValue, placeOf, elementLoaded, elementStored, branched, begun, turned, ended, act, ruleOf, step}
@@ -19,7 +20,7 @@ use Rattle.rules_object.specs.Safe.{Stands, withCells}
 use Rattle.rules_shared.proofs.RunLaws.{mapOut, run-map, steps-map}
 use Rattle.rules_object.specs.Passed.{Passed}
 use Rattle.rules_object.proofs.GoodWords.{GoodElement, GoodLoop, Good, word-good}
-use Rattle.rules_object.proofs.Places.{place-below}
+use Rattle.rules_shared.proofs.Places.{place-below}
 use Rattle.rules_object.proofs.Safe.{step-stands}
 
 module _ (o : Object) (extra : List ℤ) (t : State) (long : o .cells ≤ length (t .store)) where

@@ -12,7 +12,8 @@ use lib.ListN.{length, drop, length-append, length-drop}
 use lib.Seq.{take-append-seam, drop-append-seam}
 use borrow.Author.Tests.{leb-true}
 use lib.IntN.{ℤ}
-use Rattle.rules_shared.specs.Runs.{Out, go, halt, run, steps}
+use Rattle.rules_shared.specs.Runs.{go, halt, run, steps}
+use Rattle.rules_object.specs.Halts.{Out}
 use Rattle.rules_object.specs.Object.{Object}
 use Rattle.rules_object.specs.Bytes.{readObject}
 use Rattle.rules_object.specs.Machine.{State, fresh}

@@ -7,7 +7,7 @@ use lib.ListN.{replicate, take}
 use lib.IntN.{ℤ, pos, negsuc}
 use Rattle.number.specs.Number.{ceiling, fits, keep, drops, kept, divided, apply}
 use Rattle.rules_shared.specs.Limits.{limits}
-use Rattle.rules_shared.specs.Runs.{haltNumber}
+use Rattle.rules_object.specs.Halts.{haltNumber}
 use Rattle.rules_shared.specs.Choose.{place, turn}
 use Rattle.rules_object.specs.Object.{Object}
 use Rattle.rules_object.specs.Bytes.{signedOf, signedWord, objectWords, objectBytes, readObject}

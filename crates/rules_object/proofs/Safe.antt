@@ -11,7 +11,8 @@ use lib.IntN.{ℤ, pos, negsuc}
 use Rattle.number.specs.Number.{Op, add, sub, mul, div, Result, value, byZero, apply}
 use Rattle.number.proofs.Laws.{ResultFits, apply-fits, neg-fits}
 use Rattle.rules_shared.specs.Limits.{limits}
-use Rattle.rules_shared.specs.Runs.{Halt, haltNumber, Out, go, halt, run}
+use Rattle.rules_shared.specs.Runs.{go, halt, run}
+use Rattle.rules_object.specs.Halts.{Halt, haltNumber, Out}
 use Rattle.rules_shared.specs.Choose.{sign3, exit, positive, allPositive, Turn, again, over, turn, marked}
 use Rattle.rules_object.specs.Object.{Element, Loop, Object}
 use Rattle.rules_object.specs.Machine.{Instr, HLT, CON, LOD, STO, LDE, STE, OP, NEG, JMP, BR3, BRC, DOI, DOE, State, state, cell, top, under, operated, placeOf, elementLoaded, elementStored, branched, begun, turned, ended, halts, act, ruleOf, step}
@@ -19,7 +20,7 @@ use Rattle.rules_object.specs.Check.{pops, pushes, instruction}
 use Rattle.rules_shared.specs.Lists.{Each}
 use Rattle.rules_object.specs.Safe.{elementCell, elementCells, touchedBy, touches, Right, Within, Stands}
 use Rattle.rules_shared.proofs.RunLaws.{run-keeps, halted}
-use Rattle.rules_object.proofs.Places.{place-below}
+use Rattle.rules_shared.proofs.Places.{place-below}
 use Rattle.rules_object.proofs.HaltsThere.{step-there}
 use Rattle.rules_object.specs.Passed.{Passed}
 use Rattle.rules_object.proofs.Numbers.{top-within, under-within, set-within, TurnWithin, turn-within, under-length}

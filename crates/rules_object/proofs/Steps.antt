@@ -5,7 +5,8 @@ use mathlib.Core.List.{List}
 use Prim.Native.Nat.{ℕ, _-_}
 use native.Mathlib.Omega.{arith}
 use lib.IntN.{ℤ}
-use Rattle.rules_shared.specs.Runs.{Halt, Out, go, halt, run, steps}
+use Rattle.rules_shared.specs.Runs.{go, halt, run, steps}
+use Rattle.rules_object.specs.Halts.{Halt, Out}
 use Rattle.rules_object.specs.Object.{Object}
 use Rattle.rules_object.specs.Machine.{State, fresh, step}
 use Rattle.rules_object.specs.Check.{benchStep}

@@ -9,7 +9,8 @@ use lib.ListN.{length, take, drop, replicate}
 use lib.IntN.{ℤ, pos}
 use Rattle.number.specs.Number.{fits}
 use Rattle.rules_shared.specs.Limits.{limits}
-use Rattle.rules_shared.specs.Runs.{haltNumber, Out, go, halt, run, steps}
+use Rattle.rules_shared.specs.Runs.{go, halt, run, steps}
+use Rattle.rules_object.specs.Halts.{haltNumber, Out}
 use Rattle.rules_object.specs.Object.{Line, Object}
 use Rattle.rules_object.specs.Bytes.{concat, bytesOf, nameWords, readObject}
 use Rattle.rules_object.specs.Machine.{State, state, fresh, ruleOf, step}

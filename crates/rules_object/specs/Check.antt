@@ -9,7 +9,8 @@ use lib.IntN.{ℤ, pos}
 use Rattle.number.specs.Number.{fits}
 use Rattle.number.specs.Number.{add, sub, mul, div}
 use Rattle.rules_shared.specs.Limits.{limits}
-use Rattle.rules_shared.specs.Runs.{badStack, badInstruction, Out, halt}
+use Rattle.rules_shared.specs.Runs.{halt}
+use Rattle.rules_object.specs.Halts.{badStack, badInstruction, Out}
 use Rattle.rules_object.specs.Object.{SubscriptEntry, Element, Loop, Line, Named, Object}
 use Rattle.rules_object.specs.Flow.{Flow}
 use Rattle.rules_object.specs.Machine.{Instr, HLT, CON, LOD, STO, LDE, STE, OP, NEG, JMP, BR3, BRC, DOI, DOE, operationOf, operandOf, noElement, noLoop, decode, State, ruleOf, step}

@@ -1,3 +1,4 @@
+pub mod Halts
 pub mod Object
 pub mod Bytes
 pub mod Writable

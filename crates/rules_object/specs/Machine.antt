@@ -7,7 +7,8 @@ use mathlib.Core.Option.{Option, none, some}
 use lib.ListN.{getD, set, take, drop}
 use lib.IntN.{ℤ, pos, negℤ, _+ℤ_, _*ℤ_}
 use Rattle.number.specs.Number.{Rule, Op, add, sub, mul, div, Result, value, byZero, apply}
-use Rattle.rules_shared.specs.Runs.{Halt, atStop, atEnd, divideByZero, badSubscript, badExit, badParameter, Out, go, halt}
+use Rattle.rules_shared.specs.Runs.{go, halt}
+use Rattle.rules_object.specs.Halts.{Halt, atStop, atEnd, divideByZero, badSubscript, badExit, badParameter, Out}
 use Rattle.rules_shared.specs.Choose.{sign3, exit, place, positive, allPositive, Turn, again, over, turn, marked}
 use Rattle.rules_object.specs.Object.{SubscriptEntry, Element, Loop, Object}
 

@@ -8,7 +8,8 @@ use Prim.Native.Nat.{ℕ, _-_, _≤_, _<_}
 use lib.ListN.{length, take}
 use lib.IntN.{ℤ}
 use Rattle.rules_shared.specs.Limits.{limits}
-use Rattle.rules_shared.specs.Runs.{Out, go, halt}
+use Rattle.rules_shared.specs.Runs.{go, halt}
+use Rattle.rules_object.specs.Halts.{Out}
 use Rattle.rules_object.specs.Object.{Object}
 use Rattle.rules_object.specs.Bytes.{readObject}
 use Rattle.rules_shared.specs.Lists.{Each}

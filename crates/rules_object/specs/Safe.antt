@@ -10,7 +10,8 @@ use lib.ListN.{length, getD, take, drop, replicate}
 use lib.IntN.{ℤ, pos, natAbs}
 use Rattle.number.specs.Number.{ceiling}
 use Rattle.rules_shared.specs.Limits.{limits}
-use Rattle.rules_shared.specs.Runs.{Halt, haltNumber, Out, go, halt, run, steps}
+use Rattle.rules_shared.specs.Runs.{go, halt, run, steps}
+use Rattle.rules_object.specs.Halts.{Halt, haltNumber, Out}
 use Rattle.rules_object.specs.Object.{Element, Loop, Object}
 use Rattle.rules_shared.specs.Lists.{Each}
 use Rattle.rules_object.specs.Machine.{Instr, HLT, CON, LOD, STO, LDE, STE, OP, NEG, JMP, BR3, BRC, DOI, DOE, State, state, cell, placeOf, ruleOf, step}

@@ -1,2 +1,3 @@
 pub mod RunLaws
 pub mod ChooseLaws
+pub mod Places

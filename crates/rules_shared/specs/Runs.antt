@@ -1,4 +1,4 @@
--- A run of any step function for at most n steps, and the machine's halts. The deck's meaning and the machine share what a run is, and neither halts nor steps.
+-- A run of any step function for at most n steps, by any halts. The deck's meaning and the machine share what a run is, and neither halts nor steps.
 -- Assumes nothing.
 use Prim.Native.Nat.{ℕ, zero, suc}
 
@@ -24,23 +24,3 @@ stepsFrom (halt h t) g = zero
 abbrev pub steps : {H S : Type 0} → (S → Outcome H S) → ℕ → S → ℕ
 steps f zero s = zero
 steps f (suc n) s = suc (stepsFrom (f s) (λ t. steps f n t))
-
--- ---- the machine's halts
-
-pub data Halt : Type 0 where
-  atStop atEnd divideByZero badSubscript badExit badParameter badStack badInstruction : Halt
-
--- 01's numbers; 2 is for an allowance that is used up
-unfoldable pub haltNumber : Halt → ℕ
-haltNumber atStop = 0
-haltNumber atEnd = 1
-haltNumber divideByZero = 3
-haltNumber badSubscript = 4
-haltNumber badExit = 5
-haltNumber badParameter = 6
-haltNumber badStack = 7
-haltNumber badInstruction = 8
-
--- what a run of the machine comes to
-abbrev pub Out : Type 0 → Type 0
-Out S = Outcome Halt S
