@@ -6,9 +6,9 @@ use native.Mathlib.Omega.{arith}
 use native.Mathlib.Nat.{mul-le-mul}
 use mathlib.Core.List.{List, [], _∷_, _++_}
 use lib.ListN.{take}
+use Rattle.rules_object.proofs.EachLaws.{each-one}
 use Rattle.rules_deck.specs.Deck.{Declared, width}
 use Rattle.rules_deck.specs.Translation.{array, arraySize}
-use Rattle.rules_deck.proofs.Readers.{all-one}
 use Rattle.tokens.specs.Words.{most, nameWord}
 use Rattle.items.specs.Parsed.{Put}
 use Rattle.draft.specs.Names.{heldWords}
@@ -85,5 +85,5 @@ module _ (t : List ℕ) (n cells word rows columns : ℕ) where
             ap (λ (k : ℕ). take k t′) four ∙ put .table ∙ ap (λ (x : ℕ). take (4 * n) t ++ (x ∷ cells ∷ rows ∷ columns ∷ [])) e
             ∙ ap (λ (x : ℕ). take (4 * n) t ++ (nameWord (a .name) ∷ cells ∷ x ∷ columns ∷ [])) (exact rows (a .dims .rows) er hr)
             ∙ ap (λ (x : ℕ). take (4 * n) t ++ (nameWord (a .name) ∷ cells ∷ a .dims .rows ∷ x ∷ [])) (exact columns (a .dims .columns) ec hc) in
-            lists-more (array a ∷ []) l words (omega arith) (omega (arith, size)) (omega arith) fc (all-one ta) (all-one some);
+            lists-more (array a ∷ []) l words (omega arith) (omega (arith, size)) (omega arith) fc (each-one ta) (each-one some);
       }

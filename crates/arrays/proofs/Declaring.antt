@@ -9,11 +9,12 @@ use mathlib.Core.Option.{none, some}
 use lib.Dec.{leb}
 use lib.ListN.{length, getD}
 use borrow.Author.Tests.{leb-true}
+use Rattle.rules_object.specs.Each.{Each}
 use Rattle.rules_deck.specs.Trees.{Array, array, arrayNames, valueOf}
 use Rattle.rules_deck.specs.Deck.{declare}
 use Rattle.rules_deck.specs.Translation.{Held}
 use Rattle.rules_deck.specs.Judge.{someCells, rightArrays}
-use Rattle.rules_deck.proofs.Readers.{All, both-true}
+use Rattle.rules_deck.proofs.Readers.{both-true}
 use Rattle.tokens.specs.Words.{most, capped}
 use Rattle.forms.specs.Statements.{arrayWords, allWords}
 use Rattle.draft.specs.Names.{Lists, Told, namesFit}
@@ -54,7 +55,7 @@ pub record Declaring (arrays t₀ : List ℕ) (n₀ cells₀ m : ℕ) (t : List 
   pub kept : length t ≡ length t₀
   pub names-fit : n ≤ 100
   pub cells-fit : cells ≤ 4096
-  pub part : (held : List Held) (declared : List Array) → Lists held t₀ n₀ cells₀ → arrays ≡ allWords declared → All Told (arrayNames declared) → rightArrays held declared ≡ true
+  pub part : (held : List Held) (declared : List Array) → Lists held t₀ n₀ cells₀ → arrays ≡ allWords declared → Each Told (arrayNames declared) → rightArrays held declared ≡ true
       → Cells held declared t i n cells
 
 -- what is declared, taken apart at an array
@@ -89,7 +90,7 @@ module _ (arrays t₀ : List ℕ) (n₀ cells₀ m : ℕ) (h : 4 * m ≡ length 
     One t′ r = TakesArray t t′ n cells (getD arrays (4 * i + 1) 0) (getD arrays (4 * i + 2) 0) (getD arrays (4 * i + 3) 0) r
 
     -- the array here, in the book
-    one-is : {t′ : List ℕ} {r : Grown} → One t′ r → (held : List Held) (declared : List Array) → arrays ≡ allWords declared → All Told (arrayNames declared)
+    one-is : {t′ : List ℕ} {r : Grown} → One t′ r → (held : List Held) (declared : List Array) → arrays ≡ allWords declared → Each Told (arrayNames declared)
         → (c : Cells held declared t i n cells) (x : Next declared i (c .parted)) → Appeared ((held ++ brought (c .parted .before)) ++ (Held.array (declare (x .here)) ∷ [])) t′ r
     one-is {t′} {r} one held declared w told c x =
         let p = c .parted in

@@ -8,15 +8,16 @@ use mathlib.Core.List.{List, [], _∷_, _++_, append-assoc, append-nil}
 use lib.ListN.{length, getD, drop, length-append}
 use lib.Seq.{getD-drop, drop-at}
 use native.Mathlib.Nat.{add-zero}
+use Rattle.rules_object.specs.Each.{Each, each-more}
+use Rattle.rules_object.proofs.EachLaws.{each-both}
 use Rattle.rules_deck.specs.Trees.{Name, Array, array, arrayNames}
 use Rattle.rules_deck.specs.Deck.{declare}
 use Rattle.rules_deck.specs.Translation.{Held}
 use Rattle.rules_deck.specs.Judge.{endsInF, seen, someCells, rightArrays}
-use Rattle.rules_deck.proofs.Readers.{All, all-more}
 use Rattle.tokens.specs.Words.{nameWord}
 use Rattle.forms.specs.Statements.{arrayWords, allWords}
 use Rattle.draft.specs.Names.{Lists, Told}
-use Rattle.names.proofs.Tests.{and-false, split-all}
+use Rattle.names.proofs.Tests.{and-false}
 use Rattle.arrays.specs.One.{brought, someWords, EndsInF, IsNew, rightArray, RightArray}
 use Rattle.arrays.specs.Arrays.{Dimensions}
 use Rattle.arrays.proofs.News.{words-length, words-both, names-both, some-is, name-is}
@@ -132,14 +133,14 @@ module _ {declared : List Array} {i : ℕ} (p : Parted declared i) (x : Next dec
   name-first : (a : Array) (after : List Array) → arrayNames (a ∷ after) ≡ declare a .name ∷ arrayNames after
   name-first (array v r c) after = refl
 
-  pub here-told : All Told (arrayNames declared) → All Told (arrayNames (p .before)) × Told (declare (x .here) .name)
+  pub here-told : Each Told (arrayNames declared) → Each Told (arrayNames (p .before)) × Told (declare (x .here) .name)
   here-told told =
-      let all = subst (λ (l : List Name). All Told l) (ap arrayNames (p .are) ∙ names-both (p .before) (p .left)) told in
-      let halves = split-all (arrayNames (p .before)) all in
-      (halves .0, head (subst (λ (l : List Name). All Told l) (ap arrayNames (x .is) ∙ name-first (x .here) (x .after)) (halves .1)))
+      let all = subst (λ (l : List Name). Each Told l) (ap arrayNames (p .are) ∙ names-both (p .before) (p .left)) told in
+      let halves = each-both (arrayNames (p .before)) all in
+      (halves .0, head (subst (λ (l : List Name). Each Told l) (ap arrayNames (x .is) ∙ name-first (x .here) (x .after)) (halves .1)))
     where
-      head : {v : Name} {vs : List Name} → All Told (v ∷ vs) → Told v
-      head (all-more t ts) = t
+      head : {v : Name} {vs : List Name} → Each Told (v ∷ vs) → Told v
+      head (each-more t ts) = t
 
 pub brought-both : (a b : List Array) → brought (a ++ b) ≡ brought a ++ brought b
 brought-both [] b = refl
@@ -162,7 +163,7 @@ pub record Judged (held : List Held) (declared : List Array) (i : ℕ) : Type 0 
 
 pub record Checking (arrays t : List ℕ) (n m i : ℕ) : Type 0 where
   pub within : i ≤ m
-  pub part : (held : List Held) (cells : ℕ) (declared : List Array) → Lists held t n cells → arrays ≡ allWords declared → All Told (arrayNames declared) → Judged held declared i
+  pub part : (held : List Held) (cells : ℕ) (declared : List Array) → Lists held t n cells → arrays ≡ allWords declared → Each Told (arrayNames declared) → Judged held declared i
 
 module _ (arrays t : List ℕ) (n m : ℕ) (h : 4 * m ≡ length arrays) where
   pub checking-start : Checking arrays t n m 0
@@ -174,7 +175,7 @@ module _ (arrays t : List ℕ) (n m : ℕ) (h : 4 * m ≡ length arrays) where
       }
 
   step : (i : ℕ) (r : Bool) → RightArray arrays i t n r → i < m → (held : List Held) (cells : ℕ) (declared : List Array) → Lists held t n cells
-      → arrays ≡ allWords declared → All Told (arrayNames declared) → (j : Judged held declared i) (x : Next declared i (j .parted))
+      → arrays ≡ allWords declared → Each Told (arrayNames declared) → (j : Judged held declared i) (x : Next declared i (j .parted))
       → rightArrays held declared ≡ r && rightArrays (held ++ brought (j .parted .before ++ (x .here ∷ []))) (x .after)
   step i r right l held cells declared ls w told j x =
       let p = j .parted in

@@ -6,9 +6,9 @@ use native.Mathlib.Omega.{arith}
 use mathlib.Core.List.{List, [], _∷_, _++_, append-nil, append-assoc}
 use lib.Dec.{eqb}
 use lib.ListN.{length, take, replicate}
+use Rattle.rules_object.specs.Each.{Each, each-more}
 use Rattle.rules_deck.specs.Trees.{Name}
 use Rattle.rules_deck.specs.Judge.{endsInF}
-use Rattle.rules_deck.proofs.Readers.{All, all-more}
 use Rattle.tokens.specs.Words.{bytesFrom, nameWord}
 use Rattle.draft.specs.Names.{Told}
 use Rattle.arrays.specs.One.{EndsInF}
@@ -24,9 +24,9 @@ ending : (c : ℕ) (s : List ℕ) → Ends (c ∷ s)
 ending c [] = record { front = []; last = c; is = refl }
 ending c (d ∷ s) = let e = ending d s in record { front = c ∷ e .front; last = e .last; is = ap (λ (x : List ℕ). c ∷ x) (e .is) }
 
-all-last : {P : ℕ → Type 0} (s : List ℕ) {c : ℕ} → All P (s ++ (c ∷ [])) → P c
-all-last [] (all-more p a) = p
-all-last (d ∷ s) (all-more p a) = all-last s a
+all-last : {P : ℕ → Type 0} (s : List ℕ) {c : ℕ} → Each P (s ++ (c ∷ [])) → P c
+all-last [] (each-more p a) = p
+all-last (d ∷ s) (each-more p a) = all-last s a
 
 ends-last : (s : List ℕ) (c : ℕ) → endsInF (s ++ (c ∷ [])) ≡ eqb c 70
 ends-last [] c = refl
@@ -89,8 +89,8 @@ bare (d ∷ v) w t e = go (ending d v)
   where
     go : Ends (d ∷ v) → Bare (d ∷ v) w
     go s =
-        let small = all-last (s .front) (subst (λ (x : List ℕ). All (λ (y : ℕ). y < 256) x) (s .is) (t .bytes)) in
-        let solid = all-last (s .front) (subst (λ (x : List ℕ). All (λ (y : ℕ). y ≡ 32 → ⊥) x) (s .is) (t .solid)) in
+        let small = all-last (s .front) (subst (λ (x : List ℕ). Each (λ (y : ℕ). y < 256) x) (s .is) (t .bytes)) in
+        let solid = all-last (s .front) (subst (λ (x : List ℕ). Each (λ (y : ℕ). y ≡ 32 → ⊥) x) (s .is) (t .solid)) in
         let is : w ≡ bytesFrom 0 (s .front) * 256 + s .last = e ∙ ap (bytesFrom 0) (append-nil (d ∷ v) ∙ s .is) ∙ bytes-last 0 (s .front) (s .last) in
         let low : w % 256 ≡ s .last = ap (λ (x : ℕ). x % 256) is ∙ low-byte (bytesFrom 0 (s .front)) (s .last) small in
         record { byte = λ p. solid (sym low ∙ p); ends = ap (λ (x : ℕ). eqb x 70) low ∙ sym (ends-last (s .front) (s .last)) ∙ ap endsInF (sym (s .is)) }

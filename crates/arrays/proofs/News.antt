@@ -10,11 +10,11 @@ use lib.Dec.{eqb, leb}
 use lib.ListN.{length, getD, drop}
 use lib.Seq.{getD-drop, drop-drop}
 use borrow.Author.Tests.{eq-eqb, ne-eqb, le-leb}
+use Rattle.rules_object.specs.Each.{Each, each-more}
 use Rattle.rules_deck.specs.Trees.{Name, Array, array, arrayNames, valueOf}
 use Rattle.rules_deck.specs.Deck.{sameName, declare}
 use Rattle.rules_deck.specs.Translation.{Held, isName, isArray, holds}
 use Rattle.rules_deck.specs.Judge.{seen, someCells}
-use Rattle.rules_deck.proofs.Readers.{All, all-more}
 use Rattle.tokens.specs.Words.{most, capped, nameWord}
 use Rattle.forms.specs.Statements.{arrayWords, allWords}
 use Rattle.draft.specs.Names.{Told}
@@ -101,14 +101,14 @@ module _ (w n : ℕ) (t : List ℕ) where
 
 -- ---- a name that was not seen
 
-named-is : (v : Name) (before : List Array) (more : List ℕ) → Told v → All Told (arrayNames before)
+named-is : (v : Name) (before : List Array) (more : List ℕ) → Told v → Each Told (arrayNames before)
     → isNamed (nameWord v) (length before) (allWords before ++ more) ≡ holds (isArray v) (brought before)
 unfolding isNamed allWords arrayWords
 named-is v [] more tv told = refl
-named-is v (array w r none ∷ before) more tv (all-more tw told) =
+named-is v (array w r none ∷ before) more tv (each-more tw told) =
     ap (λ (b : Bool). b || isNamed (nameWord v) (length before) (allWords before ++ more)) (word-test w v tw tv)
     ∙ ap (λ (b : Bool). sameName w v || b) (named-is v before more tv told)
-named-is v (array w r (some c) ∷ before) more tv (all-more tw told) =
+named-is v (array w r (some c) ∷ before) more tv (each-more tw told) =
     ap (λ (b : Bool). b || isNamed (nameWord v) (length before) (allWords before ++ more)) (word-test w v tw tv)
     ∙ ap (λ (b : Bool). sameName w v || b) (named-is v before more tv told)
 

@@ -6,11 +6,11 @@ use mathlib.Core.Bool.{Bool, false, _&&_, _||_, not}
 use mathlib.Core.List.{List, [], _∷_, _++_, map}
 use lib.Dec.{eqb, leb}
 use lib.ListN.{length, getD, drop}
+use Rattle.rules_object.specs.Each.{Each}
 use Rattle.rules_deck.specs.Trees.{Name, Array, arrayNames}
 use Rattle.rules_deck.specs.Deck.{Declared, declare}
 use Rattle.rules_deck.specs.Translation.{Held, array}
 use Rattle.rules_deck.specs.Judge.{endsInF, seen, someCells}
-use Rattle.rules_deck.proofs.Readers.{All}
 use Rattle.tokens.specs.Words.{most, nameWord}
 use Rattle.forms.specs.Statements.{allWords}
 use Rattle.draft.specs.Names.{Lists, Told}
@@ -39,7 +39,7 @@ someWords dimensions rows columns = leb 1 rows && (eqb dimensions 1 || leb 1 col
 abbrev pub IsNew : List ℕ → ℕ → List ℕ → ℕ → ℕ → Bool → Type 0
 IsNew arrays i table n word r =
     (held : List Held) (cells : ℕ) (before : List Array) (more : List ℕ) (v : Name) → Lists held table n cells → arrays ≡ allWords before ++ more → i ≡ length before
-    → All Told (arrayNames before) → Told v → word ≡ nameWord v → r ≡ not (seen (held ++ brought before) v)
+    → Each Told (arrayNames before) → Told v → word ≡ nameWord v → r ≡ not (seen (held ++ brought before) v)
 
 abbrev pub rightArray : List Held → Array → Bool
 rightArray held a = someCells a && (not (seen held (declare a .name)) && not (endsInF (declare a .name)))
@@ -47,7 +47,7 @@ rightArray held a = someCells a && (not (seen held (declare a .name)) && not (en
 abbrev pub RightArray : List ℕ → ℕ → List ℕ → ℕ → Bool → Type 0
 RightArray arrays i table n r =
     (held : List Held) (cells : ℕ) (before : List Array) (a : Array) (after : List Array) → Lists held table n cells
-    → arrays ≡ allWords before ++ allWords (a ∷ after) → i ≡ length before → All Told (arrayNames before) → Told (declare a .name) → r ≡ rightArray (held ++ brought before) a
+    → arrays ≡ allWords before ++ allWords (a ∷ after) → i ≡ length before → Each Told (arrayNames before) → Told (declare a .name) → r ≡ rightArray (held ++ brought before) a
 
 -- ---- its cells
 

@@ -12,7 +12,7 @@ use lib.Dec.{T, leb, eqb}
 use lib.ListN.{length, getD, take, drop, replicate, length-take, length-replicate, drop-of-length-le}
 use lib.Seq.{drop-cons, getD-take, length-take-le, take-add, drop-at}
 use borrow.Author.Tests.{le-leb, lt-leb, ne-eqb, leb-true}
-use Rattle.rules_object.specs.Check.{blanks, digit}
+use Rattle.rules_object.specs.Check.{blanks, isDigit}
 use Rattle.rules_deck.specs.Trees.{valueFrom, valueOf}
 use Rattle.rules_deck.specs.Cards.{numberColumns, textColumns, comment, firstCard, character, characters, allDigits, withoutBlanks, numberOf, rightNumber}
 use Rattle.rules_deck.proofs.CardsLaws.{and-both}
@@ -155,7 +155,7 @@ from v s = cond (allDigits (withoutBlanks s)) (value.Of (valueFrom v (withoutBla
 from-blank : (v c : ℕ) (s : List ℕ) → c ≡ 32 → from v (c ∷ s) ≡ from v s
 from-blank v c s e = simp e
 
-from-solid : (v c : ℕ) (s : List ℕ) → (c ≡ 32 → ⊥) → from v (c ∷ s) ≡ cond (digit c && allDigits (withoutBlanks s)) (value.Of (valueFrom (v * 10 + (c - 48)) (withoutBlanks s))) value.Wrong
+from-solid : (v c : ℕ) (s : List ℕ) → (c ≡ 32 → ⊥) → from v (c ∷ s) ≡ cond (isDigit c && allDigits (withoutBlanks s)) (value.Of (valueFrom (v * 10 + (c - 48)) (withoutBlanks s))) value.Wrong
 from-solid v c s n = simp (ne-eqb c 32 n)
 
 from-low : (v c : ℕ) (s : List ℕ) → (c ≡ 32 → ⊥) → c < 48 → from v (c ∷ s) ≡ value.Wrong
@@ -232,7 +232,7 @@ no-digits (c ∷ s) e =
 below : (s : List ℕ) (v b : ℕ) → allDigits s ≡ true → v < b → valueFrom v s < b * 10 ^ length s
 below [] v b e h = omega arith
 below (c ∷ s) v b e h =
-    let d = and-both (digit c) (allDigits s) e in
+    let d = and-both (isDigit c) (allDigits s) e in
     let r = and-both (leb 48 c) (leb c 57) (d .0) in
     let t : v * 10 + (c - 48) < b * 10 = omega (arith, leb-true 48 c (r .0), leb-true c 57 (r .1)) in
     let p : b * 10 ^ suc (length s) ≡ b * 10 * 10 ^ length s = ap (λ (n : ℕ). b * n) (pow-suc 10 (length s) ∙ mul-comm (10 ^ length s) 10) ∙ sym (mul-assoc b 10 (10 ^ length s)) in

@@ -4,8 +4,8 @@ use mathlib.Core.Path.{_≡_}
 use Prim.Native.Nat.{ℕ}
 use mathlib.Core.Bool.{Bool, _&&_}
 use mathlib.Core.List.{List, [], _∷_, _++_}
+use Rattle.rules_object.specs.Each.{Each}
 use Rattle.rules_deck.specs.Translation.{Held, hidden, appear}
-use Rattle.rules_deck.proofs.Readers.{All}
 use Rattle.draft.specs.Parts.{Item, itemsWords, itemsNames, itemsPlain, rightItems}
 use Rattle.draft.specs.Names.{Lists, Told}
 use Rattle.names.specs.declared.Grown.{Grown}
@@ -15,13 +15,13 @@ use Rattle.names.specs.Appears.{Appeared, Within}
 abbrev pub RightBoth : List ℕ → List ℕ → List ℕ → ℕ → Bool → Type 0
 RightBoth first items table n r =
     (held : List Held) (cells : ℕ) (is js : List Item) → Lists held table n cells → first ≡ itemsWords is → items ≡ itemsWords js
-    → All Told (itemsNames is) → All Told (itemsNames js) → r ≡ (rightItems held is && rightItems held js)
+    → Each Told (itemsNames is) → Each Told (itemsNames js) → r ≡ (rightItems held is && rightItems held js)
 
 -- their plain names have taken their cells
 pub record TakesBoth (first items before after : List ℕ) (n cells : ℕ) (r : Grown) : Type 0 where
   pub within : Within r
   pub is : (held : List Held) (is js : List Item) → Lists held before n cells → first ≡ itemsWords is → items ≡ itemsWords js
-      → All Told (itemsNames is) → All Told (itemsNames js) → Appeared (appear held (itemsPlain is ++ itemsPlain js)) after r
+      → Each Told (itemsNames is) → Each Told (itemsNames js) → Appeared (appear held (itemsPlain is ++ itemsPlain js)) after r
 
 -- a DO's limit and step
 pub record Hides (n cells : ℕ) (r : Grown) : Type 0 where

@@ -9,6 +9,7 @@ use lib.ListN.{length, getElem?}
 use Rattle.rules_object.specs.Bytes.{objectBytes}
 use Rattle.rules_shared.specs.Refusals.{Refusal, refusal}
 use Rattle.rules_shared.specs.Output.{notWritten, write}
+use Rattle.rules_object.specs.Each.{Each}
 use Rattle.rules_deck.specs.Trees.{Name, Form, assign, loop, Target, cell, Statement}
 use Rattle.rules_deck.specs.Cards.{Punched, Carded, cardsRefused, statements, carded}
 use Rattle.rules_deck.specs.Translation.{targetPlain, exprPlain, formPlain, heldOf, translate}
@@ -20,10 +21,9 @@ use Rattle.rules_deck.proofs.AcceptedDeck.{accepted}
 use Rattle.rules_deck.proofs.DeckCells.{plain-has}
 use Rattle.rules_deck.specs.Cells.{namesHeld}
 use Rattle.rules_deck.proofs.MapNames.{name-among}
-use Rattle.rules_deck.proofs.BodySeven.{all-here}
-use Rattle.rules_deck.proofs.Readers.{All}
+use Rattle.rules_deck.proofs.BodySeven.{each-here}
+use Rattle.rules_deck.proofs.RightDeck.{each-among}
 use Rattle.judge_cards.specs.declared.Judged.{Judged}
-use Rattle.judge_cards.specs.declared.Judged.the-variants as judged
 use Rattle.cards.specs.declared.Sequence.{Sequence}
 use Rattle.judge_cards.specs.Judging.{judgedOf}
 use Rattle.draft.specs.declared.Counts.{Counts}
@@ -32,20 +32,20 @@ use Rattle.draft.specs.Draft.{draftOf}
 use Rattle.draft.specs.Kept.{Room, Fit, Kept}
 use Rattle.draft.proofs.DraftDeck.{draft-held}
 use Rattle.draft.proofs.DeckKept.{kept-deck}
-use Rattle.draft.proofs.Knowing.{all-of}
 use Rattle.drafting.specs.declared.Drafted.{Drafted}
-use Rattle.drafting.specs.declared.Drafted.the-variants as drafted
 use Rattle.drafting.specs.Drafted.{Drafts, refused, kept}
 use Rattle.whole.specs.declared.Verdict.{Verdict}
-use Rattle.whole.specs.declared.Verdict.the-variants as verdict
 use Rattle.whole.specs.Whole.{SetsTold, refusalOf}
-use Rattle.whole.specs.Whole as whole
 use Rattle.writer.specs.declared.Wrote.{Wrote}
-use Rattle.writer.specs.declared.Wrote.the-variants as wrote
-use Rattle.writer.specs.Answer as written
 use Rattle.finish.specs.Finishing.{Finished}
 use Rattle.compiler.specs.declared.Compiled.the-variants.{Refused, Object, Short}
 use Rattle.compiler.specs.Compiled.{answer, Punches, Holds}
+use Rattle.judge_cards.specs.declared.Judged.the-variants as judged
+use Rattle.drafting.specs.declared.Drafted.the-variants as drafted
+use Rattle.whole.specs.declared.Verdict.the-variants as verdict
+use Rattle.whole.specs.Whole as whole
+use Rattle.writer.specs.declared.Wrote.the-variants as wrote
+use Rattle.writer.specs.Answer as written
 
 -- ---- the names that a deck sets are told by their words: they have cells
 
@@ -61,17 +61,17 @@ index-of : {A : Type 0} {x : A} {l : List A} → Among x l → (j : ℕ) × (get
 index-of here = (0, refl)
 index-of (there a) = let i = index-of a in (suc (i .0), i .1)
 
-pub sets-told : (deck : List Statement) → All Told (namesHeld (heldOf deck)) → All SetsTold deck
+pub sets-told : (deck : List Statement) → Each Told (namesHeld (heldOf deck)) → Each SetsTold deck
 sets-told deck h =
-    all-of deck (λ s a. all-of (formSets (s .form)) (λ v b.
+    each-among deck (λ s a. each-among (formSets (s .form)) (λ v b.
     let i = index-of a in
-    all-here h (name-among (heldOf deck) v (plain-has deck (i .0) s v (i .1) (sets-plain (s .form) b)))))
+    each-here h (name-among (heldOf deck) v (plain-has deck (i .0) s v (i .1) (sets-plain (s .form) b)))))
 
 -- ---- the deck as a whole
 
 module _ {k : ℕ} {deck : List Statement} {n : Counts} {names constants elements dos loops code rows jumps : List ℕ} (h : Holds k deck n names constants elements dos loops code rows jumps) where
-  pub told : All SetsTold deck
-  told = sets-told deck (subst (λ l. All Told (namesHeld l)) (draft-held deck) (h .kept .held .told))
+  pub told : Each SetsTold deck
+  told = sets-told deck (subst (λ l. Each Told (namesHeld l)) (draft-held deck) (h .kept .held .told))
 
   pub whole-refused : {after : List ℕ} {number : ℕ} {place : Sequence} (output : List ℕ) (v : Verdict) → whole.Judged deck after (n .jumps) v → v ≡ verdict.Refused number place
       → answer (Refused number (place .0)) output ≡ writeRead k output (judgeRead (read deck))

@@ -8,6 +8,7 @@ use lib.ListN.{length}
 use borrow.Author.Tests.{eq-eqb}
 use Rattle.rules_object.specs.Object.{Loop, Element}
 use Rattle.rules_object.specs.Machine.{Instr, HLT, CON, LOD, STO, LDE, STE, OP, NEG, JMP, BR3, BRC, DOI, DOE}
+use Rattle.rules_object.proofs.EachLaws.{each-head}
 use Rattle.rules_deck.specs.Trees.{Name, valueOf, Form, assign, goTo, computed, ifs, loop, continue, stop, end, dimension, Statement, formLast}
 use Rattle.rules_deck.specs.Deck.{Do, Dims, doOf, dosFrom, dosOf, endings, dimsOf}
 use Rattle.rules_deck.specs.Meaning.{third}
@@ -22,7 +23,7 @@ use Rattle.draft.specs.Parts.{formFirst}
 use Rattle.draft.specs.Draft.{entriesOf, noLoop, Draft, noDraft, drafts, draftFrom, draftOf}
 use Rattle.draft.specs.Sketch.{plainFrom, plainCode, openEntry}
 use Rattle.draft.proofs.Matching.{matches-deck}
-use Rattle.draft.proofs.Steady.{all-first, cell-stays, limit-stays}
+use Rattle.draft.proofs.Steady.{cell-stays, limit-stays}
 use Rattle.draft.proofs.FinalDraft.{Knows, done, next, knows-deck, final-tables}
 
 -- ---- DOs
@@ -56,7 +57,7 @@ entry-stays held more q (ifs e a b c) w = refl
 entry-stays held more q (loop n v p₁ p₂ p₃) w =
     let f = loop n v p₁ p₂ p₃ in
     let h = holds-right (isHidden q) (appear held (formPlain f)) (hidden q ∷ []) (ap (λ (b : Bool). b || false) (eq-eqb q q refl)) in
-    rw (cell-stays (brings q f held) more v (all-first (w .plains)), limit-stays (brings q f held) more q h)
+    rw (cell-stays (brings q f held) more v (each-head (w .plains)), limit-stays (brings q f held) more q h)
 entry-stays held more q continue w = refl
 entry-stays held more q stop w = refl
 entry-stays held more q end w = refl

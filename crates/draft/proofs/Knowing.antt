@@ -8,26 +8,25 @@ use mathlib.Core.Bool.{Bool, true, false, cond, false≢true}
 use mathlib.Core.List.{List, [], _∷_, _++_, map}
 use mathlib.Core.Option.{some}
 use Rattle.rules_shared.specs.Lists.{all}
+use Rattle.rules_object.specs.Each.{Each}
+use Rattle.rules_object.proofs.EachLaws.{each-map}
 use Rattle.rules_deck.specs.Trees.{Name, Digits, valueOf, Form, formNames, formConstants}
 use Rattle.rules_deck.specs.Cards.{rightDigits}
 use Rattle.rules_deck.specs.Grammar.{formOf}
 use Rattle.rules_deck.specs.Deck.{sameName, declare, arraysIn}
 use Rattle.rules_deck.specs.Translation.{Held, name, array, hidden, isName, holds, appear, formPlain, hiddenIn, brings}
 use Rattle.rules_deck.specs.Judge.{right11, right12, Reference, rightCount, rightReference, right16}
-use Rattle.rules_deck.specs.Accepted.{Among, here, there}
-use Rattle.rules_deck.proofs.Readers.{All, all-none, all-more, all-map, both-true}
+use Rattle.rules_deck.specs.Accepted.{Among}
+use Rattle.rules_deck.proofs.Readers.{both-true}
 use Rattle.rules_deck.proofs.TestLaws.{all-among, among-left, among-right}
 use Rattle.rules_deck.proofs.ArrayLaws.{holds-left}
 use Rattle.rules_deck.proofs.DeckCells.{grown-appear, appear-has}
-use Rattle.rules_deck.proofs.BodySeven.{all-here}
+use Rattle.rules_deck.proofs.BodySeven.{each-here}
+use Rattle.rules_deck.proofs.RightDeck.{each-among}
 use Rattle.draft.specs.Parts.{Item, itemsPlain, itemsReferences, rightItems, formFirst, formItems}
 use Rattle.draft.specs.Names.{Told, Exact, Known}
 use Rattle.draft.proofs.FormLaws.{form-plain-both, form-right16, first-names, items-names, first-constants, items-constants}
 use Rattle.draft.proofs.ReadForm.{read-told, read-exact}
-
-pub all-of : {A : Type 0} {P : A → Type 0} (l : List A) → ((a : A) → Among a l → P a) → All P l
-all-of [] f = all-none
-all-of (a ∷ l) f = all-more (f a here) (all-of l (λ b x. f b (there x)))
 
 -- ---- a table that grows at its end
 
@@ -47,8 +46,8 @@ known-grows {held} {is} more w =
     record {
       told = w .told;
       exact = w .exact;
-      plains = all-map (λ v e. holds-left (isName v) held more e) (w .plains);
-      arrays = all-map (λ r e. reference-grows held more r e) (w .arrays);
+      plains = each-map (λ v e. holds-left (isName v) held more e) (w .plains);
+      arrays = each-map (λ r e. reference-grows held more r e) (w .arrays);
     }
 
 -- ---- what passed
@@ -59,10 +58,10 @@ exact-one = omega arith
 
 module _ (k : ℕ) (text : List ℕ) (f : Form) (held : List Held) (r : formOf text ≡ some f) (d : rightDigits k ≡ true) (right : right11 f ≡ true) (right′ : right12 k f ≡ true)
     (right″ : right16 held f ≡ true) where
-  told : All Told (formNames f)
+  told : Each Told (formNames f)
   told = read-told text f r right
 
-  exact : All Exact (formConstants f)
+  exact : Each Exact (formConstants f)
   exact = read-exact k text f r d right′
 
   both16 : (rightItems held (formFirst f) ≡ true) × (rightItems held (formItems f) ≡ true)
@@ -80,23 +79,23 @@ module _ (k : ℕ) (text : List ℕ) (f : Form) (held : List Held) (r : formOf t
   pub known-first : Known (appear held (formPlain f)) (formFirst f)
   known-first =
       record {
-        told = all-of _ (λ v a. all-here told (first-names f a));
-        exact = all-of _ (λ c a. all-here exact (first-constants f a));
-        plains = all-of _ (λ v a. taken v (among-left (itemsPlain (formItems f)) a));
-        arrays = all-of _ (refers (formFirst f) (both16 .0));
+        told = each-among _ (λ v a. each-here told (first-names f a));
+        exact = each-among _ (λ c a. each-here exact (first-constants f a));
+        plains = each-among _ (λ v a. taken v (among-left (itemsPlain (formItems f)) a));
+        arrays = each-among _ (refers (formFirst f) (both16 .0));
       }
 
   exact-item : (c : Digits) → Among c (formConstants f) ⊎ (c ≡ 49 ∷ []) → Exact c
-  exact-item c (inl a) = all-here exact a
+  exact-item c (inl a) = each-here exact a
   exact-item c (inr e) = subst Exact (sym e) exact-one
 
   pub known-items : Known (appear held (formPlain f)) (formItems f)
   known-items =
       record {
-        told = all-of _ (λ v a. all-here told (items-names f a));
-        exact = all-of _ (λ c a. exact-item c (items-constants f a));
-        plains = all-of _ (λ v a. taken v (among-right (itemsPlain (formFirst f)) a));
-        arrays = all-of _ (refers (formItems f) (both16 .1));
+        told = each-among _ (λ v a. each-here told (items-names f a));
+        exact = each-among _ (λ c a. exact-item c (items-constants f a));
+        plains = each-among _ (λ v a. taken v (among-right (itemsPlain (formFirst f)) a));
+        arrays = each-among _ (refers (formItems f) (both16 .1));
       }
 
   -- with what else the statement at position q brings

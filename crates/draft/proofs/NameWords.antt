@@ -8,10 +8,11 @@ use mathlib.Core.List.{List, [], _∷_, _++_}
 use lib.Dec.{eqb}
 use lib.ListN.{length, take, replicate}
 use borrow.Author.Tests.{eq-eqb, ne-eqb}
+use Rattle.rules_object.specs.Each.{Each, each-none, each-more}
+use Rattle.rules_object.proofs.EachLaws.{each-append, each-take}
 use Rattle.rules_deck.specs.Trees.{Name}
 use Rattle.rules_deck.specs.Deck.{sameName}
 use Rattle.rules_deck.specs.Translation.{filled}
-use Rattle.rules_deck.proofs.Readers.{All, all-none, all-more, all-append}
 use Rattle.rules_deck.proofs.TestLaws.{same-name}
 use Rattle.rules_deck.proofs.Names.{other-name}
 use Rattle.rules_deck.proofs.MapNames.{filled-inj}
@@ -22,28 +23,23 @@ use Rattle.draft.specs.Names.{Told}
 abbrev pub Byte : ℕ → Type 0
 Byte c = c < 256
 
-pub bytes-inj : (w x : ℕ) (s t : List ℕ) → length s ≡ length t → All Byte s → All Byte t → bytesFrom w s ≡ bytesFrom x t → (w ≡ x) × (s ≡ t)
+pub bytes-inj : (w x : ℕ) (s t : List ℕ) → length s ≡ length t → Each Byte s → Each Byte t → bytesFrom w s ≡ bytesFrom x t → (w ≡ x) × (s ≡ t)
 unfolding bytesFrom
-bytes-inj w x [] [] l all-none all-none e = (e, refl)
+bytes-inj w x [] [] l each-none each-none e = (e, refl)
 bytes-inj w x [] (d ∷ t) l a b e = absurd (omega arith)
 bytes-inj w x (c ∷ s) [] l a b e = absurd (omega arith)
-bytes-inj w x (c ∷ s) (d ∷ t) l (all-more p a) (all-more q b) e =
+bytes-inj w x (c ∷ s) (d ∷ t) l (each-more p a) (each-more q b) e =
     let h = bytes-inj (w * 256 + c) (x * 256 + d) s t (omega arith) a b e in
     let first : c ≡ d = omega (arith, h .0, p, q) in
     let rest = h .1 in
     (omega (arith, h .0, p, q), cc)
 
-all-take : {P : ℕ → Type 0} (k : ℕ) {s : List ℕ} → All P s → All P (take k s)
-all-take zero a = all-none
-all-take (suc k) all-none = all-none
-all-take (suc k) (all-more p a) = all-more p (all-take k a)
+blanks-bytes : (m : ℕ) → Each Byte (replicate m 32)
+blanks-bytes zero = each-none
+blanks-bytes (suc m) = each-more {x = 32} (omega arith) (blanks-bytes m)
 
-blanks-bytes : (m : ℕ) → All Byte (replicate m 32)
-blanks-bytes zero = all-none
-blanks-bytes (suc m) = all-more {a = 32} (omega arith) (blanks-bytes m)
-
-filled-bytes : (v : Name) → All Byte v → All Byte (filled v)
-filled-bytes v a = all-take 8 (all-append a (blanks-bytes 8))
+filled-bytes : (v : Name) → Each Byte v → Each Byte (filled v)
+filled-bytes v a = each-take 8 _ (each-append a (blanks-bytes 8))
 
 pub word-inj : (v w : Name) → Told v → Told w → nameWord v ≡ nameWord w → v ≡ w
 unfolding nameWord

@@ -11,12 +11,16 @@ use lib.ListN.{length}
 use borrow.Author.Tests.{leb-true, leb-false, le-leb, lt-leb}
 use Rattle.rules_shared.specs.Limits.{limits}
 use Rattle.rules_shared.specs.Lists.{all}
+use Rattle.rules_object.specs.Check.{isLetter, isDigit}
+use Rattle.rules_object.specs.Each.{Each, each-none, each-more}
+use Rattle.rules_object.proofs.EachLaws.{each-map}
 use Rattle.rules_deck.specs.Trees.{Name, Digits, valueOf, Form, formNames, formConstants, formExits, formLast}
-use Rattle.rules_deck.specs.Tokens.{isDigit, isLetter, isLetterOrDigit}
+use Rattle.rules_deck.specs.Tokens.{isLetterOrDigit}
 use Rattle.rules_deck.specs.Cards.{rightDigits}
 use Rattle.rules_deck.specs.Grammar.{formOf}
 use Rattle.rules_deck.specs.Judge.{startsInteger, right11, right12, right13}
-use Rattle.rules_deck.proofs.Readers.{All, all-none, all-more, all-map, IsDigits, IsName, is-name, both-true, digit-bounds, letter-bounds}
+use Rattle.rules_deck.specs.Spelling.{IsDigits, IsName, is-name}
+use Rattle.rules_deck.proofs.Readers.{both-true, digit-bounds, letter-bounds}
 use Rattle.rules_deck.proofs.ReadForms.{read-names, read-constants}
 use Rattle.rules_deck.proofs.MapNames.{NoBlank}
 use Rattle.rules_deck.proofs.Values.{ten-most, value-within}
@@ -36,19 +40,19 @@ solid-byte c e = go (isLetter c) refl e
 
 pub name-solid : {v : Name} → IsName v → NoBlank v
 name-solid (is-name {c} p ps) =
-    all-more (λ (z : c ≡ 32). omega (arith, letter-bounds c p)) (all-map (λ a e z. omega (arith, solid-byte a e)) ps)
+    each-more (λ (z : c ≡ 32). omega (arith, letter-bounds c p)) (each-map (λ a e z. omega (arith, solid-byte a e)) ps)
 
-pub name-bytes : {v : Name} → IsName v → All (λ (c : ℕ). c < 256) v
-name-bytes (is-name {c} p ps) = all-more {a = c} (omega (arith, letter-bounds c p)) (all-map (λ a e. omega (arith, solid-byte a e)) ps)
+pub name-bytes : {v : Name} → IsName v → Each (λ (c : ℕ). c < 256) v
+name-bytes (is-name {c} p ps) = each-more {x = c} (omega (arith, letter-bounds c p)) (each-map (λ a e. omega (arith, solid-byte a e)) ps)
 
-told-all : {l : List Name} → All IsName l → all (λ v. leb (length v) (limits .nameLength) && startsInteger v) l ≡ true → All Told l
-told-all all-none e = all-none
-told-all (all-more {a} {l} p ps) e =
+told-all : {l : List Name} → Each IsName l → all (λ v. leb (length v) (limits .nameLength) && startsInteger v) l ≡ true → Each Told l
+told-all each-none e = each-none
+told-all (each-more {x = a} {xs = l} p ps) e =
     let two = both-true (leb (length a) (limits .nameLength) && startsInteger a) _ e in
     let s = both-true (leb (length a) (limits .nameLength)) (startsInteger a) (two .0) in
-    all-more (record { short = leb-true (length a) (limits .nameLength) (s .0); solid = name-solid p; bytes = name-bytes p }) (told-all ps (two .1))
+    each-more (record { short = leb-true (length a) (limits .nameLength) (s .0); solid = name-solid p; bytes = name-bytes p }) (told-all ps (two .1))
 
-pub read-told : (text : List ℕ) (f : Form) → formOf text ≡ some f → right11 f ≡ true → All Told (formNames f)
+pub read-told : (text : List ℕ) (f : Form) → formOf text ≡ some f → right11 f ≡ true → Each Told (formNames f)
 unfolding right11
 read-told text f r e = told-all (read-names text f r) e
 
@@ -58,15 +62,15 @@ pub exact-capped : (c : Digits) → Exact c → capped c ≡ valueOf c
 unfolding capped
 exact-capped c e = omega arith
 
-exact-all : (k : ℕ) → k ≤ 9 → {l : List Digits} → All IsDigits l → all (λ c. leb (length c) k) l ≡ true → All Exact l
-exact-all k h all-none e = all-none
-exact-all k h (all-more {a} {l} p ps) e =
+exact-all : (k : ℕ) → k ≤ 9 → {l : List Digits} → Each IsDigits l → all (λ c. leb (length c) k) l ≡ true → Each Exact l
+exact-all k h each-none e = each-none
+exact-all k h (each-more {x = a} {xs = l} p ps) e =
     let two = both-true (leb (length a) k) _ e in
     let v = value-within k a p (leb-true (length a) k (two .0)) in
     let m = ten-most k h in
-    all-more {a = a} (omega arith) (exact-all k h ps (two .1))
+    each-more {x = a} (omega arith) (exact-all k h ps (two .1))
 
-pub read-exact : (k : ℕ) (text : List ℕ) (f : Form) → formOf text ≡ some f → rightDigits k ≡ true → right12 k f ≡ true → All Exact (formConstants f)
+pub read-exact : (k : ℕ) (text : List ℕ) (f : Form) → formOf text ≡ some f → rightDigits k ≡ true → right12 k f ≡ true → Each Exact (formConstants f)
 unfolding right12 rightDigits
 read-exact k text f r d e =
     let two = both-true (leb 1 k) (leb k (limits .digits)) d in

@@ -5,11 +5,12 @@ use Prim.Native.Nat.{ℕ, _+_}
 use mathlib.Core.Bool.{Bool, true, false, _||_, cond, false≢true}
 use mathlib.Core.List.{List, [], _∷_, _++_}
 use Rattle.rules_object.specs.Machine.{Instr}
+use Rattle.rules_object.specs.Each.{Each}
+use Rattle.rules_object.proofs.EachLaws.{each-head, each-left, each-right}
 use Rattle.rules_deck.specs.Trees.{Name, Subscript, constant, linear, Subscripts, one, two, subscriptNames, subscriptsNames, Target, cell, element, Form, assign, goTo, computed, ifs, loop, continue, stop, end, dimension}
 use Rattle.rules_deck.specs.Deck.{sameName}
 use Rattle.rules_deck.specs.Translation.{Held, name, array, hidden, size, isName, isArray, isHidden, firstCell, holds, cellOf, baseOf, limitOf, subscriptEntry, firstEntry, secondEntry, elementEntry, storeCode, formCode}
 use Rattle.rules_deck.specs.Judge.{Reference, rightCount, rightReference}
-use Rattle.rules_deck.proofs.Readers.{All, all-none, all-more}
 use Rattle.draft.specs.Parts.{Item, itemPlain, itemsPlain, itemReferences, itemsReferences, itemCode, itemsCode, targetItem, formFirst, formItems, formEnding}
 use Rattle.draft.specs.Names.{dimsHeld, Known}
 use Rattle.draft.proofs.FormParts.{form-code}
@@ -59,19 +60,6 @@ reference-array (array a ∷ held) r e = go (sameName (a .name) (r .name)) e (re
     go false i f = f i
 reference-array (hidden q ∷ held) r e = reference-array held r e
 
--- ---- lists of which each passes
-
-all-left : {A : Type 0} {P : A → Type 0} (a b : List A) → All P (a ++ b) → All P a
-all-left [] b h = all-none
-all-left (x ∷ a) b (all-more p h) = all-more p (all-left a b h)
-
-all-right : {A : Type 0} {P : A → Type 0} (a b : List A) → All P (a ++ b) → All P b
-all-right [] b h = h
-all-right (x ∷ a) b (all-more p h) = all-right a b h
-
-pub all-first : {A : Type 0} {P : A → Type 0} {x : A} {l : List A} → All P (x ∷ l) → P x
-all-first (all-more p h) = p
-
 -- ---- the code of what is known
 
 module _ (held more : List Held) where
@@ -79,32 +67,32 @@ module _ (held more : List Held) where
   later = held ++ more
 
   abbrev Plains : List Name → Type 0
-  Plains vs = All (λ (v : Name). holds (isName v) held ≡ true) vs
+  Plains vs = Each (λ (v : Name). holds (isName v) held ≡ true) vs
 
   abbrev Arrays : List Reference → Type 0
-  Arrays rs = All (λ (r : Reference). rightReference held r ≡ true) rs
+  Arrays rs = Each (λ (r : Reference). rightReference held r ≡ true) rs
 
   entry-stays : (s : Subscript) → Plains (subscriptNames s) → subscriptEntry later (dimsHeld later) s ≡ subscriptEntry held (dimsHeld held) s
   entry-stays (constant c) h = refl
-  entry-stays (linear m v a) h = rw (cell-stays held more v (all-first h))
+  entry-stays (linear m v a) h = rw (cell-stays held more v (each-head h))
 
   first-entry : (s : Subscripts) → Plains (subscriptsNames s) → firstEntry later (dimsHeld later) s ≡ firstEntry held (dimsHeld held) s
   first-entry (one s) h = entry-stays s h
-  first-entry (two s t) h = entry-stays s (all-left (subscriptNames s) (subscriptNames t) h)
+  first-entry (two s t) h = entry-stays s (each-left (subscriptNames s) (subscriptNames t) h)
 
   second-entry : (s : Subscripts) → Plains (subscriptsNames s) → secondEntry later (dimsHeld later) s ≡ secondEntry held (dimsHeld held) s
   second-entry (one s) h = refl
-  second-entry (two s t) h = entry-stays t (all-right (subscriptNames s) (subscriptNames t) h)
+  second-entry (two s t) h = entry-stays t (each-right (subscriptNames s) (subscriptNames t) h)
 
   element-stays : (v : Name) (s : Subscripts) → Plains (subscriptsNames s) → Arrays (record { name = v; subscripts = s } ∷ [])
       → elementEntry later (dimsHeld later) v s ≡ elementEntry held (dimsHeld held) v s
   element-stays v s h a =
-      let i = reference-array held (record { name = v; subscripts = s }) (all-first a) in
+      let i = reference-array held (record { name = v; subscripts = s }) (each-head a) in
       rw (base-stays held more v i, dims-stay held more v i, first-entry s h, second-entry s h)
 
   item-stays : (i : Item) → Plains (itemPlain i) → Arrays (itemReferences i) → itemCode later (dimsHeld later) i ≡ itemCode held (dimsHeld held) i
   item-stays (Item.value c) h a = refl
-  item-stays (Item.plain v) h a = rw (cell-stays held more v (all-first h))
+  item-stays (Item.plain v) h a = rw (cell-stays held more v (each-head h))
   item-stays (Item.place v s) h a = rw (element-stays v s h a)
   item-stays Item.negate h a = refl
   item-stays (Item.apply o) h a = refl
@@ -113,21 +101,21 @@ module _ (held more : List Held) where
   items-plain [] h a = refl
   items-plain (i ∷ is) h a =
       rw (
-        item-stays i (all-left (itemPlain i) (itemsPlain is) h) (all-left (itemReferences i) (itemsReferences is) a),
-        items-plain is (all-right (itemPlain i) (itemsPlain is) h) (all-right (itemReferences i) (itemsReferences is) a),
+        item-stays i (each-left (itemPlain i) (itemsPlain is) h) (each-left (itemReferences i) (itemsReferences is) a),
+        items-plain is (each-right (itemPlain i) (itemsPlain is) h) (each-right (itemReferences i) (itemsReferences is) a),
       )
 
   pub items-stay : (is : List Item) → Known held is → itemsCode later (dimsHeld later) is ≡ itemsCode held (dimsHeld held) is
   items-stay is w = items-plain is (w .plains) (w .arrays)
 
   store-stays : (t : Target) → Known held (targetItem t ∷ []) → storeCode later (dimsHeld later) t ≡ storeCode held (dimsHeld held) t
-  store-stays (cell v) w = rw (cell-stays held more v (all-first (w .plains)))
-  store-stays (element v s) w = rw (element-stays v s (all-left (subscriptsNames s) [] (w .plains)) (w .arrays))
+  store-stays (cell v) w = rw (cell-stays held more v (each-head (w .plains)))
+  store-stays (element v s) w = rw (element-stays v s (each-left (subscriptsNames s) [] (w .plains)) (w .arrays))
 
   pub ending-stays : (entry : Instr) (f : Form) → Known held (formFirst f) → formEnding later (dimsHeld later) entry f ≡ formEnding held (dimsHeld held) entry f
   ending-stays entry (assign t e) w = rw (store-stays t w)
   ending-stays entry (goTo n) w = refl
-  ending-stays entry (computed ns v) w = rw (cell-stays held more v (all-first (w .plains)))
+  ending-stays entry (computed ns v) w = rw (cell-stays held more v (each-head (w .plains)))
   ending-stays entry (ifs e a b c) w = refl
   ending-stays entry (loop n v p q r) w = refl
   ending-stays entry continue w = refl

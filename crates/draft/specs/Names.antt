@@ -7,11 +7,11 @@ use mathlib.Core.Bool.{Bool, true, _&&_}
 use lib.Dec.{leb}
 use lib.ListN.{length, take}
 use Rattle.rules_shared.specs.Limits.{limits}
+use Rattle.rules_object.specs.Each.{Each}
 use Rattle.rules_deck.specs.Trees.{Name, Digits, valueOf}
 use Rattle.rules_deck.specs.Deck.{Dims, Declared, dimsIn}
 use Rattle.rules_deck.specs.Translation.{Held, name, array, hidden, arraySize, cellCount, isName, holds}
 use Rattle.rules_deck.specs.Judge.{nameCount, Reference, rightReference}
-use Rattle.rules_deck.proofs.Readers.{All}
 use Rattle.rules_deck.specs.Cells.{namesHeld, arraysHeld}
 use Rattle.tokens.specs.Words.{nameWord}
 use Rattle.draft.specs.Parts.{Item, itemsNames, itemsConstants, itemsPlain, itemsReferences}
@@ -31,7 +31,7 @@ dimsHeld held v = dimsIn (arraysHeld held) v
 pub record Told (v : Name) : Type 0 where
   pub short : length v ≤ limits .nameLength
   pub solid : All (λ (c : ℕ). c ≡ 32 → ⊥) v
-  pub bytes : All (λ (c : ℕ). c < 256) v
+  pub bytes : Each (λ (c : ℕ). c < 256) v
 
 -- its value is the one that the reader gives
 abbrev pub Exact : Digits → Type 0
@@ -48,8 +48,8 @@ pub record Lists (held : List Held) (table : List ℕ) (names cells : ℕ) : Typ
   pub cells-are : cells ≡ cellCount held
   pub names-fit : names ≤ limits .names
   pub cells-fit : cells ≤ limits .cells
-  pub told : All Told (namesHeld held)
-  pub rows : All SomeRows (arraysHeld held)
+  pub told : Each Told (namesHeld held)
+  pub rows : Each SomeRows (arraysHeld held)
 
 -- names and cells within their limits
 abbrev pub namesFit : List Held → Bool
@@ -57,7 +57,7 @@ namesFit held = leb (nameCount held) (limits .names) && leb (cellCount held) (li
 
 -- every operand has its cells in the table
 pub record Known (held : List Held) (is : List Item) : Type 0 where
-  pub told : All Told (itemsNames is)
-  pub exact : All Exact (itemsConstants is)
-  pub plains : All (λ (v : Name). holds (isName v) held ≡ true) (itemsPlain is)
-  pub arrays : All (λ (r : Reference). rightReference held r ≡ true) (itemsReferences is)
+  pub told : Each Told (itemsNames is)
+  pub exact : Each Exact (itemsConstants is)
+  pub plains : Each (λ (v : Name). holds (isName v) held ≡ true) (itemsPlain is)
+  pub arrays : Each (λ (r : Reference). rightReference held r ≡ true) (itemsReferences is)

@@ -9,17 +9,19 @@ use native.Mathlib.Omega.{arith}
 use lib.ListN.{length, take, length-take}
 use lib.Seq.{length-sets}
 use Rattle.rules_shared.specs.Refusals.{refusal}
+use Rattle.rules_object.specs.Each.{Each}
+use Rattle.rules_object.proofs.EachLaws.{each-head}
 use Rattle.rules_deck.specs.Trees.{Form, assign, goTo, computed, ifs, loop, continue, stop, end, dimension}
 use Rattle.rules_deck.specs.Trees as trees
 use Rattle.rules_deck.specs.Cards.{cardsOf, textOf}
 use Rattle.rules_deck.specs.Grammar.{formOf}
 use Rattle.rules_deck.specs.Judge.{Taken, takes, judgeForm}
 use Rattle.rules_deck.specs.Compile.{Read, notRead, readText, afterReading, afterJudging}
-use Rattle.rules_deck.proofs.CardsLaws.{Each, RightStatement}
+use Rattle.rules_deck.proofs.CardsLaws.{RightStatement}
 use Rattle.cards.specs.declared.Number.{Number}
 use Rattle.texts.specs.Taking.{Accepted, over}
 use Rattle.texts.proofs.Onward.{Onward}
-use Rattle.texts.proofs.StatementLaws.{each-from, each-first, all-right}
+use Rattle.texts.proofs.StatementLaws.{each-from, all-right}
 use Rattle.forms.specs.declared.Statement.{Statement}
 use Rattle.forms.specs.Statements.{statementOf, answer, words, formWords, Reads}
 use Rattle.reader.specs.Which.{isForm}
@@ -159,7 +161,7 @@ module _ (k : ℕ) {deck : List ℕ} {card : ℕ} {text text′ : List ℕ} {num
       (subst (Judged k (n .statements) (record { number = number .0; form = f .0 }) t D names constants elements dos loops code rows jumps) e (comes (reading-of b (take (len - 0) text′) (f .0) (f .1) h part-short) t matches fresh)))
 
   pub small-number : Accepted deck → number .0 ≤ 99999
-  small-number a = omega (arith, each-first (subst (Each RightStatement) (o .others) (each-from card (cardsOf deck) (all-right deck a))) .number-small, o .number-is)
+  small-number a = omega (arith, each-head (subst (Each RightStatement) (o .others) (each-from card (cardsOf deck) (all-right deck a))) .number-small, o .number-is)
 
   -- the text stays as long as it is
   pub text-long : length text ≡ 660 → length text′ ≡ 660

@@ -9,11 +9,11 @@ use lib.Dec.{leb}
 use lib.ListN.{length}
 use borrow.Author.Tests.{leb-true}
 use Rattle.rules_shared.specs.Refusals.{refusal}
+use Rattle.rules_object.specs.Each.{each-none}
 use Rattle.rules_deck.specs.Cards.{Punched, cardsOf, textOf, rightDigits, counted, Carded, cardsRefused, statements, carded}
 use Rattle.rules_deck.specs.Judge.{Taken, nothingTaken}
 use Rattle.rules_deck.specs.Compile.{Read, notRead, readText, readFrom}
 use Rattle.rules_deck.proofs.CardsLaws.{statements-few}
-use Rattle.rules_deck.proofs.Readers.{all-none}
 use Rattle.texts.proofs.Onward.{from-start}
 use Rattle.draft.specs.declared.Counts.{Counts}
 use Rattle.draft.specs.Draft.{Draft, noDraft, draftOf}
@@ -68,7 +68,7 @@ fit-none =
 kept-none : (names constants elements dos loops code rows jumps : List ℕ) → Kept noDraft names constants elements dos loops code rows jumps noCounts
 kept-none names constants elements dos loops code rows jumps =
     record {
-      held = record { words = refl; names-are = refl; cells-are = refl; names-fit = omega arith; cells-fit = omega arith; told = all-none; rows = all-none };
+      held = record { words = refl; names-are = refl; cells-are = refl; names-fit = omega arith; cells-fit = omega arith; told = each-none; rows = each-none };
       tables = record { constants-are = refl; constants-count = refl; elements-are = refl; elements-count = refl; exits-count = refl };
       dos-are = refl;
       dos-count = refl;

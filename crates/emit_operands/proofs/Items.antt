@@ -4,12 +4,12 @@ use mathlib.Core.Path.{_≡_, refl, sym, ap, _∙_, subst}
 use Prim.Native.Nat.{ℕ, _+_, _%_, _^_, _≤_, _<_}
 use native.Mathlib.Omega.{arith}
 use native.Mathlib.Nat.{mod-eq-of-lt}
-use mathlib.Core.List.{List, _∷_, _++_}
+use mathlib.Core.List.{List, _++_}
 use lib.ListN.{length, getD}
 use Rattle.number.specs.Number.{add, sub, mul, div}
 use Rattle.rules_object.specs.Machine.{LDE, OP, NEG}
+use Rattle.rules_object.proofs.EachLaws.{each-head}
 use Rattle.rules_deck.specs.Translation.{elementEntry}
-use Rattle.rules_deck.proofs.Readers.{All, all-more}
 use Rattle.elements.specs.declared.Subscript.{Subscript}
 use Rattle.elements.specs.declared.Element.{Element}
 use Rattle.draft.specs.declared.Counts.{Counts}
@@ -71,12 +71,9 @@ element-is {items} {a} {b} p q v s more e =
 kind-is : {x : ℕ} (y k : ℕ) → x ≡ y % 2 ^ 32 → y ≡ k → k < 256 → x ≡ k
 kind-is y k e q h = let s : y < 4294967296 = omega (arith, q, h) in e ∙ mod-eq-of-lt s ∙ q
 
-first-of : {A : Type 0} {P : A → Type 0} {a : A} {l : List A} → All P (a ∷ l) → P a
-first-of (all-more p q) = p
-
 module _ {items names constants elements ws ws′ : List ℕ} {n : Counts} {r : Emitted} where
   pub item-constant : {constants′ : List ℕ} → getD items 0 0 ≡ 1 → EmitsConstant (getD items 1 0) constants ws constants′ ws′ n r → EmitsItem items names constants elements ws constants′ elements ws′ n r
-  item-constant z f held (value c) more T l t e k = f c T elements t (ap (λ (x : List ℕ). getD x 1 0) e) (first-of (k .exact))
+  item-constant z f held (value c) more T l t e k = f c T elements t (ap (λ (x : List ℕ). getD x 1 0) e) (each-head (k .exact))
   item-constant z f held (plain v) more T l t e k = absurd (let q : getD items 0 0 ≡ 2 = ap (λ (x : List ℕ). getD x 0 0) e in omega (arith, q, z))
   item-constant z f held (place v s) more T l t e k = absurd (let q : getD items 0 0 ≡ 4 = ap (λ (x : List ℕ). getD x 0 0) e in omega (arith, q, z))
   item-constant z f held negate more T l t e k = absurd (let q : getD items 0 0 ≡ 10 = ap (λ (x : List ℕ). getD x 0 0) e in omega (arith, q, z))
@@ -87,7 +84,7 @@ module _ {items names constants elements ws ws′ : List ℕ} {n : Counts} {r : 
 
   pub item-name : getD items 0 0 ≡ 2 → EmitsLoad (getD items 1 0) names ws ws′ n r → EmitsItem items names constants elements ws constants elements ws′ n r
   item-name z f held (value c) more T l t e k = absurd (let q : getD items 0 0 ≡ 1 = ap (λ (x : List ℕ). getD x 0 0) e in omega (arith, q, z))
-  item-name z f held (plain v) more T l t e k = f held v T constants elements l t (ap (λ (x : List ℕ). getD x 1 0) e) (first-of (k .told)) (first-of (k .plains))
+  item-name z f held (plain v) more T l t e k = f held v T constants elements l t (ap (λ (x : List ℕ). getD x 1 0) e) (each-head (k .told)) (each-head (k .plains))
   item-name z f held (place v s) more T l t e k = absurd (let q : getD items 0 0 ≡ 4 = ap (λ (x : List ℕ). getD x 0 0) e in omega (arith, q, z))
   item-name z f held negate more T l t e k = absurd (let q : getD items 0 0 ≡ 10 = ap (λ (x : List ℕ). getD x 0 0) e in omega (arith, q, z))
   item-name z f held (apply add) more T l t e k = absurd (let q : getD items 0 0 ≡ 6 = ap (λ (x : List ℕ). getD x 0 0) e in omega (arith, q, z))

@@ -6,17 +6,14 @@ use native.Mathlib.Omega.{arith}
 use native.Mathlib.Nat.{mod-eq-of-lt}
 use mathlib.Core.List.{List, [], _∷_, _++_, map, append-assoc, append-nil}
 use lib.ListN.{length, take, length-append}
-use Rattle.rules_object.specs.Object as object
 use Rattle.rules_object.specs.Machine.{CON, LOD, STO, STE}
 use Rattle.rules_object.specs.Bytes.{concat, elementWords}
+use Rattle.rules_object.proofs.EachLaws.{each-head, each-both}
 use Rattle.rules_deck.specs.Trees.{Digits, valueOf}
-use Rattle.rules_deck.specs.Trees as trees
 use Rattle.rules_deck.specs.Translation.{Held, cellOf, elementEntry, Tables, pool, poolAt, tablesAfter}
-use Rattle.rules_deck.proofs.Readers.{All, all-more}
 use Rattle.tokens.specs.Words.{capped, nameWord}
 use Rattle.elements.specs.declared.Element.{Element}
 use Rattle.elements.specs.declared.Target.{Target}
-use Rattle.elements.specs.declared.Target.the-variants as target
 use Rattle.elements.specs.Values.{subscriptsValue, targetValue}
 use Rattle.draft.specs.declared.Counts.{Counts}
 use Rattle.draft.specs.Parts.{Item, place, itemNames, itemConstants, itemPlain, itemReferences}
@@ -24,17 +21,19 @@ use Rattle.draft.specs.Names.{dimsHeld, Exact, Known}
 use Rattle.draft.specs.Kept.{Tabled, Fit}
 use Rattle.names.specs.Lookups.{CellOf}
 use Rattle.entries.specs.declared.Pooled.{Pooled}
-use Rattle.entries.specs.declared.Pooled.the-variants as pooled
 use Rattle.entries.specs.Pooling.{PooledAt, Pools}
 use Rattle.entries.specs.Places.{KnownItem, PutsElement}
-use Rattle.entries.proofs.Entered.{all-both}
 use Rattle.emission.specs.declared.Emitted.{Emitted}
-use Rattle.emission.specs.declared.Emitted.the-variants as emitted
 use Rattle.emission.specs.Emits.{Grows, Appends}
 use Rattle.emit_operands.specs.Operands.{EmitsConstant, EmitsRefer, EmitsStore, EmitsLoad}
 use Rattle.emission.proofs.Fits.{constants-over, elements-over}
 use Rattle.emission.proofs.Both.{no-room}
 use Rattle.emission.proofs.One.{Between, itself, grows, one, no-counts}
+use Rattle.rules_object.specs.Object as object
+use Rattle.rules_deck.specs.Trees as trees
+use Rattle.elements.specs.declared.Target.the-variants as target
+use Rattle.entries.specs.declared.Pooled.the-variants as pooled
+use Rattle.emission.specs.declared.Emitted.the-variants as emitted
 
 -- ---- plain names
 
@@ -184,25 +183,22 @@ module _ (n : Counts) where
 
 -- ---- targets
 
-first-of : {A : Type 0} {P : A → Type 0} {a : A} {l : List A} → All P (a ∷ l) → P a
-first-of (all-more p q) = p
-
 pub known-first : {held : List Held} {i : Item} {is : List Item} → Known held (i ∷ is) → KnownItem held i
 known-first {held} {i} k =
     record {
-      told = all-both (itemNames i) (k .told) .0;
-      exact = all-both (itemConstants i) (k .exact) .0;
-      plains = all-both (itemPlain i) (k .plains) .0;
-      arrays = all-both (itemReferences i) (k .arrays) .0;
+      told = each-both (itemNames i) (k .told) .0;
+      exact = each-both (itemConstants i) (k .exact) .0;
+      plains = each-both (itemPlain i) (k .plains) .0;
+      arrays = each-both (itemReferences i) (k .arrays) .0;
     }
 
 pub known-rest : {held : List Held} {i : Item} {is : List Item} → Known held (i ∷ is) → Known held is
 known-rest {held} {i} k =
     record {
-      told = all-both (itemNames i) (k .told) .1;
-      exact = all-both (itemConstants i) (k .exact) .1;
-      plains = all-both (itemPlain i) (k .plains) .1;
-      arrays = all-both (itemReferences i) (k .arrays) .1;
+      told = each-both (itemNames i) (k .told) .1;
+      exact = each-both (itemConstants i) (k .exact) .1;
+      plains = each-both (itemPlain i) (k .plains) .1;
+      arrays = each-both (itemReferences i) (k .arrays) .1;
     }
 
 module _ {n : Counts} {names ws ws′ a : List ℕ} {x : Target} {r : Emitted} where
@@ -213,7 +209,7 @@ module _ {n : Counts} {names ws ws′ a : List ℕ} {x : Target} {r : Emitted} w
       emits : EmitsStore x names a ws a ws′ n r
       emits held (trees.cell v) T c l t q k =
           let same : word ≡ nameWord v = cc in
-          one (itself n) f p T (STO (cellOf held v)) t refl (g .is held (n .cells) v l (first-of (k .told)) same (first-of (k .plains))) (omega (arith, g .low))
+          one (itself n) f p T (STO (cellOf held v)) t refl (g .is held (n .cells) v l (each-head (k .told)) same (each-head (k .plains))) (omega (arith, g .low))
       emits held (trees.element v s) T c l t q k = let no : _≡_ {A = ℕ} 0 1 = cc in absurd (omega arith)
 
   pub stored-element : {b : List ℕ} {e : Element} → x ≡ target.Element e → Grows 0 n r × EmitsRefer 5 e names a ws b ws′ n r → Grows 0 n r × EmitsStore x names a ws b ws′ n r

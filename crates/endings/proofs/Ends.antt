@@ -9,10 +9,11 @@ use lib.Dec.{leb, eqb}
 use lib.ListN.{length, length-map}
 use borrow.Author.Tests.{eq-eqb, ne-eqb, leb-true}
 use Rattle.rules_object.specs.Machine.{Instr, LOD, BRC, DOI}
+use Rattle.rules_object.proofs.EachLaws.{each-head}
 use Rattle.rules_deck.specs.Trees.{Name, Digits, valueOf, Form, goTo, computed, formExits, formLast}
 use Rattle.rules_deck.specs.Translation.{Held, isName, holds, cellOf, Tables}
 use Rattle.rules_deck.specs.Judge.{right13}
-use Rattle.rules_deck.proofs.Readers.{All, all-more, both-true}
+use Rattle.rules_deck.proofs.Readers.{both-true}
 use Rattle.tokens.specs.Words.{capped, nameWord}
 use Rattle.draft.specs.declared.Counts.{Counts}
 use Rattle.draft.specs.Parts.{Item, formFirst, formEnding}
@@ -105,11 +106,8 @@ module _ {p : Plan} {names elements words words′ : List ℕ} {n : Counts} {r :
 
 -- ---- a computed GO TO
 
-only : {P : Name → Type 0} {v : Name} → All P (v ∷ []) → P v
-only (all-more p a) = p
-
 plain-told : {held : List Held} {v : Name} → Known held (Item.plain v ∷ []) → Told v × (holds (isName v) held ≡ true)
-plain-told {held} {v} h = (only {P = Told} (h .told), only {P = λ (w : Name). holds (isName w) held ≡ true} (h .plains))
+plain-told {held} {v} h = (each-head {P = Told} (h .told), each-head {P = λ (w : Name). holds (isName w) held ≡ true} (h .plains))
 
 name-is : {p : Plan} (ns : List Digits) (v : Name) → p ≡ formPlan (computed ns v) → cellWord (p .target) ≡ nameWord v
 unfolding formPlan cellWord

@@ -9,12 +9,13 @@ use mathlib.Core.Option.{Option, none, some}
 use lib.ListN.{take}
 use lib.IntN.{pos, negℤ}
 use Rattle.rules_object.specs.Bytes.{signedWord}
+use Rattle.rules_object.specs.Each.{Each}
+use Rattle.rules_object.proofs.EachLaws.{each-head, each-tail, each-both}
 use Rattle.rules_deck.specs.Trees.{Name, Digits, valueOf, optional, Addend, nothing, plus, minus, constant, linear, one, two, addendConstants, subscriptNames, subscriptConstants, subscriptsNames, subscriptsConstants}
 use Rattle.rules_deck.specs.Trees as trees
 use Rattle.rules_deck.specs.Deck.{Dims, width}
 use Rattle.rules_deck.specs.Meaning.{times, addend}
 use Rattle.rules_deck.specs.Translation.{Held, baseOf, firstEntry}
-use Rattle.rules_deck.proofs.Readers.{All, all-none, all-more}
 use Rattle.tokens.specs.Words.{capped}
 use Rattle.elements.specs.declared.Subscript.{Subscript}
 use Rattle.elements.specs.declared.Subscripts.{Subscripts}
@@ -28,18 +29,6 @@ use Rattle.draft.proofs.NameWords.{some-word}
 use Rattle.entries.specs.declared.Linear.{Linear}
 use Rattle.entries.specs.Places.{linearWords, entryWords, Signed, Clear, subscriptWords, LinearOf, SecondOf, PutsElement}
 
--- ---- All, taken apart
-
-all-first : {A : Type 0} {P : A → Type 0} {a : A} {l : List A} → All P (a ∷ l) → P a
-all-first (all-more p q) = p
-
-all-rest : {A : Type 0} {P : A → Type 0} {a : A} {l : List A} → All P (a ∷ l) → All P l
-all-rest (all-more p q) = q
-
-pub all-both : {A : Type 0} {P : A → Type 0} (l : List A) {m : List A} → All P (l ++ m) → All P l × All P m
-all-both [] h = (all-none, h)
-all-both (a ∷ l) (all-more p q) = let r = all-both l q in (all-more p (r .0), r .1)
-
 -- ---- numbers
 
 exact : (c : Digits) → Exact c → capped c ≡ valueOf c
@@ -50,18 +39,18 @@ three : {a b c d e f : ℕ} → a ≡ d → b ≡ e → c ≡ f → _≡_ {A = L
 three {a} {b} {c} {d} {e} {f} p q r =
     ap (λ (x : ℕ). x ∷ b ∷ c ∷ []) p ∙ ap (λ (x : ℕ). d ∷ x ∷ c ∷ []) q ∙ ap (λ (x : ℕ). d ∷ e ∷ x ∷ []) r
 
-times-are : (m : Option Digits) → All Exact (optional m) → timesOf m % 2 ^ 32 ≡ times m
+times-are : (m : Option Digits) → Each Exact (optional m) → timesOf m % 2 ^ 32 ≡ times m
 unfolding timesOf
 times-are none h = refl
-times-are (some c) h = let e = exact c (all-first h) in ap (λ (x : ℕ). x % 2 ^ 32) e ∙ mod-eq-of-lt (let k : valueOf c < 1000000000 = all-first h in omega (arith, k))
+times-are (some c) h = let e = exact c (each-head h) in ap (λ (x : ℕ). x % 2 ^ 32) e ∙ mod-eq-of-lt (let k : valueOf c < 1000000000 = each-head h in omega (arith, k))
 
-addend-is : (a : Addend) {r : ℕ} → All Exact (addendConstants a) → Signed (addendValue a .minus) (addendValue a .value) r → r ≡ signedWord (addend a)
+addend-is : (a : Addend) {r : ℕ} → Each Exact (addendConstants a) → Signed (addendValue a .minus) (addendValue a .value) r → r ≡ signedWord (addend a)
 unfolding addendValue signedWord
 addend-is nothing h s = s .plus refl (omega arith)
-addend-is (plus c) h s = let k : valueOf c < 1000000000 = all-first h in let e = exact c (all-first h) in s .plus refl (omega (arith, k, e)) ∙ e
+addend-is (plus c) h s = let k : valueOf c < 1000000000 = each-head h in let e = exact c (each-head h) in s .plus refl (omega (arith, k, e)) ∙ e
 addend-is (minus c) h s =
-    let k : valueOf c < 1000000000 = all-first h in
-    let e = exact c (all-first h) in
+    let k : valueOf c < 1000000000 = each-head h in
+    let e = exact c (each-head h) in
     s .less refl (omega (arith, k, e)) ∙ ap (λ (x : ℕ). signedWord (negℤ (pos x))) e
 
 word : (w : ℕ) → w ≡ signedWord (pos w)
@@ -74,20 +63,20 @@ module _ (table : List ℕ) (count : ℕ) {s : Subscript} {times plus : ℕ} (t 
   pub of-constant : s .name ≡ 0 → LinearOf table count s (record { times = times; cell = 0; plus = plus })
   unfolding subscriptValue
   of-constant z held cells dims (constant c) l e k =
-      let x = exact c (all-first (k .exact)) in
-      let y : valueOf c < 1000000000 = all-first (k .exact) in
+      let x = exact c (each-head (k .exact)) in
+      let y : valueOf c < 1000000000 = each-head (k .exact) in
       let a : s .addend ≡ capped c = ap (λ (x : Subscript). x .addend) e in
       let n : s .minus ≡ 0 = ap (λ (x : Subscript). x .minus) e in
       three (t ∙ ap (λ (x : Subscript). x .times % 2 ^ 32) e) refl (g .plus n (omega (arith, x, y, a)) ∙ a ∙ x ∙ word (valueOf c))
-  of-constant z held cells dims (linear m v a) l e k = absurd (some-word v (all-first (k .told)) (sym (ap (λ (x : Subscript). x .name) e) ∙ z))
+  of-constant z held cells dims (linear m v a) l e k = absurd (some-word v (each-head (k .told)) (sym (ap (λ (x : Subscript). x .name) e) ∙ z))
 
   pub of-name : {r : ℕ} → (s .name ≡ 0 → ⊥) → CellOf table count (s .name) r → LinearOf table count s (record { times = times; cell = r; plus = plus })
   unfolding subscriptValue
   of-name z f held cells dims (constant c) l e k = absurd (z (ap (λ (x : Subscript). x .name) e))
   of-name {r} z f held cells dims (linear m v a) l e k =
-      let b = all-both (optional m) (k .exact) in
+      let b = each-both (optional m) (k .exact) in
       three (t ∙ ap (λ (x : Subscript). x .times % 2 ^ 32) e ∙ times-are m (b .0))
-      (f .is held cells v l (all-first (k .told)) (ap (λ (x : Subscript). x .name) e) (all-first (k .plains)))
+      (f .is held cells v l (each-head (k .told)) (ap (λ (x : Subscript). x .name) e) (each-head (k .plains)))
       (addend-is a (b .1) (subst (λ (x : Subscript). Signed (x .minus) (x .addend) plus) e g))
 
 -- ---- the second
@@ -105,9 +94,9 @@ module _ (table : List ℕ) (count : ℕ) {p : Subscripts} where
   of-second z f held cells dims (two s t) l e k =
       f held cells dims t l (ap (λ (x : Subscripts). x .second) e)
       (record {
-        told = all-both (subscriptNames s) (k .told) .1;
-        exact = all-both (subscriptConstants s) (k .exact) .1;
-        plains = all-both (subscriptNames s) (k .plains) .1;
+        told = each-both (subscriptNames s) (k .told) .1;
+        exact = each-both (subscriptConstants s) (k .exact) .1;
+        plains = each-both (subscriptNames s) (k .plains) .1;
       })
 
 pub width-none : (c : ℕ) → c ≡ 0 → 1 ≡ width c
@@ -128,9 +117,9 @@ first-is table count held cells dims (one s) f l e k = f held cells dims s l (ap
 first-is table count held cells dims (two s t) f l e k =
     f held cells dims s l (ap (λ (y : Subscripts). y .first) e)
     (record {
-      told = all-both (subscriptNames s) (k .told) .0;
-      exact = all-both (subscriptConstants s) (k .exact) .0;
-      plains = all-both (subscriptNames s) (k .plains) .0;
+      told = each-both (subscriptNames s) (k .told) .0;
+      exact = each-both (subscriptConstants s) (k .exact) .0;
+      plains = each-both (subscriptNames s) (k .plains) .0;
     })
 
 module _ (table : List ℕ) (count n : ℕ) {x : Element} {array : Entry} {columns : ℕ} {first second : Linear} where
@@ -138,9 +127,9 @@ module _ (table : List ℕ) (count n : ℕ) {x : Element} {array : Entry} {colum
       → SecondOf table count (x .subscripts) second → Put a b (9 * n) (entryWords (array .first) (array .rows) columns first second) top
       → PutsElement table count x a b n
   entered {a} {b} {top} f w g h p held cells v s l e k =
-      let st = f .is held cells (record { name = v; subscripts = s }) l (all-first (k .told)) (ap (λ (y : Element). y .name) e) (all-first (k .arrays)) in
+      let st = f .is held cells (record { name = v; subscripts = s }) l (each-head (k .told)) (ap (λ (y : Element). y .name) e) (each-head (k .arrays)) in
       let se : x .subscripts ≡ subscriptsValue s = ap (λ (y : Element). y .subscripts) e in
-      let cl : Clear held (subscriptsNames s) (subscriptsConstants s) = record { told = all-rest (k .told); exact = k .exact; plains = k .plains } in
+      let cl : Clear held (subscriptsNames s) (subscriptsConstants s) = record { told = each-tail (k .told); exact = k .exact; plains = k .plains } in
       let dims = dimsHeld held in
       let c : columns ≡ width (dims v .columns) = w ∙ ap width (st .columns-are) in
       let one = three (st .first-is) (st .rows-are) c in

@@ -9,12 +9,12 @@ use lib.IntN.{pos, negℤ}
 use lib.ListN.{take}
 use Rattle.rules_object.specs.Bytes.{signedWord, elementWords}
 use Rattle.rules_object.specs.Object as object
+use Rattle.rules_object.specs.Each.{Each}
 use Rattle.rules_deck.specs.Trees.{Name, subscriptNames, subscriptConstants, subscriptsNames, subscriptsConstants}
 use Rattle.rules_deck.specs.Trees as trees
 use Rattle.rules_deck.specs.Deck.{Dims}
 use Rattle.rules_deck.specs.Translation.{Held, isName, holds, subscriptEntry, secondEntry, elementEntry}
 use Rattle.rules_deck.specs.Judge.{Reference, rightReference}
-use Rattle.rules_deck.proofs.Readers.{All}
 use Rattle.tokens.specs.Words.{nameWord}
 use Rattle.elements.specs.declared.Subscript.{Subscript}
 use Rattle.elements.specs.declared.Subscripts.{Subscripts}
@@ -39,16 +39,16 @@ pub record Signed (minus value r : ℕ) : Type 0 where
 
 -- one operand has its cells
 pub record KnownItem (held : List Held) (i : Item) : Type 0 where
-  pub told : All Told (itemNames i)
-  pub exact : All Exact (itemConstants i)
-  pub plains : All (λ (v : Name). holds (isName v) held ≡ true) (itemPlain i)
-  pub arrays : All (λ (r : Reference). rightReference held r ≡ true) (itemReferences i)
+  pub told : Each Told (itemNames i)
+  pub exact : Each Exact (itemConstants i)
+  pub plains : Each (λ (v : Name). holds (isName v) held ≡ true) (itemPlain i)
+  pub arrays : Each (λ (r : Reference). rightReference held r ≡ true) (itemReferences i)
 
 -- a subscript's names and constants
 pub record Clear (held : List Held) (names : List Name) (constants : List trees.Digits) : Type 0 where
-  pub told : All Told names
-  pub exact : All Exact constants
-  pub plains : All (λ (v : Name). holds (isName v) held ≡ true) names
+  pub told : Each Told names
+  pub exact : Each Exact constants
+  pub plains : Each (λ (v : Name). holds (isName v) held ≡ true) names
 
 abbrev pub subscriptWords : object.Subscript → List ℕ
 subscriptWords s = s .times ∷ s .cell ∷ signedWord (s .plus) ∷ []

@@ -9,10 +9,11 @@ use lib.Dec.{eqb, leb, ltb}
 use lib.ListN.{length, getD, drop, length-drop}
 use borrow.Author.Tests.{ne-eqb, le-ltb, lt-ltb}
 use Rattle.rules_shared.specs.Lists.{all}
+use Rattle.rules_object.specs.Each.{Each, each-more}
+use Rattle.rules_object.proofs.EachLaws.{each-both}
 use Rattle.rules_deck.specs.Trees.{Name, Subscript, constant, linear, Subscripts, one, two, subscriptNames, subscriptsNames}
 use Rattle.rules_deck.specs.Translation.{Held, isArray, holds}
 use Rattle.rules_deck.specs.Judge.{rightCount, rightReference}
-use Rattle.rules_deck.proofs.Readers.{All, all-more}
 use Rattle.tokens.specs.Words.{nameWord}
 use Rattle.elements.specs.Values.{subscriptValue, subscriptsValue}
 use Rattle.draft.specs.Parts.{Item, value, plain, place, negate, apply, itemWords, itemsWords, itemNames, itemsNames, itemPlain, itemsPlain, itemReferences, itemsReferences, rightItems, Worded}
@@ -63,29 +64,29 @@ module _ {held : List Held} {t : List ℕ} {n cells : ℕ} (l : Lists held t n c
       let columns : getD t (4 * i + 3) 0 ≡ dimsHeld held v .columns = ap (λ (j : ℕ). getD t (4 * j + 3) 0) e ∙ sp .columns-are here in
       reference-count held (record { name = v; subscripts = s }) here ∙ sym (count-as s (getD t (4 * i + 3) 0) v columns)
 
-  subscript-is : (x : Subscript) (word : ℕ) (r : Bool) → word ≡ subscriptValue x .name → Holds t n word true r → All Told (subscriptNames x)
+  subscript-is : (x : Subscript) (word : ℕ) (r : Bool) → word ≡ subscriptValue x .name → Holds t n word true r → Each Told (subscriptNames x)
       → not r ≡ all (bare held) (subscriptNames x)
   unfolding subscriptValue
   subscript-is (constant c) word r e h a = ap not (h .none held cells l e)
-  subscript-is (linear m v a) word r e h (all-more tv none) = ap not (h .is held cells v l tv e) ∙ sym (and-true (not (holds (isArray v) held)) true refl)
+  subscript-is (linear m v a) word r e h (each-more tv none) = ap not (h .is held cells v l tv e) ∙ sym (and-true (not (holds (isArray v) held)) true refl)
 
   pub subscripts-are : (s : Subscripts) (w₁ w₂ : ℕ) (r₁ r₂ : Bool) → w₁ ≡ subscriptsValue s .first .name → w₂ ≡ subscriptsValue s .second .name
-      → Holds t n w₁ true r₁ → Holds t n w₂ true r₂ → All Told (subscriptsNames s) → all (bare held) (subscriptsNames s) ≡ not r₁ && not r₂
+      → Holds t n w₁ true r₁ → Holds t n w₂ true r₂ → Each Told (subscriptsNames s) → all (bare held) (subscriptsNames s) ≡ not r₁ && not r₂
   unfolding subscriptsValue
   subscripts-are (one x) w₁ w₂ r₁ r₂ e₁ e₂ h₁ h₂ a =
       sym (subscript-is x w₁ r₁ e₁ h₁ a) ∙ sym (and-true (not r₁) true refl) ∙ ap (λ (b : Bool). not r₁ && not b) (sym (h₂ .none held cells l e₂))
   subscripts-are (two x y) w₁ w₂ r₁ r₂ e₁ e₂ h₁ h₂ a =
-      let told = split-all (subscriptNames x) a in
+      let told = each-both (subscriptNames x) a in
       all-both (bare held) (subscriptNames x) (subscriptNames y) ∙ ap (λ (b : Bool). b && all (bare held) (subscriptNames y)) (sym (subscript-is x w₁ r₁ e₁ h₁ (told .0)))
       ∙ ap (λ (b : Bool). not r₁ && b) (sym (subscript-is y w₂ r₂ e₂ h₂ (told .1)))
 
-  pub subscripts-first : (s : Subscripts) (w₁ : ℕ) (r₁ : Bool) → w₁ ≡ subscriptsValue s .first .name → Holds t n w₁ true r₁ → All Told (subscriptsNames s) → r₁ ≡ true
+  pub subscripts-first : (s : Subscripts) (w₁ : ℕ) (r₁ : Bool) → w₁ ≡ subscriptsValue s .first .name → Holds t n w₁ true r₁ → Each Told (subscriptsNames s) → r₁ ≡ true
       → all (bare held) (subscriptsNames s) ≡ false
   unfolding subscriptsValue
   subscripts-first (one x) w₁ r₁ e₁ h₁ a p = sym (subscript-is x w₁ r₁ e₁ h₁ a) ∙ ap not p
   subscripts-first (two x y) w₁ r₁ e₁ h₁ a p =
       all-both (bare held) (subscriptNames x) (subscriptNames y)
-      ∙ ap (λ (b : Bool). b && all (bare held) (subscriptNames y)) (sym (subscript-is x w₁ r₁ e₁ h₁ (split-all (subscriptNames x) a .0)) ∙ ap not p)
+      ∙ ap (λ (b : Bool). b && all (bare held) (subscriptNames y)) (sym (subscript-is x w₁ r₁ e₁ h₁ (each-both (subscriptNames x) a .0)) ∙ ap not p)
 
 module _ (items t : List ℕ) (n i : ℕ) (is : i ≡ firstEntry true (getD items 1 0) n t) where
   named : (v : Name) (s : Subscripts) (more : List ℕ) → items ≡ itemWords (place v s) ++ more → i ≡ firstEntry true (nameWord v) n t
@@ -95,22 +96,22 @@ module _ (items t : List ℕ) (n i : ℕ) (is : i ≡ firstEntry true (getD item
   counted v s more e c = ap (λ (x : List ℕ). rightWords (getD x 2 0) c) e
 
   pub place-none : n ≤ i → RightPlace items t n false
-  place-none h held cells v s more l e (all-more tv ts) =
+  place-none h held cells v s more l e (each-more tv ts) =
       sym (ap (λ (b : Bool). (b && true) && all (bare held) (subscriptsNames s)) (reference-no l v s i tv (named v s more e) h))
 
   pub place-count : i < n → rightWords (getD items 2 0) (getD t (4 * i + 3) 0) ≡ false → RightPlace items t n false
-  place-count h w held cells v s more l e (all-more tv ts) =
+  place-count h w held cells v s more l e (each-more tv ts) =
       sym (ap (λ (b : Bool). (b && true) && all (bare held) (subscriptsNames s))
       (reference-is l v s i tv (named v s more e) h ∙ sym (counted v s more e (getD t (4 * i + 3) 0)) ∙ w))
 
   pub place-first : (r₁ : Bool) → Holds t n (getD items 4 0) true r₁ → r₁ ≡ true → RightPlace items t n false
-  place-first r₁ h₁ p held cells v s more l e (all-more tv ts) =
+  place-first r₁ h₁ p held cells v s more l e (each-more tv ts) =
       let q = subscripts-first l s (getD items 4 0) r₁ (ap (λ (x : List ℕ). getD x 4 0) e) h₁ ts p in
       sym (ap (λ (b : Bool). (rightReference held (record { name = v; subscripts = s }) && true) && b) q ∙ and-false (rightReference held (record { name = v; subscripts = s }) && true) false refl)
 
   pub place-last : i < n → rightWords (getD items 2 0) (getD t (4 * i + 3) 0) ≡ true → (r₁ r₂ : Bool) → Holds t n (getD items 4 0) true r₁ → r₁ ≡ false
       → Holds t n (getD items 8 0) true r₂ → RightPlace items t n (not r₂)
-  place-last h w r₁ r₂ h₁ p h₂ held cells v s more l e (all-more tv ts) =
+  place-last h w r₁ r₂ h₁ p h₂ held cells v s more l e (each-more tv ts) =
       let right = reference-is l v s i tv (named v s more e) h ∙ sym (counted v s more e (getD t (4 * i + 3) 0)) ∙ w in
       let q = subscripts-are l s (getD items 4 0) (getD items 8 0) r₁ r₂ (ap (λ (x : List ℕ). getD x 4 0) e) (ap (λ (x : List ℕ). getD x 8 0) e) h₁ h₂ ts in
       sym (ap (λ (b : Bool). (b && true) && all (bare held) (subscriptsNames s)) right ∙ q ∙ ap (λ (b : Bool). not b && not r₂) p)
@@ -120,7 +121,7 @@ module _ (items t : List ℕ) (n i : ℕ) (is : i ≡ firstEntry true (getD item
 module _ (items t : List ℕ) (n : ℕ) where
   pub right-plain : (r : Bool) → getD items 0 0 ≡ 2 → Holds t n (getD items 1 0) true r → RightItem items t n (not r)
   right-plain r k h held cells (value c) more l e told = absurd (let z = kind-is (value c) more e 2 k in omega (arith, z))
-  right-plain r k h held cells (plain v) more l e (all-more tv none) =
+  right-plain r k h held cells (plain v) more l e (each-more tv none) =
       ap not (h .is held cells v l tv (ap (λ (x : List ℕ). getD x 1 0) e)) ∙ sym (and-true (bare held v) true refl)
   right-plain r k h held cells (place v s) more l e told = absurd (let z = kind-is (place v s) more e 2 k in omega (arith, z))
   right-plain r k h held cells negate more l e told = absurd (let z = kind-is negate more e 2 k in omega (arith, z))
@@ -152,13 +153,13 @@ right-more held i is =
 pub record Left (held : List Held) (items : List ℕ) (at : ℕ) (is : List Item) : Type 0 where
   pub left : List Item
   pub are : drop at items ≡ itemsWords left
-  pub told : All Told (itemsNames left)
+  pub told : Each Told (itemsNames left)
   pub same : rightItems held is ≡ rightItems held left
 
 pub record Passing (items t : List ℕ) (n at : ℕ) : Type 0 where
   pub within : at ≤ length items
   pub worded : Worded (drop at items)
-  pub part : (held : List Held) (cells : ℕ) (is : List Item) → Lists held t n cells → items ≡ itemsWords is → All Told (itemsNames is) → Left held items at is
+  pub part : (held : List Held) (cells : ℕ) (is : List Item) → Lists held t n cells → items ≡ itemsWords is → Each Told (itemsNames is) → Left held items at is
 
 module _ (items t : List ℕ) (n : ℕ) where
   pub passing-start : Worded items → Passing items t n 0
@@ -168,8 +169,8 @@ module _ (items t : List ℕ) (n : ℕ) where
   passing-no at r p l h e held cells is ls w told =
       let q = p .part held cells is ls w told in
       let f = front (drop at items) (q .left) (q .are) (let d = length-drop at items in omega (arith, d, l)) in
-      let told-all = subst (λ (x : List Item). All Told (itemsNames x)) (f .both) (q .told) in
-      let right = h held cells (f .first) (itemsWords (f .rest)) ls (f .are) (split-all (itemNames (f .first)) told-all .0) in
+      let told-all = subst (λ (x : List Item). Each Told (itemsNames x)) (f .both) (q .told) in
+      let right = h held cells (f .first) (itemsWords (f .rest)) ls (f .are) (each-both (itemNames (f .first)) told-all .0) in
       sym (q .same ∙ ap (rightItems held) (f .both) ∙ right-more held (f .first) (f .rest) ∙ ap (λ (b : Bool). b && rightItems held (f .rest)) (sym right ∙ e))
 
   pub passing-on : (at : ℕ) (r : Bool) → Passing items t n at → at < length items → RightItem (drop at items) t n r → r ≡ true → at + itemLength (getD items at 0) ≤ length items
@@ -181,8 +182,8 @@ module _ (items t : List ℕ) (n : ℕ) where
         part = λ held cells is ls w told.
             let q = p .part held cells is ls w told in
             let f = front (drop at items) (q .left) (q .are) (let d = length-drop at items in omega (arith, d, l)) in
-            let told-all = subst (λ (x : List Item). All Told (itemsNames x)) (f .both) (q .told) in
-            let halves = split-all (itemNames (f .first)) told-all in
+            let told-all = subst (λ (x : List Item). Each Told (itemsNames x)) (f .both) (q .told) in
+            let halves = each-both (itemNames (f .first)) told-all in
             let right = h held cells (f .first) (itemsWords (f .rest)) ls (f .are) (halves .0) in
             record {
               left = f .rest;

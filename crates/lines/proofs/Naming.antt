@@ -10,8 +10,8 @@ use lib.ListN.{length, take, getD, getElem?, List·getD-append}
 use lib.Seq.{take-length, getD-append-add}
 use Rattle.rules_object.specs.Object.{Named}
 use Rattle.rules_object.specs.Bytes.{concat, wordsOf, nameWords}
-use Rattle.rules_shared.specs.Lists.{Each}
 use Rattle.rules_object.specs.Writable.{IsByte, WritableNamed}
+use Rattle.rules_object.specs.Each.{Each, each-none, each-more}
 use Rattle.rules_deck.specs.Trees.{Statement}
 use Rattle.rules_deck.specs.Translation.{Held, name, array, hidden, arraySize, heldOf, namesFrom, translate}
 use Rattle.rules_deck.proofs.TestLaws.{clash, at-before}
@@ -81,12 +81,12 @@ two-words (a ∷ b ∷ c ∷ d ∷ []) l p = absurd (omega arith)
 two-words (a ∷ b ∷ c ∷ d ∷ e ∷ []) l p = absurd (omega arith)
 two-words (a ∷ b ∷ c ∷ d ∷ e ∷ f ∷ []) l p = absurd (omega arith)
 two-words (a ∷ b ∷ c ∷ d ∷ e ∷ f ∷ g ∷ []) l p = absurd (omega arith)
-two-words (a ∷ b ∷ c ∷ d ∷ e ∷ f ∷ g ∷ h ∷ []) l p =
+two-words (a ∷ b ∷ c ∷ d ∷ e ∷ f ∷ g ∷ h ∷ []) l
+    (each-more pa (each-more pb (each-more pc (each-more pd (each-more pe (each-more pf (each-more pg (each-more ph each-none)))))))) =
     let top : ℕ = ((((0 * 256 + a) * 256 + b) * 256 + c) * 256 + d) in
-    let q = p .1 .1 .1 .1 in
-    ap (λ (w : ℕ). turned w ∷ turned (bytesFrom 0 (a ∷ b ∷ c ∷ d ∷ e ∷ f ∷ g ∷ h ∷ [])) ∷ []) (high-bytes top e f g h (q .0) (q .1 .0) (q .1 .1 .0) (q .1 .1 .1 .0))
-    ∙ ap (λ (w : ℕ). w ∷ turned (bytesFrom 0 (a ∷ b ∷ c ∷ d ∷ e ∷ f ∷ g ∷ h ∷ [])) ∷ []) (low-bytes 0 a b c d (p .0) (p .1 .0) (p .1 .1 .0) (p .1 .1 .1 .0))
-    ∙ ap (λ (w : ℕ). (a + b * 256 + c * 65536 + d * 16777216) ∷ w ∷ []) (low-bytes top e f g h (q .0) (q .1 .0) (q .1 .1 .0) (q .1 .1 .1 .0))
+    ap (λ (w : ℕ). turned w ∷ turned (bytesFrom 0 (a ∷ b ∷ c ∷ d ∷ e ∷ f ∷ g ∷ h ∷ [])) ∷ []) (high-bytes top e f g h pe pf pg ph)
+    ∙ ap (λ (w : ℕ). w ∷ turned (bytesFrom 0 (a ∷ b ∷ c ∷ d ∷ e ∷ f ∷ g ∷ h ∷ [])) ∷ []) (low-bytes 0 a b c d pa pb pc pd)
+    ∙ ap (λ (w : ℕ). (a + b * 256 + c * 65536 + d * 16777216) ∷ w ∷ []) (low-bytes top e f g h pe pf pg ph)
 two-words (a ∷ b ∷ c ∷ d ∷ e ∷ f ∷ g ∷ h ∷ i ∷ s) l p = absurd (omega arith)
 
 -- ---- the deck's names

@@ -12,7 +12,7 @@ use Rattle.rules_object.specs.Machine.{cell, fresh, ruleOf}
 use Rattle.rules_object.specs.Check.{right41}
 use Rattle.rules_object.specs.Calls.{taken, right50, right51}
 use Rattle.rules_object.specs.Safe.{Within, Stands}
-use Rattle.rules_shared.specs.Lists.{Each}
+use Rattle.rules_object.specs.Each.{Each, each-more}
 use Rattle.rules_object.proofs.Lents.{long-enough, cells-within}
 use Rattle.object.specs.declared.Layout.{Layout}
 use Rattle.object.specs.Layout.{objectAt, Placed}
@@ -33,10 +33,10 @@ module _ (e : Layout) (s : List ℕ) (p : ℕ) (placed : Placed e s) (limits : r
 
   each-tops : (h : ℕ) (st : List ℤ) → Each (Within (objectAt e s)) (tops h st) → (i : ℕ) → i < h → natAbs (cell st i) < p
   each-tops zero st w i l = absurd (omega arith)
-  each-tops (suc h) st w i l = by (h - i) refl (λ m. each-tops h st (w .1) i m)
+  each-tops (suc h) st (each-more w ws) i l = by (h - i) refl (λ m. each-tops h st ws i m)
     where
       by : (d : ℕ) → d ≡ h - i → (i < h → natAbs (cell st i) < p) → natAbs (cell st i) < p
-      by zero q lower = let same : h ≡ i = omega arith in subst (λ j. natAbs (cell st j) < p) same (subst (λ c. natAbs (cell st h) < c) is-ceiling (w .0))
+      by zero q lower = let same : h ≡ i = omega arith in subst (λ j. natAbs (cell st j) < p) same (subst (λ c. natAbs (cell st h) < c) is-ceiling w)
       by (suc d) q lower = lower (omega arith)
 
   -- a state that stands, its places 0 above the height

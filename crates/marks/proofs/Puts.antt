@@ -10,7 +10,7 @@ use lib.Dec.{eqb}
 use lib.ListN.{length, take, getD, length-take}
 use lib.Seq.{take-suc}
 use borrow.Author.Tests.{eq-eqb, ne-eqb}
-use Rattle.rules_deck.proofs.Readers.{All, all-more}
+use Rattle.rules_object.specs.Each.{Each, each-more}
 use Rattle.elements.specs.declared.Target.{Target}
 use Rattle.elements.specs.declared.Target.the-variants.{Cell, Element}
 use Rattle.items.specs.Parsed.{Put}
@@ -20,11 +20,11 @@ use Rattle.marks.specs.Marks.{numbersOf, Low, Jumping, cellWord, setOf}
 
 -- ---- a list of numbers
 
-pub low-at : (l : List ℕ) (n i : ℕ) → n ≤ length l → i < n → All Low (take n l) → getD l i 0 ≤ 99999
+pub low-at : (l : List ℕ) (n i : ℕ) → n ≤ length l → i < n → Each Low (take n l) → getD l i 0 ≤ 99999
 low-at [] n i h k a = absurd (omega arith)
 low-at (x ∷ l) zero i h k a = absurd (omega arith)
-low-at (x ∷ l) (suc n) zero h k (all-more p a) = p
-low-at (x ∷ l) (suc n) (suc i) h k (all-more p a) = low-at l n i (omega arith) (omega arith) a
+low-at (x ∷ l) (suc n) zero h k (each-more p a) = p
+low-at (x ∷ l) (suc n) (suc i) h k (each-more p a) = low-at l n i (omega arith) (omega arith) a
 
 pub record Putting (items : List ℕ) (count from : ℕ) (a b : List ℕ) (at i : ℕ) : Type 0 where
   pub within : i ≤ count
@@ -92,16 +92,16 @@ module _ (p : Plan) (items : List ℕ) where
       let d : eqb (p .kind) 4 ≡ false = ne-eqb (p .kind) 4 w in
       rw (a, b, c, d)
 
-pub head-low : {x : ℕ} {l : List ℕ} → All Low (x ∷ l) → x ≤ 99999
-head-low (all-more p a) = p
+pub head-low : {x : ℕ} {l : List ℕ} → Each Low (x ∷ l) → x ≤ 99999
+head-low (each-more p a) = p
 
-pub tail-low : {x : ℕ} {l : List ℕ} → All Low (x ∷ l) → All Low l
-tail-low (all-more p a) = a
+pub tail-low : {x : ℕ} {l : List ℕ} → Each Low (x ∷ l) → Each Low l
+tail-low (each-more p a) = a
 
 module _ {p : Plan} {items jumps : List ℕ} {j : ℕ} (h : Jumping p items jumps j) where
   -- the numbers are these
-  pub jumping : {ws : List ℕ} → numbersOf p items ≡ ws → All Low ws × (j + length ws ≤ length jumps)
-  jumping {ws} e = (subst (All Low) e (h .low), subst (λ (l : List ℕ). j + length l ≤ length jumps) e (h .room))
+  pub jumping : {ws : List ℕ} → numbersOf p items ≡ ws → Each Low ws × (j + length ws ≤ length jumps)
+  jumping {ws} e = (subst (Each Low) e (h .low), subst (λ (l : List ℕ). j + length l ≤ length jumps) e (h .room))
 
   pub count-fits : p .kind ≡ 2 → j + p .listed ≤ length jumps
   count-fits z =

@@ -6,7 +6,7 @@ use mathlib.Core.Bool.{cond}
 use mathlib.Core.List.{List, [], _∷_}
 use lib.Dec.{eqb}
 use lib.ListN.{length, take}
-use Rattle.rules_deck.proofs.Readers.{All}
+use Rattle.rules_object.specs.Each.{Each}
 use Rattle.elements.specs.declared.Target.{Target}
 use Rattle.elements.specs.declared.Target.the-variants.{Cell, Element}
 use Rattle.plans.specs.declared.Plan.{Plan}
@@ -22,7 +22,7 @@ Low n = n ≤ 99999
 
 -- from j on there is room for them
 pub record Jumping (p : Plan) (items jumps : List ℕ) (j : ℕ) : Type 0 where
-  pub low : All Low (numbersOf p items)
+  pub low : Each Low (numbersOf p items)
   pub listed : p .kind ≡ 2 → p .listed ≤ length items
   pub room : j + length (numbersOf p items) ≤ length jumps
 

@@ -3,7 +3,7 @@ ghost use mathlib.Core.Path.{_≡_};
 ghost use mathlib.Core.List.{[], _∷_};
 ghost use Prim.Native.Nat.{_+_, _*_, _≤_, _<_};
 ghost use lib.ListN.{length, take};
-ghost use Rattle.rules_deck.proofs.Readers.{All};
+ghost use Rattle.rules_object.specs.Each.{Each};
 ghost use Rattle.items.specs.Parsed.{Put};
 ghost use Rattle.marks.specs.Marks.{numbersOf, Low, Jumping, cellWord, setOf};
 use elements::Target;
@@ -49,7 +49,7 @@ fn put_number(jumps: &mut [u32], at: usize, n: u64) -> usize
 }
 
 fn put_numbers(items: &[u64], count: usize, jumps: &mut [u32], from: usize) -> usize
-    requires { ⌜ (count ≤ length (now items)) × ((from + count ≤ length (now jumps)) × All Low (take count (now items))) ⌝ }
+    requires { ⌜ (count ≤ length (now items)) × ((from + count ≤ length (now jumps)) × Each Low (take count (now items))) ⌝ }
     ensures { λ r. ⌜ Put (now (jumps .entry)) (now (jumps .exit)) from (take count (now (items .entry))) r ⌝ }
 {
     let mut at = from;

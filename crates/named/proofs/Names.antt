@@ -10,7 +10,7 @@ use lib.Dec.{leb}
 use lib.ListN.{length, getD, drop, length-take, length-drop}
 use lib.Seq.{drop-cons, getD-drop, getD-take}
 use borrow.Author.Tests.{ne-eqb}
-use Rattle.rules_object.specs.Check.{letter, digit, blanks, nameTail, rightName}
+use Rattle.rules_object.specs.Check.{isLetter, isDigit, blanks, nameTail, rightName}
 use Rattle.named.specs.Names.{nameAt, NameEnd}
 
 module _ (s : List ℕ) (b : ℕ) (fits : b + 8 ≤ length s) where
@@ -25,14 +25,14 @@ module _ (s : List ℕ) (b : ℕ) (fits : b + 8 ≤ length s) where
       let inn : k < length (nameAt s b) = omega (arith, name-length) in
       drop-cons (nameAt s b) k 0 inn ∙ ap (λ (c : ℕ). c ∷ drop (suc k) (nameAt s b)) (name-at k h) ∙ ap (λ (n : ℕ). getD s (b + k) 0 ∷ drop n (nameAt s b)) (sym (add-one k))
 
-  pub tail-more : (k : ℕ) → k < 6 → (letter (getD s (b + k) 0) || digit (getD s (b + k) 0)) ≡ true
+  pub tail-more : (k : ℕ) → k < 6 → (isLetter (getD s (b + k) 0) || isDigit (getD s (b + k) 0)) ≡ true
       → nameTail (6 - k) (drop k (nameAt s b)) ≡ nameTail (6 - (k + 1)) (drop (k + 1) (nameAt s b))
   tail-more k h q =
       let f : 6 - k ≡ suc (6 - (k + 1)) = omega arith in
       let l : k < 8 = omega arith in
       rw (f, rest-at k l, q)
 
-  pub tail-stops : (k : ℕ) → k < 6 → (letter (getD s (b + k) 0) || digit (getD s (b + k) 0)) ≡ false
+  pub tail-stops : (k : ℕ) → k < 6 → (isLetter (getD s (b + k) 0) || isDigit (getD s (b + k) 0)) ≡ false
       → nameTail (6 - k) (drop k (nameAt s b)) ≡ blanks (drop k (nameAt s b))
   tail-stops k h q =
       let f : 6 - k ≡ suc (6 - (k + 1)) = omega arith in

@@ -4,7 +4,7 @@ ghost use mathlib.Core.Bool.{_||_};
 ghost use Prim.Native.Nat.{_+_, _*_, _^_, _≤_, _<_};
 ghost use lib.Dec.{leb};
 ghost use lib.ListN.{length, getD, drop};
-ghost use Rattle.rules_object.specs.Check.{rightNamed, rightName, letter, digit, blanks, span};
+ghost use Rattle.rules_object.specs.Check.{rightNamed, rightName, isLetter, isDigit, blanks, span};
 ghost use Rattle.object.specs.Layout.{Placed, objectAt};
 ghost use Rattle.named.specs.Names.{noName, nameAt, NameEnd};
 use object::Layout;
@@ -25,7 +25,7 @@ pub fn inside(first: u32, rows: u32, columns: u32, cells: u32) -> bool
 }
 
 fn letter_or_digit(c: u8) -> bool
-    ensures { λ r. ⌜ r ≡ (letter c || digit c) ⌝ }
+    ensures { λ r. ⌜ r ≡ (isLetter c || isDigit c) ⌝ }
 {
     ((b'A' <= c) & (c <= b'Z')) | ((b'0' <= c) & (c <= b'9'))
 }

@@ -10,12 +10,13 @@ use lib.Dec.{leb}
 use lib.ListN.{take}
 use borrow.Author.Tests.{leb-false, lt-leb}
 use Rattle.rules_shared.specs.Limits.{limits}
+use Rattle.rules_object.specs.Each.{Each, each-none}
+use Rattle.rules_object.proofs.EachLaws.{each-append}
 use Rattle.rules_deck.specs.Trees.{Name}
 use Rattle.rules_deck.specs.Deck.{Declared}
 use Rattle.rules_deck.specs.Translation.{Held, name, array, hidden, arraySize, cellCount, isName, holds, appear}
 use Rattle.rules_deck.specs.Judge.{nameCount}
 use Rattle.rules_deck.proofs.CardsLaws.{cases}
-use Rattle.rules_deck.proofs.Readers.{All, all-none, all-append}
 use Rattle.rules_deck.specs.Cells.{namesHeld, arraysHeld}
 use Rattle.rules_deck.proofs.MapNames.{names-append}
 use Rattle.tokens.specs.Words.{nameWord}
@@ -59,7 +60,7 @@ arrays-append (hidden q ∷ a) b = arrays-append a b
 -- ---- the table grows
 
 pub lists-more : {held : List Held} {t t′ : List ℕ} {n n′ cells cells′ : ℕ} (more : List Held) → Lists held t n cells → take (4 * n′) t′ ≡ take (4 * n) t ++ heldWords cells more
-    → n′ ≡ n + nameCount more → cells′ ≡ cells + cellCount more → n′ ≤ limits .names → cells′ ≤ limits .cells → All Told (namesHeld more) → All SomeRows (arraysHeld more)
+    → n′ ≡ n + nameCount more → cells′ ≡ cells + cellCount more → n′ ≤ limits .names → cells′ ≤ limits .cells → Each Told (namesHeld more) → Each SomeRows (arraysHeld more)
     → Lists (held ++ more) t′ n′ cells′
 lists-more {held} {t} {t′} {n} {n′} {cells} {cells′} more l w en ec fn fc told rows =
     record {
@@ -71,14 +72,14 @@ lists-more {held} {t} {t′} {n} {n′} {cells} {cells′} more l w en ec fn fc 
       cells-are = let a = l .cells-are in let b = cells-append held more in omega (arith, a, b, ec);
       names-fit = fn;
       cells-fit = fc;
-      told = subst (λ (x : List Name). All Told x) (sym (names-append held more)) (all-append (l .told) told);
-      rows = subst (λ (x : List Declared). All SomeRows x) (sym (arrays-append held more)) (all-append (l .rows) rows);
+      told = subst (λ (x : List Name). Each Told x) (sym (names-append held more)) (each-append (l .told) told);
+      rows = subst (λ (x : List Declared). Each SomeRows x) (sym (arrays-append held more)) (each-append (l .rows) rows);
     }
 
 -- a DO's hidden cells only count
 pub lists-hidden : {held : List Held} {t : List ℕ} {n cells : ℕ} (q : ℕ) → Lists held t n cells → cells + 2 ≤ 4096 → Lists (held ++ (hidden q ∷ [])) t n (cells + 2)
 lists-hidden {held} {t} {n} {cells} q l h =
-    lists-more (hidden q ∷ []) l (sym (append-nil (take (4 * n) t))) (omega arith) (omega arith) (l .names-fit) h all-none all-none
+    lists-more (hidden q ∷ []) l (sym (append-nil (take (4 * n) t))) (omega arith) (omega arith) (l .names-fit) h each-none each-none
 
 -- ---- over a limit
 

@@ -9,11 +9,11 @@ use mathlib.Core.List.{List, [], _∷_, _++_}
 use lib.Dec.{ltb}
 use lib.ListN.{getD, drop, take-append-drop}
 use borrow.Author.Tests.{le-ltb}
+use Rattle.rules_object.specs.Each.{Each, each-more}
 use Rattle.rules_deck.specs.Trees.{Name}
 use Rattle.rules_deck.specs.Deck.{sameName, Dims, width}
 use Rattle.rules_deck.specs.Translation.{Held, name, array, hidden, arraySize, cellCount, isName, isArray, firstCell, holds, cellOf, baseOf}
 use Rattle.rules_deck.specs.Judge.{nameCount, Reference, rightCount, rightReference}
-use Rattle.rules_deck.proofs.Readers.{All, all-more}
 use Rattle.rules_deck.specs.Cells.{arraysHeld}
 use Rattle.tokens.specs.Words.{nameWord}
 use Rattle.draft.specs.Names.{heldWords, dimsHeld, Told, SomeRows, Lists}
@@ -127,11 +127,11 @@ size-columns d h =
     let b = width-least (d .columns) in
     omega (arith, a, b)
 
-pub array-low : (v : Name) (held : List Held) → All SomeRows (arraysHeld held) → holds (isArray v) held ≡ true
+pub array-low : (v : Name) (held : List Held) → Each SomeRows (arraysHeld held) → holds (isArray v) held ≡ true
     → Low (cellCount held) (firstCell (isArray v) held) (dimsHeld held v .rows) (dimsHeld held v .columns)
 array-low v [] some e = absurd (false≢true e)
 array-low v (name w ∷ held) some e = let h = array-low v held some e in let f = h .first-low in low-more (omega arith) (omega (arith, f)) h
-array-low v (array a ∷ held) (all-more r some) e = go (sameName (a .name) v) e (array-low v held some)
+array-low v (array a ∷ held) (each-more r some) e = go (sameName (a .name) v) e (array-low v held some)
   where
     n : ℕ
     n = arraySize (a .dims)

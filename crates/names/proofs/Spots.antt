@@ -8,11 +8,11 @@ use mathlib.Core.List.{List, [], _∷_, _++_}
 use lib.Dec.{eqb, ltb}
 use lib.ListN.{getD, drop}
 use borrow.Author.Tests.{ne-eqb, le-leb, lt-ltb, le-ltb, ltb-true, ltb-false}
+use Rattle.rules_object.specs.Each.{Each, each-more}
 use Rattle.rules_deck.specs.Trees.{Name}
 use Rattle.rules_deck.specs.Deck.{sameName, Dims}
 use Rattle.rules_deck.specs.Translation.{Held, name, array, hidden, arraySize, isName, isArray, firstCell, holds}
 use Rattle.rules_deck.specs.Judge.{nameCount}
-use Rattle.rules_deck.proofs.Readers.{All, all-more}
 use Rattle.rules_deck.specs.Cells.{namesHeld, arraysHeld}
 use Rattle.tokens.specs.Words.{nameWord}
 use Rattle.draft.specs.Names.{heldWords, dimsHeld, Told, SomeRows}
@@ -96,11 +96,11 @@ ArrayAt words n held at v =
     Spot words n (firstEntry true (nameWord v) n words) (holds (isArray v) held) (at + firstCell (isArray v) held) (dimsHeld held v .rows) (dimsHeld held v .columns)
 
 module _ (v : Name) (tv : Told v) (rest : List ℕ) where
-  pub spot-plain : (held : List Held) (at : ℕ) → All Told (namesHeld held) → All SomeRows (arraysHeld held)
+  pub spot-plain : (held : List Held) (at : ℕ) → Each Told (namesHeld held) → Each SomeRows (arraysHeld held)
       → PlainAt (heldWords at held ++ rest) (nameCount held) held at v
   unfolding firstEntry
   spot-plain [] at told some = spot-none rest (at + 0) 0 0
-  spot-plain (name w ∷ held) at (all-more tw told) some =
+  spot-plain (name w ∷ held) at (each-more tw told) some =
       let t = sameName w v in
       let s = spot-plain held (suc at) told some in
       let e : isEntry false (nameWord v) (heldWords at (name w ∷ held) ++ rest) ≡ t = and-true (eqb (nameWord w) (nameWord v)) true refl ∙ word-test w v tw tv in
@@ -109,7 +109,7 @@ module _ (v : Name) (tv : Told v) (rest : List ℕ) where
       first : (t : Bool) (f : ℕ) → cond t at (suc at + f) ≡ at + cond t 0 (1 + f)
       first true f = omega arith
       first false f = omega arith
-  spot-plain (array a ∷ held) at (all-more tw told) (all-more r some) =
+  spot-plain (array a ∷ held) at (each-more tw told) (each-more r some) =
       let n = arraySize (a .dims) in
       let s = spot-plain held (at + n) told some in
       let e : isEntry false (nameWord v) (heldWords at (array a ∷ held) ++ rest) ≡ false =
@@ -117,15 +117,15 @@ module _ (v : Name) (tv : Told v) (rest : List ℕ) where
       spot-as (spot-step false (nameWord (a .name)) at (a .dims .rows) (a .dims .columns) s) (index-as _ false _ e) refl (omega arith) refl refl
   spot-plain (hidden q ∷ held) at told some = spot-as (spot-plain held (at + 2) told some) refl refl (omega arith) refl refl
 
-  pub spot-array : (held : List Held) (at : ℕ) → All Told (namesHeld held) → All SomeRows (arraysHeld held)
+  pub spot-array : (held : List Held) (at : ℕ) → Each Told (namesHeld held) → Each SomeRows (arraysHeld held)
       → ArrayAt (heldWords at held ++ rest) (nameCount held) held at v
   unfolding firstEntry
   spot-array [] at told some = spot-none rest (at + 0) 0 0
-  spot-array (name w ∷ held) at (all-more tw told) some =
+  spot-array (name w ∷ held) at (each-more tw told) some =
       let s = spot-array held (suc at) told some in
       let e : isEntry true (nameWord v) (heldWords at (name w ∷ held) ++ rest) ≡ false = and-false (eqb (nameWord w) (nameWord v)) false refl in
       spot-as (spot-step false (nameWord w) at 0 0 s) (index-as _ false _ e) refl (omega arith) refl refl
-  spot-array (array a ∷ held) at (all-more tw told) (all-more r some) =
+  spot-array (array a ∷ held) at (each-more tw told) (each-more r some) =
       let n = arraySize (a .dims) in
       let t = sameName (a .name) v in
       let s = spot-array held (at + n) told some in
@@ -144,13 +144,13 @@ skip k n words m e h = ap (λ (b : Bool). cond b 0 (suc (firstEntry k 0 n (drop 
 no-word : (k : Bool) (w : Name) (r : ℕ) → Told w → (eqb (nameWord w) 0 && ofKind k r) ≡ false
 no-word k w r t = ap (λ (b : Bool). b && ofKind k r) (ne-eqb (nameWord w) 0 (some-word w t))
 
-pub spot-nothing : (k : Bool) (rest : List ℕ) (held : List Held) (at : ℕ) → All Told (namesHeld held)
+pub spot-nothing : (k : Bool) (rest : List ℕ) (held : List Held) (at : ℕ) → Each Told (namesHeld held)
     → firstEntry k 0 (nameCount held) (heldWords at held ++ rest) ≡ nameCount held
 unfolding firstEntry
 spot-nothing k rest [] at told = refl
-spot-nothing k rest (name w ∷ held) at (all-more tw told) =
+spot-nothing k rest (name w ∷ held) at (each-more tw told) =
     skip k (nameCount held) (heldWords at (name w ∷ held) ++ rest) (nameCount held) (no-word k w 0 tw) (spot-nothing k rest held (suc at) told)
-spot-nothing k rest (array a ∷ held) at (all-more tw told) =
+spot-nothing k rest (array a ∷ held) at (each-more tw told) =
     skip k (nameCount held) (heldWords at (array a ∷ held) ++ rest) (nameCount held) (no-word k (a .name) (a .dims .rows) tw)
     (spot-nothing k rest held (at + arraySize (a .dims)) told)
 spot-nothing k rest (hidden q ∷ held) at told = spot-nothing k rest held (at + 2) told

@@ -8,7 +8,6 @@ use mathlib.Core.List.{List, [], _∷_, _++_}
 use lib.ListN.{getD, drop}
 use lib.Seq.{getD-drop}
 use Rattle.rules_shared.specs.Lists.{all}
-use Rattle.rules_deck.proofs.Readers.{All, all-none, all-more}
 
 pub and-true : (a b : Bool) → b ≡ true → (a && b) ≡ a
 and-true true b e = e
@@ -25,10 +24,6 @@ all-both test (x ∷ xs) ys = go (test x) (all-both test xs ys)
     go : (b : Bool) → all test (xs ++ ys) ≡ all test xs && all test ys → (b && all test (xs ++ ys)) ≡ (b && all test xs) && all test ys
     go true h = h
     go false h = refl
-
-pub split-all : {A : Type 0} {P : A → Type 0} (xs : List A) {ys : List A} → All P (xs ++ ys) → All P xs × All P ys
-split-all [] a = (all-none, a)
-split-all (x ∷ xs) (all-more p a) = let h = split-all xs a in (all-more p (h .0), h .1)
 
 pub head-at : (t : List ℕ) (at : ℕ) → getD (drop at t) 0 0 ≡ getD t at 0
 head-at t at = getD-drop at t 0 0 ∙ ap (λ (j : ℕ). getD t j 0) (add-zero at)

@@ -6,17 +6,17 @@ use native.Mathlib.Omega.{arith}
 use mathlib.Core.Bool.{Bool, true}
 use mathlib.Core.List.{List}
 use lib.ListN.{length, take, drop, length-take}
+use Rattle.rules_object.specs.Each.{Each}
 use Rattle.rules_deck.specs.Trees.{Array, arrayNames, Form, assign, goTo, computed, ifs, loop, continue, stop, end, dimension, formNames}
 use Rattle.rules_deck.specs.Translation.{Held}
 use Rattle.rules_deck.specs.Judge.{rightArrays, right15}
-use Rattle.rules_deck.proofs.Readers.{All}
-use Rattle.rules_deck.proofs.BodySeven.{all-here}
+use Rattle.rules_deck.proofs.BodySeven.{each-here}
+use Rattle.rules_deck.proofs.RightDeck.{each-among}
 use Rattle.forms.specs.Statements.{allWords}
 use Rattle.draft.specs.Draft.{kindOf}
 use Rattle.draft.specs.Parts.{itemsNames, formFirst, formItems, Worded}
 use Rattle.draft.specs.Names.{Told}
 use Rattle.draft.proofs.FormLaws.{form-right16, first-names, items-names}
-use Rattle.draft.proofs.Knowing.{all-of}
 use Rattle.arrays.specs.Arrays.{Dimensions}
 use Rattle.arrays.proofs.News.{words-length}
 use Rattle.cells.specs.Operands.{RightBoth}
@@ -71,11 +71,11 @@ part-long items m h = omega (arith, length-take m items, ap length (front-part i
 
 -- ---- names are told
 
-pub told-first : (f : Form) → All Told (formNames f) → All Told (itemsNames (formFirst f))
-told-first f t = all-of (itemsNames (formFirst f)) (λ v a. all-here t (first-names f a))
+pub told-first : (f : Form) → Each Told (formNames f) → Each Told (itemsNames (formFirst f))
+told-first f t = each-among (itemsNames (formFirst f)) (λ v a. each-here t (first-names f a))
 
-pub told-items : (f : Form) → All Told (formNames f) → All Told (itemsNames (formItems f))
-told-items f t = all-of (itemsNames (formItems f)) (λ v a. all-here t (items-names f a))
+pub told-items : (f : Form) → Each Told (formNames f) → Each Told (itemsNames (formItems f))
+told-items f t = each-among (itemsNames (formItems f)) (λ v a. each-here t (items-names f a))
 
 -- ---- 15
 
@@ -95,7 +95,7 @@ pub no-arrays : {p : Plan} {items table : List ℕ} {n : ℕ} → (p .kind ≡ 8
 no-arrays z f held cells h l t = other-15 held f (λ e. z (sym (kind-of h) ∙ e))
 
 abbrev pub Arrays15 : List Held → List ℕ → Bool → Form → Type 0
-Arrays15 held words r f = ((arrays : List Array) → words ≡ allWords arrays → All Told (arrayNames arrays) → r ≡ rightArrays held arrays) → words ≡ listedWords f → All Told (formNames f) → r ≡ right15 held f
+Arrays15 held words r f = ((arrays : List Array) → words ≡ allWords arrays → Each Told (arrayNames arrays) → r ≡ rightArrays held arrays) → words ≡ listedWords f → Each Told (formNames f) → r ≡ right15 held f
 
 form-15 : (held : List Held) (words : List ℕ) (r : Bool) (f : Form) → kindOf f ≡ 8 → Arrays15 held words r f
 unfolding right15 listedWords formNames

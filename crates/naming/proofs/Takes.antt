@@ -5,11 +5,11 @@ use Prim.Native.Nat.{ℕ, _*_, _-_, _≤_}
 use mathlib.Core.Bool.{true}
 use mathlib.Core.List.{List, [], _∷_, _++_, map, append-nil}
 use lib.ListN.{take, drop}
+use Rattle.rules_object.specs.Each.{Each}
 use Rattle.rules_deck.specs.Trees.{Array, arrayNames, Form, assign, goTo, computed, ifs, loop, continue, stop, end, dimension, formNames}
 use Rattle.rules_deck.specs.Deck.{declare, arraysIn}
 use Rattle.rules_deck.specs.Translation.{Held, array, hidden, appear, formPlain, hiddenIn, brings}
 use Rattle.rules_deck.specs.Judge.{rightArrays, right15}
-use Rattle.rules_deck.proofs.Readers.{All}
 use Rattle.forms.specs.Statements.{allWords}
 use Rattle.draft.specs.Draft.{kindOf}
 use Rattle.draft.specs.Parts.{itemsWords, formFirst, formItems}
@@ -38,9 +38,9 @@ AsDo b held q v f = Appeared (appear held (formPlain f) ++ (hidden q ∷ [])) b 
 
 abbrev AsArrays : List ℕ → ℕ → ℕ → List Held → List ℕ → Grown → ℕ → List ℕ → Form → Type 0
 AsArrays b x y held words v q c f =
-    ((arrays : List Array) → Lists held b x y → words ≡ allWords arrays → All Told (arrayNames arrays) → rightArrays held arrays ≡ true
+    ((arrays : List Array) → Lists held b x y → words ≡ allWords arrays → Each Told (arrayNames arrays) → rightArrays held arrays ≡ true
     → Appeared (held ++ map (λ a. array (declare a)) arrays) c v)
-    → Lists (appear held (formPlain f)) b x y → words ≡ listedWords f → All Told (formNames f) → right15 held f ≡ true → Appeared (brings q f held) c v
+    → Lists (appear held (formPlain f)) b x y → words ≡ listedWords f → Each Told (formNames f) → right15 held f ≡ true → Appeared (brings q f held) c v
 
 as-arrays : (b : List ℕ) (x y : ℕ) (held : List Held) (words : List ℕ) (v : Grown) (q : ℕ) (c : List ℕ) (f : Form) → kindOf f ≡ 8 → AsArrays b x y held words v q c f
 unfolding right15 listedWords formNames formPlain
@@ -59,7 +59,7 @@ nothing-more q (dimension arrays) i j = absurd (j refl)
 
 module _ {p : Plan} {first items a b : List ℕ} {n cells : ℕ} {r : Grown} (h : TakesBoth first (take (p .count - 0) (drop 0 items)) a b n cells r) where
   -- the plain names have their cells
-  plains : (f : Form) (held : List Held) → Plans f items p → first ≡ itemsWords (formFirst f) → Lists held a n cells → All Told (formNames f)
+  plains : (f : Form) (held : List Held) → Plans f items p → first ≡ itemsWords (formFirst f) → Lists held a n cells → Each Told (formNames f)
       → Appeared (appear held (formPlain f)) b r
   plains f held s e l t =
       subst (λ (x : List Held). Appeared x b r) (ap (appear held) (sym (form-plain-both f)))
@@ -73,7 +73,7 @@ module _ {p : Plan} {first items a b : List ℕ} {n cells : ℕ} {r : Grown} (h 
       }
 
   module _ {x y : ℕ} (e : r ≡ Names x y) where
-    listed : (f : Form) (held : List Held) → Plans f items p → first ≡ itemsWords (formFirst f) → Lists held a n cells → All Told (formNames f)
+    listed : (f : Form) (held : List Held) → Plans f items p → first ≡ itemsWords (formFirst f) → Lists held a n cells → Each Told (formNames f)
         → Lists (appear held (formPlain f)) b x y
     listed f held s u l t = subst (Appeared (appear held (formPlain f)) b) e (plains f held s u l t)
 

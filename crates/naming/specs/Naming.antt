@@ -4,10 +4,10 @@ use mathlib.Core.Path.{_≡_}
 use Prim.Native.Nat.{ℕ}
 use mathlib.Core.Bool.{Bool, true}
 use mathlib.Core.List.{List}
+use Rattle.rules_object.specs.Each.{Each}
 use Rattle.rules_deck.specs.Trees.{Form, formNames}
 use Rattle.rules_deck.specs.Translation.{Held, brings}
 use Rattle.rules_deck.specs.Judge.{right15, right16}
-use Rattle.rules_deck.proofs.Readers.{All}
 use Rattle.draft.specs.Parts.{itemsWords, formFirst}
 use Rattle.draft.specs.Names.{Lists, Told}
 use Rattle.names.specs.declared.Grown.{Grown}
@@ -17,15 +17,15 @@ use Rattle.plans.specs.Plans.{Plans}
 
 abbrev pub RightArrays : Plan → List ℕ → List ℕ → ℕ → Bool → Type 0
 RightArrays p items table n r =
-    (f : Form) (held : List Held) (cells : ℕ) → Plans f items p → Lists held table n cells → All Told (formNames f) → r ≡ right15 held f
+    (f : Form) (held : List Held) (cells : ℕ) → Plans f items p → Lists held table n cells → Each Told (formNames f) → r ≡ right15 held f
 
 abbrev pub RightOperands : Plan → List ℕ → List ℕ → List ℕ → ℕ → Bool → Type 0
 RightOperands p first items table n r =
-    (f : Form) (held : List Held) (cells : ℕ) → Plans f items p → first ≡ itemsWords (formFirst f) → Lists held table n cells → All Told (formNames f)
+    (f : Form) (held : List Held) (cells : ℕ) → Plans f items p → first ≡ itemsWords (formFirst f) → Lists held table n cells → Each Told (formNames f)
     → r ≡ right16 held f
 
 -- all that the statement at position q brings has its cells
 pub record TakesCells (p : Plan) (first items before after : List ℕ) (n cells : ℕ) (r : Grown) : Type 0 where
   pub within : Within r
-  pub is : (f : Form) (held : List Held) (q : ℕ) → Plans f items p → first ≡ itemsWords (formFirst f) → Lists held before n cells → All Told (formNames f)
+  pub is : (f : Form) (held : List Held) (q : ℕ) → Plans f items p → first ≡ itemsWords (formFirst f) → Lists held before n cells → Each Told (formNames f)
       → right15 held f ≡ true → Appeared (brings q f held) after r

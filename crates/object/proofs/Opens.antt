@@ -14,8 +14,8 @@ use lib.Seq.{drop-drop, getD-drop, getD-take, length-take-le}
 use borrow.Author.Tests.{eq-eqb, ne-eqb}
 use Rattle.rules_object.specs.Object.{Object}
 use Rattle.rules_object.specs.Bytes.{word, wordsOf, elementOf, loopOf, lineOf, namedOf, entries, entrySizes, readBodies, contentsLength, objectOf, readWords, readObject}
-use Rattle.rules_shared.specs.Lists.{Each}
 use Rattle.rules_object.specs.Writable.{IsByte}
+use Rattle.rules_object.specs.Each.{Each, each-none, each-more}
 use Rattle.rules_object.proofs.Words.{length-words}
 use Rattle.rules_object.proofs.RoundTrip.{writes-back, read-writable, object-length, all-eight}
 use Rattle.word.specs.Word.{wordAt}
@@ -36,8 +36,8 @@ either (inr b) f g = g b
 -- ---- wrong
 
 each-is : (s : List ℕ) → ((i : ℕ) → getD s i 0 < 256) → Each IsByte s
-each-is [] h = tt
-each-is (a ∷ s) h = (h 0, each-is s (λ i. h (suc i)))
+each-is [] h = each-none
+each-is (a ∷ s) h = each-more (h 0) (each-is s (λ i. h (suc i)))
 
 -- an object has its contents: what is read is written back as long
 pub short : (s : List ℕ) → ((i : ℕ) → getD s i 0 < 256) → length s < 100 → readObject s ≡ none

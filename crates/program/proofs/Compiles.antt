@@ -16,7 +16,7 @@ use Rattle.rules_deck.specs.Translation.{translate}
 use Rattle.rules_deck.specs.Cards.{cardLength}
 use Rattle.rules_deck.specs.Seen.{objectIn}
 use Rattle.rules_deck.specs.Compile.{Read, notRead, read, deckOf, writeRead, compiling}
-use Rattle.rules_deck.proofs.RefusedDeck.{ReadSome, refused-some}
+use Rattle.rules_deck.proofs.RefusedDeck.{ReadNumbered, refused-numbered}
 use Rattle.rules_program.specs.Text.{refusedLine}
 use Rattle.rules_program.specs.Program.{controlDigits, printedObject, mostBytes, writtenLines, compiledLines, deckLines, printed}
 use Rattle.rules_program.specs.Tidy.{TidyObject}
@@ -37,7 +37,7 @@ compiled-printed number place n object e = ap (λ (m : ℕ). writtenLines (writt
 module _ (k : ℕ) (deck output : List ℕ) where
   object-from : (r : Read) → deckOf k deck ≡ r → writeRead k output r .refusal .number ≡ 0 → Object (writeRead k output r .length) (writeRead k output r .output)
   unfolding write
-  object-from (notRead r) e z = absurd (let p : 0 < r .number = subst ReadSome e (refused-some k deck) in omega (arith, p, z))
+  object-from (notRead r) e z = absurd (let p : 0 < r .number = subst ReadNumbered e (refused-numbered k deck) .0 in omega (arith, p, z))
   object-from (read statements) e z = wrote (leb (length (objectBytes (translate k statements))) (length output)) z
     where
       wrote : (b : Bool) → writtenIf b (objectBytes (translate k statements)) output .refusal .number ≡ 0

@@ -17,7 +17,8 @@ use Rattle.rules_object.proofs.Refusals.{run-keeps, bench-keeps, map-keeps, ben
 use Rattle.rules_object.proofs.RoundTrip.{reads-back, writes-back}
 use Rattle.rules_deck.specs.Translation.{translate}
 use Rattle.rules_deck.specs.Compile.{Read, notRead, read, deckOf, writeRead, compiling}
-use Rattle.rules_deck.proofs.OneForm.{no-two-forms}
+use Rattle.rules_deck.proofs.Spellings.{spell-read, own-text, read-exactly, one-spelled}
+use Rattle.rules_deck.proofs.NoForm.{ten-exactly}
 use Rattle.rules_deck.proofs.CompiledWritable.{compiled-writable}
 use Rattle.rules_deck.proofs.Proved.{decks-right}
 use Rattle.promises.specs.Promises.{Kept, RefusalKeeps, RoundTrip}
@@ -75,6 +76,9 @@ kept =
       neverAbove = above-kept;
       refusalKeeps = keeps;
       roundTrip = round;
-      noTwoForms = no-two-forms;
+      readExactly = read-exactly;
+      readBack = (spell-read, own-text);
+      noTwoForms = λ text f g p q. one-spelled p q;
+      tenExactly = ten-exactly;
       table = record { decks = decks-right; p9 = p9; p10 = p10; p11 = p11; p12 = p12 };
     }

@@ -23,7 +23,7 @@ use Rattle.rules_deck.specs.Cells.{key, slotCell, Has, Holds}
 use Rattle.rules_deck.specs.Seen.{objectIn, cellIn, cellInObject, namedCell, cellValue, namedValues}
 use Rattle.rules_deck.proofs.AcceptedDeck.{accepted as accepted-deck}
 use Rattle.rules_deck.proofs.CompiledWritable.{compiled-reads, compiled-checked}
-use Rattle.rules_deck.proofs.RefusedDeck.{ReadSome, refused-some}
+use Rattle.rules_deck.proofs.RefusedDeck.{ReadNumbered, refused-numbered}
 use Rattle.rules_deck.proofs.SeenCells.{told, has-cell, cell-has}
 use Rattle.promises.specs.Promises.{Compiled}
 
@@ -45,7 +45,7 @@ unfolding compiling write
 made {k} {deck} {object} c = go (deckOf k deck) refl (c .accepts) (c .writes)
   where
     go : (r : Read) → deckOf k deck ≡ r → writeRead k (c .output) r .refusal ≡ accepted → objectIn (writeRead k (c .output) r) ≡ object → Made k deck object
-    go (notRead r) e a w = absurd (not-accepted r (subst ReadSome e (refused-some k deck)) a)
+    go (notRead r) e a w = absurd (not-accepted r (subst ReadNumbered e (refused-numbered k deck) .0) a)
     go (read statements) e a w =
         record { statements = statements; reads = e; bytes = sym w ∙ wrote (leb (length (objectBytes (translate k statements))) (length (c .output))) (objectBytes (translate k statements)) (c .output) a }
 

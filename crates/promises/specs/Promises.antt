@@ -15,7 +15,6 @@ use Rattle.rules_object.specs.Halts.{haltNumber}
 use Rattle.rules_shared.specs.Choose.{positive, place}
 use Rattle.rules_object.specs.Object.{Named, Object}
 use Rattle.rules_object.specs.Bytes.{objectBytes, readObject}
-use Rattle.rules_shared.specs.Lists.{Each}
 use Rattle.rules_object.specs.Writable.{IsByte, Writable}
 use Rattle.rules_object.specs.Machine.{State, cell, step}
 use Rattle.rules_object.specs.Check.{span, flowOf, benchStep, right41}
@@ -26,14 +25,16 @@ use Rattle.rules_shared.specs.Output.{notWritten}
 use Rattle.rules_object.specs.Calls.{checking, Lent, taken, Ran, notRun, running, benching, mapping}
 use Rattle.rules_object.specs.Safe.{Right, ranWithCells, afterSteps, freshLent, In}
 use Rattle.rules_object.specs.Small.{wordHLT, wordCON, wordADD, wordJMP, object, codeOnly}
+use Rattle.rules_object.specs.Each.{Each}
 use Rattle.rules_object.specs.Promised.{Judged, rightStore, Runnable, TouchesOnly, StepsOf}
-use Rattle.rules_deck.specs.Trees.{Name, Statement}
+use Rattle.rules_deck.specs.Trees.{Name, Statement, Form}
 use Rattle.rules_deck.specs.Deck.{Do, endings}
-use Rattle.rules_deck.specs.Grammar.{readings}
+use Rattle.rules_deck.specs.Grammar.{formOf}
 use Rattle.rules_deck.specs.Meaning.{Cause, Key, bounds, Standing}
 use Rattle.rules_deck.specs.Translation.{addressAt, filled}
 use Rattle.rules_deck.specs.Compile.{deckOf, compiling}
 use Rattle.rules_deck.specs.Accepted.{Among}
+use Rattle.rules_deck.specs.Spelling.{spellForm, Spells, Spellable, withoutPluses, NoForm}
 use Rattle.rules_deck.specs.Seen.{statementsOf, meaningOf, haltOf, deckSteps, InStatement, deckNames, deckDims, deckLevels, objectIn, namedCell, namedValues, lineOf, series, sum}
 use Rattle.rules_deck.specs.Worked.{decks, DecksRight}
 
@@ -275,10 +276,25 @@ RoundTrip =
     ((object : List ℕ) (o : Object) → Each IsByte object → readObject object ≡ some o → objectBytes o ≡ object) ×
     ((k : ℕ) (deck object : List ℕ) → Compiled k deck object → (o : Object) × (Writable o × (objectBytes o ≡ object)))
 
--- ---- 10. No text is of two statement forms
+-- ---- 10. The grammar, both ways
 
+-- A text is read as a form exactly if it spells the form.
+abbrev pub ReadExactly : Type 0
+ReadExactly = (text : List ℕ) (f : Form) → (formOf text ≡ some f) ↔ Spells text f
+
+-- Every form written out is read back as itself, and what is read is its form's own text but for plus signs that no tree keeps.
+abbrev pub ReadBack : Type 0
+ReadBack =
+    ((f : Form) → Spellable f → formOf (spellForm f) ≡ some f) ×
+    ((text : List ℕ) (f : Form) → formOf text ≡ some f → Spellable f × (withoutPluses text ≡ spellForm f))
+
+-- No text is of two statement forms.
 abbrev pub NoTwoForms : Type 0
-NoTwoForms = (text : List ℕ) → length (readings text) ≤ 1
+NoTwoForms = (text : List ℕ) (f g : Form) → Spells text f → Spells text g → f ≡ g
+
+-- 10 is given exactly for a statement whose text spells no form, where the cards are right and the statements before it pass.
+abbrev pub TenExactly : Type 0
+TenExactly = (k : ℕ) (deck output : List ℕ) (q : ℕ) → (compiling k deck output .refusal ≡ refusal 10 (suc q) 0) ↔ NoForm k deck q
 
 -- ---- 11. P1 to P12
 
@@ -321,5 +337,8 @@ pub record Kept : Type 0 where
   pub neverAbove : NeverAbove
   pub refusalKeeps : RefusalKeeps
   pub roundTrip : RoundTrip
+  pub readExactly : ReadExactly
+  pub readBack : ReadBack
   pub noTwoForms : NoTwoForms
+  pub tenExactly : TenExactly
   pub table : Table

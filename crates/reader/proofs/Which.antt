@@ -7,10 +7,12 @@ use mathlib.Core.Option.{Option, none, some}
 use Prim.Native.Nat.{ℕ}
 use native.Mathlib.Omega.{arith}
 use lib.ListN.{length, take}
+use Rattle.rules_object.specs.Each.{each-more}
+use Rattle.rules_object.proofs.EachLaws.{each-one}
 use Rattle.rules_deck.specs.Trees.{Form, assign, goTo, computed, ifs, loop, continue, stop, end, dimension}
 use Rattle.rules_deck.specs.Tokens.{comma, equals, wordContinue, wordStop, wordEnd, Reader, give, afterWord, whole}
 use Rattle.rules_deck.specs.Grammar.{plainGoTo, doLoop, readAssignment, readGoTo, readComputed, readIf, readDo, readContinue, readStop, readEnd, readDimension, present, readings, firstOf, formOf}
-use Rattle.rules_deck.proofs.Readers.{all-more, all-one, Any, Good, good-then, good-give, good-after, good-word, good-choose, good-any, good-number, good-name}
+use Rattle.rules_deck.proofs.Readers.{Any, Good, good-then, good-give, good-after, good-word, good-choose, good-any, good-number, good-name}
 use Rattle.rules_deck.proofs.ReadForms.{whole-good, good-parameter}
 use Rattle.rules_deck.proofs.OneForm.{form-is}
 use Rattle.forms.specs.declared.Statement.{Statement}
@@ -72,13 +74,13 @@ wordless r s g = go (whole r s) refl
 
 pub go-to-words : (s : List ℕ) → words (readGoTo s) ≡ []
 unfolding readGoTo plainGoTo formWords
-go-to-words s = wordless plainGoTo s (good-word (all-more tt (all-more tt (all-more tt (all-one tt)))) (good-then (good-any good-number) (λ n q. good-give _ refl)))
+go-to-words s = wordless plainGoTo s (good-word (each-more tt (each-more tt (each-more tt (each-one tt)))) (good-then (good-any good-number) (λ n q. good-give _ refl)))
 
 pub do-words : (s : List ℕ) → words (readDo s) ≡ []
 unfolding readDo doLoop formWords
 do-words s =
     wordless doLoop s
-    (good-word (all-more tt (all-one tt)) (good-then (good-any good-number) (λ n qn. good-then (good-any good-name) (λ v qv.
+    (good-word (each-more tt (each-one tt)) (good-then (good-any good-number) (λ n qn. good-then (good-any good-name) (λ v qv.
     good-after equals tt (good-then (good-any good-parameter) (λ p qp. good-after comma tt (good-then (good-any good-parameter) (λ q qq.
     good-choose _ (good-after comma tt (good-then (good-any good-parameter) (λ r qr. good-give _ refl))) (good-give _ refl)))))))))
 

@@ -10,6 +10,7 @@ use mathlib.Core.Option.{Option, none, some}
 use lib.ListN.{length, getElem?, take}
 use Rattle.rules_shared.specs.Limits.{limits}
 use Rattle.rules_shared.specs.Refusals.{Refusal}
+use Rattle.rules_object.specs.Each.{Each, each-none, each-more}
 use Rattle.rules_deck.specs.Trees.{Form, Statement}
 use Rattle.rules_deck.specs.Cards.{characters, Punched, textOf, Carded, cardsRefused, statements, carded, rightDigits}
 use Rattle.rules_deck.specs.Grammar.{formOf}
@@ -17,7 +18,7 @@ use Rattle.rules_deck.specs.Judge.{Taken, nothingTaken, takes, wrong, ri
 use Rattle.rules_deck.specs.Whole.{judgeDeck}
 use Rattle.rules_deck.specs.Compile.{Read, notRead, read, withStatement, afterJudging, afterReading, readText, readFrom, readCarded, orRefuse, judgeRead, deckOf}
 use Rattle.rules_deck.specs.Accepted.{takenFrom, takenBefore, JudgedAt, Accepted}
-use Rattle.rules_deck.proofs.CardsLaws.{Each, empty, also, TextCharacter, textLimit, RightStatement, statements-right, statements-few}
+use Rattle.rules_deck.proofs.CardsLaws.{TextCharacter, textLimit, RightStatement, statements-right, statements-few}
 use Rattle.rules_deck.proofs.TestLaws.{clash, else-both, not-wrong}
 use Rattle.rules_deck.proofs.TakenLaws.{before-next}
 
@@ -40,8 +41,8 @@ data FromRead (k q : ℕ) (t : Taken) (n : ℕ) : Read → Type 0 where
   is : {deck : List Statement} → From k q t deck → length deck ≡ n → FromRead k q t n (read deck)
 
 all-characters : {s : List ℕ} → Each TextCharacter s → characters s ≡ true
-all-characters empty = refl
-all-characters (also p h) = rw (p .is) (all-characters h)
+all-characters each-none = refl
+all-characters (each-more p h) = rw (p .is) (all-characters h)
 
 module _ (k q : ℕ) (t : Taken) (p : Punched) (right : RightStatement p) (n : ℕ) where
   with-statement : (f : Form) → formOf (textOf (p .raw)) ≡ some f → judgeForm k q f t ≡ none → (rest : Read) → FromRead k (suc q) (takes q f t) n rest →
@@ -67,8 +68,8 @@ module _ (k q : ℕ) (t : Taken) (p : Punched) (right : RightStatement p) (n : �
   read-text rest h (c ∷ text) e = after-reading rest h (formOf (c ∷ text)) (ap formOf e)
 
 read-from : (k q : ℕ) (t : Taken) (ps : List Punched) → Each RightStatement ps → FromRead k q t (length ps) (readFrom k q t ps)
-read-from k q t [] empty = is nothing refl
-read-from k q t (p ∷ ps) (also r h) = read-text k q t p r (length ps) _ (λ u. read-from k (suc q) u ps h) (textOf (p .raw)) refl
+read-from k q t [] each-none = is nothing refl
+read-from k q t (p ∷ ps) (each-more r h) = read-text k q t p r (length ps) _ (λ u. read-from k (suc q) u ps h) (textOf (p .raw)) refl
 
 passed-at : {k q : ℕ} {t : Taken} (deck : List Statement) → From k q t deck → (j : ℕ) (s : Statement) → getElem? deck j ≡ some s →
     Passed k (q + j) (takenFrom q (take j deck) t) s

@@ -14,17 +14,20 @@ use borrow.Author.Tests.{leb-true}
 use Rattle.rules_shared.specs.Limits.{limits}
 use Rattle.rules_shared.specs.Lists.{all}
 use Rattle.rules_object.specs.Object.{Named}
-use Rattle.rules_object.specs.Check.{span}
+use Rattle.rules_object.specs.Check.{span, isLetter, isDigit}
+use Rattle.rules_object.specs.Each.{Each, each-more}
+use Rattle.rules_object.proofs.EachLaws.{each-map}
 use Rattle.rules_deck.specs.Trees.{Name, Array, array, arrayNames, Form, assign, goTo, computed, ifs, loop, continue, stop, end, dimension, Statement, formNames}
-use Rattle.rules_deck.specs.Tokens.{isDigit, isLetter, isLetterOrDigit}
+use Rattle.rules_deck.specs.Tokens.{isLetterOrDigit}
 use Rattle.rules_deck.specs.Deck.{sameName, Dims, Declared, declare, arraysIn, dimsIn, dimsOf}
 use Rattle.rules_deck.specs.Meaning.{plain}
 use Rattle.rules_deck.specs.Translation.{Held, name, hidden, cellCount, isName, isArray, holds, cellOf, baseOf, appear, formPlain, hiddenIn, brings, heldFrom, heldOf, filled, namesFrom}
 use Rattle.rules_deck.specs.Judge.{startsInteger, right11, Reference, rightReference, rightCount, formReferences, right16}
 use Rattle.rules_deck.specs.Accepted.{Among, here, there, Accepted}
 use Rattle.rules_deck.specs.Cells.{key, Has, namesHeld}
+use Rattle.rules_deck.specs.Spelling.{IsName, is-name}
 use Rattle.rules_deck.proofs.CardsLaws.{cases}
-use Rattle.rules_deck.proofs.Readers.{All, all-more, all-map, IsName, is-name, both-true, digit-bounds, letter-bounds}
+use Rattle.rules_deck.proofs.Readers.{both-true, digit-bounds, letter-bounds}
 use Rattle.rules_deck.proofs.ReadForms.{read-names}
 use Rattle.rules_deck.proofs.CellLaws.{holds-right}
 use Rattle.rules_deck.proofs.Names.{name-same}
@@ -187,9 +190,9 @@ name-kind k deck c v i = go (form-covered (i .statement .form) (i .among))
     go (inl a) = covered a
     go (inr a) = inr (declared-has deck (i .position) (i .statement) v (i .at) a)
 
-pub all-here : {A : Type 0} {P : A → Type 0} {l : List A} {x : A} → All P l → Among x l → P x
-all-here (all-more p ps) here = p
-all-here (all-more p ps) (there a) = all-here ps a
+pub each-here : {A : Type 0} {P : A → Type 0} {l : List A} {x : A} → Each P l → Among x l → P x
+each-here (each-more p ps) here = p
+each-here (each-more p ps) (there a) = each-here ps a
 
 letter-or-digit : (c : ℕ) → isLetterOrDigit c ≡ true → c ≡ 32 → ⊥
 unfolding isLetterOrDigit
@@ -200,12 +203,12 @@ letter-or-digit c e z = go (isLetter c) refl e
     go false p q = omega (arith, digit-bounds c q)
 
 name-solid : {v : Name} → IsName v → NoBlank v
-name-solid (is-name {c} p ps) = all-more (λ (z : c ≡ 32). omega (arith, letter-bounds c p)) (all-map letter-or-digit ps)
+name-solid (is-name {c} p ps) = each-more (λ (z : c ≡ 32). omega (arith, letter-bounds c p)) (each-map letter-or-digit ps)
 
 pub solid : (k : ℕ) (deck : List Statement) → Accepted k deck → (v : Name) → InDeck deck v → NoBlank v
 solid k deck c v i =
     let j = c .judged (i .position) (i .statement) (i .at) in
-    name-solid (all-here (read-names (j .text) (i .statement .form) (j .form)) (i .among))
+    name-solid (each-here (read-names (j .text) (i .statement .form) (j .form)) (i .among))
 
 module _ (k : ℕ) (deck : List Statement) (c : Accepted k deck) where
   one-entry : (v : Name) (at : ℕ) (d : Dims) → Among v (namesHeld (heldOf deck)) → Listed (namesFrom 0 (heldOf deck)) (entryOf v at d) → OneEntry deck v (entryOf v at d)

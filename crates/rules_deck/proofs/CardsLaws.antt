@@ -12,26 +12,14 @@ use lib.Seq.{take-nil, take-add, take-take, getD-take}
 use borrow.Author.Tests.{leb-true, eqb-true, eqb-false}
 use Rattle.rules_shared.specs.Limits.{limits}
 use Rattle.rules_object.specs.Check.{blanks}
+use Rattle.rules_object.specs.Each.{Each, each-none, each-more}
+use Rattle.rules_object.proofs.EachLaws.{each-append, each-right}
 use Rattle.rules_deck.specs.Trees.{valueOf}
 use Rattle.rules_deck.specs.Cards.{cardsOf, columnsRead, numberColumns, textLength, textColumns, comment, firstCard, character, characters, allDigits, withoutBlanks, readAs, textOf, Punched, numberOf, rightNumber, Reading, nothingRead, wrongFirst, wrongContinuation, wrongCharacters, wrongCard, started, extended, continued, afterCard, Carded, cardsRefused, statements, cardByCard, rightDigits, rightLength, counted, carded}
 
--- ---- every one of a list
-
-pub data Each {A : Type 0} (P : A → Type 0) : List A → Type 0 where
-  empty : Each P []
-  also : {a : A} {l : List A} → P a → Each P l → Each P (a ∷ l)
-
-each-append : {A : Type 0} {P : A → Type 0} {s t : List A} → Each P s → Each P t → Each P (s ++ t)
-each-append empty h = h
-each-append (also p g) h = also p (each-append g h)
-
-each-right : {A : Type 0} {P : A → Type 0} (s t : List A) → Each P (s ++ t) → Each P t
-each-right [] t h = h
-each-right (a ∷ s) t (also p h) = each-right s t h
-
-each-map : {A B : Type 0} {P : A → Type 0} {Q : B → Type 0} (f : A → B) → ((a : A) → P a → Q (f a)) → {s : List A} → Each P s → Each Q (map f s)
-each-map f g empty = empty
-each-map f g (also p h) = also (g _ p) (each-map f g h)
+each-mapped : {A B : Type 0} {P : A → Type 0} {Q : B → Type 0} (f : A → B) → ((a : A) → P a → Q (f a)) → {s : List A} → Each P s → Each Q (map f s)
+each-mapped f g each-none = each-none
+each-mapped f g (each-more p h) = each-more (g _ p) (each-mapped f g h)
 
 pub cases : {A : Type 0} (P : A → Type 0) (b : Bool) (x y : A) → (b ≡ true → P x) → (b ≡ false → P y) → P (cond b x y)
 cases P true x y f g = f refl
@@ -54,8 +42,8 @@ pub record TextCharacter (c : ℕ) : Type 0 where
   pub no-dollar : c ≡ 36 → ⊥
 
 each-character : (s : List ℕ) → characters s ≡ true → Each Character s
-each-character [] e = empty
-each-character (c ∷ s) e = let b = and-both (character c) (characters s) e in also (record { is = b .0 }) (each-character s (b .1))
+each-character [] e = each-none
+each-character (c ∷ s) e = let b = and-both (character c) (characters s) e in each-more (record { is = b .0 }) (each-character s (b .1))
 
 -- one of them and no blank
 record Solid (c : ℕ) : Type 0 where
@@ -63,10 +51,10 @@ record Solid (c : ℕ) : Type 0 where
   no-blank : c ≡ 32 → ⊥
 
 solid : {s : List ℕ} → Each Character s → Each Solid (withoutBlanks s)
-solid empty = empty
-solid (also {a = c} {l = s} p h) =
+solid each-none = each-none
+solid (each-more {x = c} {xs = s} p h) =
     cases (λ (l : List ℕ). Each Solid l) (eqb c 32) (withoutBlanks s) (c ∷ withoutBlanks s) (λ e. solid h)
-    (λ e. also (record { is = p .is; no-blank = eqb-false c 32 e }) (solid h))
+    (λ e. each-more (record { is = p .is; no-blank = eqb-false c 32 e }) (solid h))
 
 read-as : (c : ℕ) → Solid c → TextCharacter (readAs c)
 unfolding character
@@ -77,7 +65,7 @@ read-as c p =
 -- every byte of a text, where what is punched are characters
 pub text-characters : {raw : List ℕ} → Each Character raw → Each TextCharacter (textOf raw)
 unfolding textOf
-text-characters h = each-map readAs read-as (solid h)
+text-characters h = each-mapped readAs read-as (solid h)
 
 length-solid : (s : List ℕ) → length (withoutBlanks s) ≤ length s
 length-solid [] = omega arith
@@ -171,9 +159,9 @@ data Begun (room : ℕ) : List Punched → Type 0 where
   before : {p q : Punched} {ps : List Punched} → RightStatement p → Begun room (q ∷ ps) → Begun room (p ∷ q ∷ ps)
 
 each-begun : {room : ℕ} {ps : List Punched} → Begun room ps → Each RightStatement ps
-each-begun nothing = empty
-each-begun (last f h) = also f empty
-each-begun (before f b) = also f (each-begun b)
+each-begun nothing = each-none
+each-begun (last f h) = each-more f each-none
+each-begun (before f b) = each-more f (each-begun b)
 
 one-more : {room more : ℕ} {p : Punched} {ps : List Punched} → Begun room ps → RightStatement p → length (p .raw) + more * textLength ≤ textLimit → Begun more (ps ++ (p ∷ []))
 one-more nothing f h = last f h

@@ -19,15 +19,15 @@ use Rattle.rules_object.specs.Check.{right41, rightConstant, rightSubscript, ri
 use Rattle.rules_shared.specs.Refusals.{atEntry}
 use Rattle.rules_shared.specs.Lists.{firstBad}
 use Rattle.rules_object.specs.Calls.{refused42, refused43}
-use Rattle.rules_shared.specs.Lists.{Each}
-use Rattle.rules_object.proofs.Words.{each-map}
+use Rattle.rules_object.specs.Each.{Each, each-none, each-more}
+use Rattle.rules_object.proofs.EachLaws.{each-one, each-map}
 use Rattle.rules_deck.specs.Trees.{Name, Statement}
-use Rattle.rules_deck.specs.Tokens.{isDigit, isLetter, isLetterOrDigit}
+use Rattle.rules_deck.specs.Tokens.{isLetterOrDigit}
 use Rattle.rules_deck.specs.Judge.{startsInteger}
 use Rattle.rules_deck.specs.Translation.{heldOf, cellCount, codeOf, filled, translate}
 use Rattle.rules_deck.specs.Accepted.{Accepted}
+use Rattle.rules_deck.specs.Spelling.{Passes, IsName, is-name}
 use Rattle.rules_deck.proofs.CardsLaws.{and-both}
-use Rattle.rules_deck.proofs.Readers.{All, all-none, all-more, Passes, IsName, is-name}
 use Rattle.rules_deck.proofs.TestLaws.{both, or-either, at-before}
 use Rattle.rules_deck.proofs.Addresses.{at-head, at-tail, at-fits, at-some}
 use Rattle.rules_deck.proofs.Tables.{getD-at, slice-at, InTables}
@@ -40,10 +40,10 @@ use Rattle.rules_deck.proofs.RightDeck.{each-place, LoopWithin, LineWit
 
 none-bad : {A : Type 0} (test : A → Bool) (l : List A) (i : ℕ) → Each (λ x. test x ≡ true) l → firstBad test l i ≡ none
 none-bad test [] i h = refl
-none-bad test (x ∷ l) i h = rw (h .0) (none-bad test l (suc i) (h .1))
+none-bad test (x ∷ l) i (each-more h hs) = rw h (none-bad test l (suc i) hs)
 
 none-of : {A : Type 0} (P : A → Type 0) (test : A → Bool) (l : List A) → ((x : A) → P x → test x ≡ true) → Each P l → firstBad test l 0 ≡ none
-none-of P test l f h = none-bad test l 0 (each-map P (λ x. test x ≡ true) f l h)
+none-of P test l f h = none-bad test l 0 (each-map f h)
 
 -- ---- names
 
@@ -58,12 +58,12 @@ tail-blank (suc i) zero b = refl
 tail-blank (suc i) (suc t) zero = refl
 tail-blank (suc i) (suc t) (suc b) = blanks-only t b
 
-tail-right : (i t b : ℕ) (s : List ℕ) → length s ≤ i → All (Passes isLetterOrDigit) s → nameTail i (take t (s ++ replicate b 32)) ≡ true
-unfolding isLetterOrDigit isLetter isDigit
-tail-right i t b [] l all-none = tail-blank i t b
+tail-right : (i t b : ℕ) (s : List ℕ) → length s ≤ i → Each (Passes isLetterOrDigit) s → nameTail i (take t (s ++ replicate b 32)) ≡ true
+unfolding isLetterOrDigit
+tail-right i t b [] l each-none = tail-blank i t b
 tail-right zero t b (c ∷ s) l h = absurd (omega arith)
 tail-right (suc i) zero b (c ∷ s) l h = refl
-tail-right (suc i) (suc t) b (c ∷ s) l (all-more p ps) = rw p (tail-right i t b s (omega arith) ps)
+tail-right (suc i) (suc t) b (c ∷ s) l (each-more p ps) = rw p (tail-right i t b s (omega arith) ps)
 
 name-right : (v : Name) → ProperName v → rightName (filled v) ≡ true
 name-right v p = go v (p .name) (p .short) (p .integer)
@@ -130,7 +130,7 @@ module _ {o : Object} {m n c : ℕ} (sizes : Sizes o m n c) where
 
   targets-right : (ts : List ℕ) → Each (λ t. t < n) ts → targets o ts ≡ true
   targets-right [] h = refl
-  targets-right (t ∷ ts) h = both (ltb t (length (o .code))) (targets o ts) (in-code t (h .0)) (targets-right ts (h .1))
+  targets-right (t ∷ ts) (each-more h hs) = both (ltb t (length (o .code))) (targets o ts) (in-code t h) (targets-right ts hs)
 
   operand-right : (i : Instr) (x : ℕ) → Right m n c i → InTables o i x → getD operandTests (operationNumber i) unknownOperation o x ≡ true
   operand-right (HLT y) x r h = le-leb x 1 (omega arith)
@@ -147,7 +147,7 @@ module _ {o : Object} {m n c : ℕ} (sizes : Sizes o m n c) where
   operand-right (JMP a) x r h = in-code x (omega arith)
   operand-right (BR3 t u v) x r h =
       both (ltb (x + 2) (length (o .exits))) _ (lt-ltb (x + 2) (length (o .exits)) (omega (arith, at-fits x t (u ∷ v ∷ []) h)))
-      (ap (targets o) (slice-at x (t ∷ u ∷ v ∷ []) h) ∙ targets-right (t ∷ u ∷ v ∷ []) (r .0, (r .1, (r .2, tt))))
+      (ap (targets o) (slice-at x (t ∷ u ∷ v ∷ []) h) ∙ targets-right (t ∷ u ∷ v ∷ []) (each-more (r .0) (each-more (r .1) (each-one (r .2)))))
   operand-right (BRC ts) x r h =
       let e : exitAt o x ≡ length ts = getD-at (o .exits) x (length ts) 0 (at-head h) in
       let one : x + 1 ≡ suc x = omega arith in

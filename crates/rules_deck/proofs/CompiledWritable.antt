@@ -15,19 +15,20 @@ use Rattle.rules_object.specs.Object.{SubscriptEntry, Element, Loop, Line, Name
 use Rattle.rules_object.specs.Bytes.{objectBytes, readObject}
 use Rattle.rules_object.specs.Machine.{Instr, HLT, CON, LOD, STO, LDE, STE, OP, NEG, JMP, BR3, BRC, DOI, DOE, operationOf}
 use Rattle.rules_object.specs.Flow.{Reached}
-use Rattle.rules_object.specs.Check.{span, operationNumber, flowOf}
+use Rattle.rules_object.specs.Check.{span, operationNumber, flowOf, isLetter, isDigit}
 use Rattle.rules_object.specs.Calls.{passed, checked, verdict, checking}
-use Rattle.rules_shared.specs.Lists.{Each}
 use Rattle.rules_object.specs.Writable.{IsByte, IsWord, IsSigned, WritableSubscript, WritableElement, WritableLoop, WritableLine, WritableNamed, Writable}
-use Rattle.rules_object.proofs.Words.{each-map, each-append, each-take}
+use Rattle.rules_object.specs.Each.{Each, each-none, each-more}
+use Rattle.rules_object.proofs.EachLaws.{each-map, each-append, each-take}
 use Rattle.rules_object.proofs.RoundTrip.{reads-back}
 use Rattle.rules_deck.specs.Trees.{Name, Statement}
-use Rattle.rules_deck.specs.Tokens.{isDigit, isLetter, isLetterOrDigit}
+use Rattle.rules_deck.specs.Tokens.{isLetterOrDigit}
 use Rattle.rules_deck.specs.Translation.{filled, translate}
 use Rattle.rules_deck.specs.Compile.{read, deckOf}
 use Rattle.rules_deck.specs.Seen.{levelsIn}
 use Rattle.rules_deck.specs.Accepted.{Accepted}
-use Rattle.rules_deck.proofs.Readers.{All, all-none, all-more, Passes, IsName, is-name, digit-bounds, letter-bounds}
+use Rattle.rules_deck.specs.Spelling.{Passes, IsName, is-name}
+use Rattle.rules_deck.proofs.Readers.{digit-bounds, letter-bounds}
 use Rattle.rules_deck.proofs.TestLaws.{or-one}
 use Rattle.rules_deck.proofs.FittingDeck.{fitting}
 use Rattle.rules_deck.proofs.Emitted.{code-length, sized}
@@ -47,20 +48,20 @@ filled-eight v =
     omega arith
 
 blank-bytes : (b : ℕ) → Each IsByte (replicate b 32)
-blank-bytes zero = tt
-blank-bytes (suc b) = (omega arith, blank-bytes b)
+blank-bytes zero = each-none
+blank-bytes (suc b) = each-more {x = 32} (omega arith) (blank-bytes b)
 
-tail-bytes : (s : List ℕ) → All (Passes isLetterOrDigit) s → Each IsByte s
+tail-bytes : (s : List ℕ) → Each (Passes isLetterOrDigit) s → Each IsByte s
 unfolding isLetterOrDigit
-tail-bytes [] all-none = tt
-tail-bytes (c ∷ s) (all-more p ps) = (go (or-one (isLetter c) (isDigit c) p), tail-bytes s ps)
+tail-bytes [] each-none = each-none
+tail-bytes (c ∷ s) (each-more p ps) = each-more (go (or-one (isLetter c) (isDigit c) p)) (tail-bytes s ps)
   where
     go : (isLetter c ≡ true) ⊎ (isDigit c ≡ true) → c < 256
     go (inl h) = omega (arith, letter-bounds c h)
     go (inr h) = omega (arith, digit-bounds c h)
 
 name-bytes : (v : Name) → IsName v → Each IsByte v
-name-bytes (c ∷ s) (is-name q qs) = (omega (arith, letter-bounds c q), tail-bytes s qs)
+name-bytes (c ∷ s) (is-name q qs) = each-more {x = c} (omega (arith, letter-bounds c q)) (tail-bytes s qs)
 
 -- ---- entries
 
@@ -108,7 +109,7 @@ module _ {m n cells : ℕ} (digits : m ≤ 1000000000) (code : n ≤ limits .cod
   named-writable e h =
       record {
         eight = rw (h .named) (filled-eight (h .of));
-        bytes = rw (h .named) (each-take IsByte 8 (h .of ++ replicate 8 32) (each-append IsByte (h .of) (replicate 8 32) (name-bytes (h .of) (h .proper .name)) (blank-bytes 8)));
+        bytes = rw (h .named) (each-take 8 (h .of ++ replicate 8 32) (each-append (name-bytes (h .of) (h .proper .name)) (blank-bytes 8)));
         first = omega (arith, h .inside .within);
         rows = omega (arith, h .inside .within, span-rows (e .rows) (e .columns));
         columns = go (h .inside .either);
@@ -155,13 +156,13 @@ module _ {k : ℕ} {deck : List Statement} (accepted : Accepted k deck) where
       record {
         digits = omega (arith, digits-right accepted .1);
         cells = omega (arith, c);
-        constants = each-map _ IsWord (λ x h. omega arith) (o .constants) (t .constants);
-        elements = each-map _ WritableElement (element-writable d n c) (o .elements) (t .elements);
-        exits = each-map _ IsWord (λ x h. omega arith) (o .exits) (t .exits);
-        dos = each-map _ WritableLoop (loop-writable d n c) (o .dos) (right-loops accepted);
+        constants = each-map (λ x h. omega arith) (t .constants);
+        elements = each-map (element-writable d n c) (t .elements);
+        exits = each-map (λ x h. omega arith) (t .exits);
+        dos = each-map (loop-writable d n c) (right-loops accepted);
         code = each-place (o .code) (λ a w e. let x = coded accepted a w e in word-small w (omega (arith, x .2, operation-few (x .0))));
-        lines = each-map _ WritableLine (line-writable d n c) (o .lines) (right-lines accepted);
-        names = each-map _ WritableNamed (named-writable d n c) (o .names) (right-names accepted);
+        lines = each-map (line-writable d n c) (right-lines accepted);
+        names = each-map (named-writable d n c) (right-names accepted);
         someCode = omega (arith, code-length k deck, below deck (stands accepted) 0 (stands accepted .some));
         small = omega (arith, s .constants, s .elements, s .exits, s .dos, s .code, lines-few deck 0 deck, accepted .count, fitting accepted .names);
       }

@@ -9,8 +9,8 @@ use mathlib.Core.Option.{some}
 use lib.ListN.{length, getElem?, getD, length-map}
 use Rattle.rules_object.specs.Object.{Object}
 use Rattle.rules_object.specs.Machine.{Instr, DOE, decode}
-use Rattle.rules_shared.specs.Lists.{Each}
-use Rattle.rules_object.proofs.Words.{each-append}
+use Rattle.rules_object.specs.Each.{Each, each-none, each-more}
+use Rattle.rules_object.proofs.EachLaws.{each-one, each-append}
 use Rattle.rules_deck.specs.Trees.{Name, valueOf, Expr, con, var, elm, neg, par, bin, Target, cell, element, Form, assign, goTo, computed, ifs, loop, continue, stop, end, dimension, Statement}
 use Rattle.rules_deck.specs.Deck.{positionOf, Do, Dims, doOf, dosFrom, dosOf, dimsOf, endings}
 use Rattle.rules_deck.specs.Meaning.{third}
@@ -24,8 +24,8 @@ use Rattle.rules_deck.proofs.Tables.{within-self, Bounded, Sized, Emitt
 
 pub each-at : {A : Type 0} (P : A → Type 0) (l : List A) (a : ℕ) (x : A) → getElem? l a ≡ some x → Each P l → P x
 each-at P [] a x e h = absurd (clash (sym e))
-each-at P (y ∷ l) zero x e h = let same : y ≡ x = cc in subst P same (h .0)
-each-at P (y ∷ l) (suc a) x e h = each-at P l a x e (h .1)
+each-at P (y ∷ l) zero x e (each-more h hs) = let same : y ≡ x = cc in subst P same h
+each-at P (y ∷ l) (suc a) x e (each-more h hs) = each-at P l a x e hs
 
 -- ---- cells are at most the count
 
@@ -45,30 +45,30 @@ cell-most held v = first-most _ held
 
 module _ (o : Object) (held : List Held) (dims : Name → Dims) (cells : (v : Name) → cellOf held v ≤ o .cells) where
   expr-bounded : (e : Expr) → Each (Bounded o) (exprCode held dims e)
-  expr-bounded (con c) = (tt, tt)
-  expr-bounded (var v) = (cells v, tt)
-  expr-bounded (elm v s) = (tt, tt)
-  expr-bounded (neg e) = each-append (Bounded o) (exprCode held dims e) _ (expr-bounded e) (tt, tt)
+  expr-bounded (con c) = each-one tt
+  expr-bounded (var v) = each-one (cells v)
+  expr-bounded (elm v s) = each-one tt
+  expr-bounded (neg e) = each-append (expr-bounded e) (each-one tt)
   expr-bounded (par e) = expr-bounded e
   expr-bounded (bin p a b) =
-      each-append (Bounded o) (exprCode held dims a) _ (expr-bounded a) (each-append (Bounded o) (exprCode held dims b) _ (expr-bounded b) (tt, tt))
+      each-append (expr-bounded a) (each-append (expr-bounded b) (each-one tt))
 
   store-bounded : (t : Target) → Bounded o (storeCode held dims t)
   store-bounded (cell v) = cells v
   store-bounded (element v s) = tt
 
   form-bounded : (address : ℕ → ℕ) (entry : Instr) (f : Form) → ((n : ℕ) → address n ≤ length (o .code)) → Bounded o entry → Each (Bounded o) (formCode held dims address entry f)
-  form-bounded address entry (assign t e) a b = each-append (Bounded o) (exprCode held dims e) _ (expr-bounded e) (store-bounded t, tt)
-  form-bounded address entry (goTo n) a b = (a (valueOf n), tt)
-  form-bounded address entry (computed ns v) a b = (cells v, (tt, tt))
-  form-bounded address entry (ifs e x y z) a b = each-append (Bounded o) (exprCode held dims e) _ (expr-bounded e) (tt, tt)
+  form-bounded address entry (assign t e) a b = each-append (expr-bounded e) (each-one (store-bounded t))
+  form-bounded address entry (goTo n) a b = each-one (a (valueOf n))
+  form-bounded address entry (computed ns v) a b = each-more (cells v) (each-one tt)
+  form-bounded address entry (ifs e x y z) a b = each-append (expr-bounded e) (each-one tt)
   form-bounded address entry (loop n v p₁ p₂ p₃) a b =
-      each-append (Bounded o) (exprCode held dims p₁) _ (expr-bounded p₁)
-      (each-append (Bounded o) (exprCode held dims p₂) _ (expr-bounded p₂) (each-append (Bounded o) (exprCode held dims (third p₃)) _ (expr-bounded (third p₃)) (b, tt)))
-  form-bounded address entry continue a b = tt
-  form-bounded address entry stop a b = (omega arith, tt)
-  form-bounded address entry end a b = (omega arith, tt)
-  form-bounded address entry (dimension arrays) a b = tt
+      each-append (expr-bounded p₁)
+      (each-append (expr-bounded p₂) (each-append (expr-bounded (third p₃)) (each-one b)))
+  form-bounded address entry continue a b = each-none
+  form-bounded address entry stop a b = each-one (omega arith)
+  form-bounded address entry end a b = each-one (omega arith)
+  form-bounded address entry (dimension arrays) a b = each-none
 
 -- ---- the deck's object
 
@@ -91,8 +91,8 @@ module _ (k : ℕ) (deck : List Statement) where
 
   ends-bounded : (ds : List Do) → ((d : Do) → Among d ds → Among d (dosOf deck)) → Each (Bounded (translate k deck)) (map (doInstr deck DOE) ds)
   unfolding translate
-  ends-bounded [] g = tt
-  ends-bounded (d ∷ ds) g = (do-row deck d (g d here), ends-bounded ds (λ c h. g c (there h)))
+  ends-bounded [] g = each-none
+  ends-bounded (d ∷ ds) g = each-more (do-row deck d (g d here)) (ends-bounded ds (λ c h. g c (there h)))
 
   cells-most : (v : Name) → cellOf (heldOf deck) v ≤ translate k deck .cells
   unfolding translate
@@ -101,15 +101,15 @@ module _ (k : ℕ) (deck : List Statement) where
   statement-bounded : (q : ℕ) (s : Statement) → ((d : Do) → Among d (doOf q (s .form)) → Among d (dosOf deck)) → Each (Bounded (translate k deck)) (statementCode deck q s)
   statement-bounded q s g =
       let entry : Instr = enterCode deck q (s .form) in
-      each-append (Bounded (translate k deck)) (formCode (heldOf deck) (dimsOf deck) (addressOf deck) entry (s .form)) (map (doInstr deck DOE) (endings deck (s .number)))
+      each-append
       (form-bounded (translate k deck) (heldOf deck) (dimsOf deck) cells-most (addressOf deck) entry (s .form)
       (λ n. omega (arith, code-length, address-most deck (positionOf deck n))) (entry-bounded q (s .form) g))
       (ends-bounded (endings deck (s .number)) (λ d h. among-endings deck (s .number) d h .0))
 
   from-bounded : (q : ℕ) (more : List Statement) → ((d : Do) → Among d (dosFrom q more) → Among d (dosOf deck)) → Each (Bounded (translate k deck)) (codeFrom deck q more)
-  from-bounded q [] g = tt
+  from-bounded q [] g = each-none
   from-bounded q (s ∷ more) g =
-      each-append (Bounded (translate k deck)) (statementCode deck q s) (codeFrom deck (suc q) more) (statement-bounded q s (λ d h. g d (among-left (dosFrom (suc q) more) h)))
+      each-append (statement-bounded q s (λ d h. g d (among-left (dosFrom (suc q) more) h)))
       (from-bounded (suc q) more (λ d h. g d (among-right (doOf q (s .form)) h)))
 
   code-bounded : Each (Bounded (translate k deck)) (codeOf deck)

@@ -9,7 +9,7 @@ use mathlib.Core.List.{List, [], _∷_}
 use mathlib.Core.Option.{Option, none, some}
 use Rattle.number.specs.Number.{sub, mul, div}
 use Rattle.rules_deck.specs.Trees.{nothing, plus, minus, constant, linear, one, two, con, var, elm, neg, par, bin, cell, element, array, Form, assign, goTo, computed, ifs, loop, continue, stop, end, dimension}
-use Rattle.rules_deck.specs.Tokens.{wordGoTo, wordIf, wordDo, wordContinue, wordStop, wordEnd, wordDimension, isDigit, isLetter, isLetterOrDigit, give, giveIf, ahead, follow, andThen, after, afterWord, choose, starts, startsDigit, allOf, whole, run, digitRun, nameRun, taken, number, name, listedUpTo, listed}
+use Rattle.rules_deck.specs.Tokens.{wordGoTo, wordIf, wordDo, wordContinue, wordStop, wordEnd, wordDimension, isLetterOrDigit, give, giveIf, ahead, follow, andThen, after, afterWord, choose, starts, startsDigit, allOf, whole, run, digitRun, nameRun, taken, number, name, listedUpTo, listed}
 use Rattle.rules_deck.specs.Grammar.{addend, linearOf, subscript, subscripts, place, operandOf, operand, sign, signed, sumOp, productOp, joined, more, step, parseIn, enough, parse, expression, assignment, plainGoTo, rightExits, computedGoTo, arithmeticIf, parameter, doLoop, arrayShape, dimensions, readAssignment, readGoTo, readComputed, readIf, readDo, readContinue, readStop, readEnd, readDimension, present, readings, firstOf, formOf}
 
 abbrev ascii : String → List ℕ
@@ -101,5 +101,5 @@ Holds [] = Unit {0}
 Holds (x ∷ xs) = (formOf (ascii (x .text)) ≡ x .form) × Holds xs
 
 pub examples : Holds table
-unfolding isDigit isLetter isLetterOrDigit give giveIf ahead follow andThen after afterWord choose starts startsDigit allOf whole run digitRun nameRun taken number name listedUpTo listed addend linearOf subscript subscripts place operandOf operand sign signed sumOp productOp joined more step parseIn enough parse expression assignment plainGoTo rightExits computedGoTo arithmeticIf parameter doLoop arrayShape dimensions readAssignment readGoTo readComputed readIf readDo readContinue readStop readEnd readDimension present readings firstOf formOf
+unfolding isLetterOrDigit give giveIf ahead follow andThen after afterWord choose starts startsDigit allOf whole run digitRun nameRun taken number name listedUpTo listed addend linearOf subscript subscripts place operandOf operand sign signed sumOp productOp joined more step parseIn enough parse expression assignment plainGoTo rightExits computedGoTo arithmeticIf parameter doLoop arrayShape dimensions readAssignment readGoTo readComputed readIf readDo readContinue readStop readEnd readDimension present readings firstOf formOf
 examples = (refl, (refl, (refl, (refl, (refl, (refl, (refl, (refl, (refl, (refl, (refl, (refl, (refl, (refl, (refl, (refl, (refl, (refl, (refl, (refl, (refl, (refl, (refl, (refl, (refl, (refl, (refl, (refl, (refl, (refl, (refl, (refl, (refl, (refl, (refl, (refl, (refl, (refl, (refl, (refl, (refl, (refl, (refl, (refl, (refl, (refl, (refl, (refl, (refl, (refl, (refl, (refl, (refl, (refl, (refl, (refl, (refl, tt)))))))))))))))))))))))))))))))))))))))))))))))))))))))))

@@ -12,6 +12,12 @@ pub mod Needs
 pub mod HeightsCompiled
 pub mod Found
 pub mod OneForm
+pub mod Takes
+pub mod ReadBack
+pub mod Tells
+pub mod SpelledText
+pub mod Pluses
+pub mod Spellings
 pub mod Names
 pub mod CellLaws
 pub mod DeckCells
@@ -55,3 +61,4 @@ pub mod CompiledRight
 pub mod CompiledWritable
 pub mod NeverAbove
 pub mod RefusedDeck
+pub mod NoForm

@@ -10,12 +10,12 @@ use native.Mathlib.Omega.{arith}
 use lib.ListN.{length, getElem?, take, replicate}
 use Rattle.rules_object.specs.Object.{Named}
 use Rattle.rules_object.specs.Check.{span}
+use Rattle.rules_object.specs.Each.{Each, each-none, each-more}
 use Rattle.rules_deck.specs.Trees.{Name}
 use Rattle.rules_deck.specs.Deck.{sameName, Dims, dimsIn, Declared, width}
 use Rattle.rules_deck.specs.Translation.{Held, name, array, hidden, arraySize, cellCount, isName, isArray, firstCell, holds, filled, namesFrom}
 use Rattle.rules_deck.specs.Cells.{namesHeld, arraysHeld}
 use Rattle.rules_deck.specs.Accepted.{Among, here, there}
-use Rattle.rules_deck.proofs.Readers.{All, all-none, all-more}
 use Rattle.rules_deck.proofs.Names.{same-name, name-same}
 use Rattle.rules_deck.proofs.TestLaws.{or-one, or-either, among-append, only}
 
@@ -226,16 +226,16 @@ entries-ordered (hidden q ∷ held) at i j e l g h f k = entries-ordered held (a
 -- ---- eight bytes tell a name
 
 abbrev pub NoBlank : Name → Type 0
-NoBlank v = All (λ (c : ℕ). c ≡ 32 → ⊥) v
+NoBlank v = Each (λ (c : ℕ). c ≡ 32 → ⊥) v
 
 pad-inj : (k m : ℕ) (v w : Name) → length v ≤ k → length w ≤ k → NoBlank v → NoBlank w
     → take k (v ++ replicate (suc m) 32) ≡ take k (w ++ replicate (suc m) 32) → v ≡ w
-pad-inj k m [] [] h i all-none all-none e = refl
-pad-inj zero m [] (d ∷ w) h i all-none (all-more q b) e = absurd (omega arith)
-pad-inj (suc k) m [] (d ∷ w) h i all-none (all-more q b) e = absurd (q (let z : d ≡ 32 = cc in z))
+pad-inj k m [] [] h i each-none each-none e = refl
+pad-inj zero m [] (d ∷ w) h i each-none (each-more q b) e = absurd (omega arith)
+pad-inj (suc k) m [] (d ∷ w) h i each-none (each-more q b) e = absurd (q (let z : d ≡ 32 = cc in z))
 pad-inj zero m (c ∷ v) w h i a b e = absurd (omega arith)
-pad-inj (suc k) m (c ∷ v) [] h i (all-more p a) all-none e = absurd (p (let z : c ≡ 32 = cc in z))
-pad-inj (suc k) m (c ∷ v) (d ∷ w) h i (all-more p a) (all-more q b) e =
+pad-inj (suc k) m (c ∷ v) [] h i (each-more p a) each-none e = absurd (p (let z : c ≡ 32 = cc in z))
+pad-inj (suc k) m (c ∷ v) (d ∷ w) h i (each-more p a) (each-more q b) e =
     let y : c ≡ d = cc in
     let x : take k (v ++ replicate (suc m) 32) ≡ take k (w ++ replicate (suc m) 32) = cc in
     let z = pad-inj k m v w (omega arith) (omega arith) a b x in

@@ -11,11 +11,12 @@ use lib.ListN.{length, take, drop, getD, getElem?, length-drop}
 use lib.Seq.{drop-length}
 use lib.Dec.{eqb}
 use borrow.Author.Tests.{ne-eqb}
+use Rattle.rules_object.specs.Each.{Each, each-more}
 use Rattle.rules_deck.specs.Trees.{Name, Expr, con, var, par, cell, element, Form, goTo, continue, stop, end}
 use Rattle.rules_deck.specs.Tokens.{leftParen, rightParen, plusSign, minusSign, comma, equals, wordGoTo, wordIf, wordDo, wordContinue, wordStop, wordEnd, wordDimension, found, Reader, give, andThen, after, afterWord, choose, starts, startsDigit, whole, number, name}
 use Rattle.rules_deck.specs.Grammar.{subscripts, place, operandOf, operand, sign, signed, sumOp, productOp, anExpression, aTerm, aFactor, moreTerms, moreFactors, joined, more, step, parse, expression, assignment, plainGoTo, computedGoTo, arithmeticIf, parameter, doLoop, dimensions, readAssignment, readGoTo, readComputed, readIf, readDo, readContinue, readStop, readEnd, readDimension, present, readings, firstOf, formOf}
 use Rattle.rules_deck.proofs.Parse.{parse-step}
-use Rattle.rules_deck.proofs.Readers.{All, all-more, NotEquals, digit-bounds, letter-bounds, Good, good-number, good-name}
+use Rattle.rules_deck.proofs.Readers.{NotEquals, digit-bounds, letter-bounds, Good, good-number, good-name}
 use Rattle.rules_deck.proofs.ReadTrees.{good-place}
 use Rattle.rules_deck.proofs.ReadForms.{whole-found, whole-good, sound-is, good-go-to, good-computed, good-if, good-continue, good-stop, good-end, good-dimension}
 use Rattle.rules_deck.proofs.Found.{then-ends, then-goes-on, then-found, after-found, word-found, number-starts, name-starts}
@@ -26,11 +27,11 @@ afterEquals : List ℕ → Option (List ℕ)
 afterEquals [] = none
 afterEquals (x ∷ s) = cond (eqb x equals) (some s) (afterEquals s)
 
-skip : (k : ℕ) (s : List ℕ) → All NotEquals (take k s) → afterEquals s ≡ afterEquals (drop k s)
+skip : (k : ℕ) (s : List ℕ) → Each NotEquals (take k s) → afterEquals s ≡ afterEquals (drop k s)
 unfolding afterEquals
 skip zero s p = refl
 skip (suc k) [] p = refl
-skip (suc k) (x ∷ s) (all-more p ps) = ap (λ (b : Bool). cond b (some s) (afterEquals s)) p ∙ skip k s ps
+skip (suc k) (x ∷ s) (each-more p ps) = ap (λ (b : Bool). cond b (some s) (afterEquals s)) p ∙ skip k s ps
 
 skip-read : {A : Type 0} {Q : A → Type 0} (r : Reader A) (s : List ℕ) (a : A) (k : ℕ) → Good NotEquals Q r → r s ≡ found a k
     → afterEquals s ≡ afterEquals (drop k s)
@@ -299,15 +300,6 @@ none-after n i (some f ∷ os) l (only-more p ps) =
     let same : n ≡ i = p f refl in
     absurd (omega arith)
 
-one-at-most : (n i : ℕ) (os : List (Option Form)) → OnlyAt n i os → length (present os) ≤ 1
-unfolding present
-one-at-most n i [] only-none = omega arith
-one-at-most n i (none ∷ os) (only-more p ps) = one-at-most n (suc i) os ps
-one-at-most n i (some f ∷ os) (only-more p ps) =
-    let same : n ≡ i = p f refl in
-    let rest = none-after n (suc i) os (omega arith) ps in
-    omega arith
-
 first-is : (n i j : ℕ) (os : List (Option Form)) (f : Form) → OnlyAt n i os → getElem? os j ≡ some (some f) → firstOf (present os) ≡ some f
 unfolding firstOf present
 first-is n i j [] f only-none e = cc
@@ -338,12 +330,7 @@ only-one s =
     only-more (at-assignment s) (only-more (at-go-to s) (only-more (at-computed s) (only-more (at-if s) (only-more (at-do s)
     (only-more (at-continue s) (only-more (at-stop s) (only-more (at-end s) (only-more (at-dimension s) only-none))))))))
 
--- NO TEXT IS OF TWO FORMS
-pub no-two-forms : (s : List ℕ) → length (readings s) ≤ 1
-unfolding readings
-no-two-forms s = one-at-most (formPlace s) 0 (candidates s) (only-one s)
-
--- so whichever reader finds a form, that is the text's form
+-- WHICHEVER READER FINDS A FORM, THAT IS THE TEXT'S FORM
 pub form-is : (s : List ℕ) (j : ℕ) (f : Form) → getElem? (candidates s) j ≡ some (some f) → formOf s ≡ some f
 unfolding formOf readings
 form-is s j f e = first-is (formPlace s) 0 j (candidates s) f (only-one s) e

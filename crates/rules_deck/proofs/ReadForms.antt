@@ -10,10 +10,13 @@ use lib.ListN.{length, take}
 use lib.Dec.{leb, eqb}
 use borrow.Author.Tests.{leb-true, eqb-true}
 use Rattle.rules_shared.specs.Limits.{limits}
+use Rattle.rules_object.specs.Each.{Each, each-none, each-more}
+use Rattle.rules_object.proofs.EachLaws.{each-one, each-append}
 use Rattle.rules_deck.specs.Trees.{Name, Digits, Expr, con, var, optional, Array, array, arrayNames, arrayConstants, Form, assign, goTo, computed, ifs, loop, continue, stop, end, dimension, formNames, formConstants, formExits, formLast}
 use Rattle.rules_deck.specs.Tokens.{leftParen, rightParen, comma, equals, wordContinue, wordStop, wordEnd, Found, found, bad, Reader, give, afterWord, allOf, whole}
 use Rattle.rules_deck.specs.Grammar.{assignment, plainGoTo, rightExits, computedGoTo, arithmeticIf, parameter, doLoop, arrayShape, dimensions, readAssignment, readGoTo, readComputed, readIf, readDo, readContinue, readStop, readEnd, readDimension, present, readings, firstOf, formOf}
-use Rattle.rules_deck.proofs.Readers.{All, all-none, all-more, all-append, all-one, IsDigits, IsName, NotEquals, Any, both-true, Sound, sound, sound-bad, Good, good-then, good-give, good-give-if, good-after, good-word, good-choose, good-listed, good-any, good-number, good-name}
+use Rattle.rules_deck.specs.Spelling.{IsDigits, IsName}
+use Rattle.rules_deck.proofs.Readers.{NotEquals, Any, both-true, Sound, sound, sound-bad, Good, good-then, good-give, good-give-if, good-after, good-word, good-choose, good-listed, good-any, good-number, good-name}
 use Rattle.rules_deck.proofs.ReadTrees.{Right, right-join, RightExpr, good-place, good-expression}
 
 -- a DO's parameter is a c or a v
@@ -49,10 +52,10 @@ ExitCount end = Unit {0}
 ExitCount (dimension arrays) = Unit {0}
 
 pub record RightForm (f : Form) : Type 0 where
-  pub names : All IsName (formNames f)
-  pub constants : All IsDigits (formConstants f)
-  pub exits : All IsDigits (formExits f)
-  pub last : All IsDigits (formLast f)
+  pub names : Each IsName (formNames f)
+  pub constants : Each IsDigits (formConstants f)
+  pub exits : Each IsDigits (formExits f)
+  pub last : Each IsDigits (formLast f)
   pub parameters : Parameters f
   pub exitCount : ExitCount f
 
@@ -63,16 +66,16 @@ unfolding assignment formNames formConstants formExits formLast
 good-assignment =
     good-then (good-any good-place) (λ t p. good-after equals tt (good-then (good-any good-expression) (λ e q.
     let r = right-join p q in
-    good-give _ record { names = r .0; constants = r .1; exits = all-none; last = all-none; parameters = tt; exitCount = tt })))
+    good-give _ record { names = r .0; constants = r .1; exits = each-none; last = each-none; parameters = tt; exitCount = tt })))
 
 pub good-go-to : Good NotEquals RightForm plainGoTo
 unfolding plainGoTo formNames formConstants formExits formLast
 good-go-to =
     good-word word (good-then good-number (λ n q.
-    good-give _ record { names = all-none; constants = all-none; exits = all-one q; last = all-none; parameters = tt; exitCount = tt }))
+    good-give _ record { names = each-none; constants = each-none; exits = each-one q; last = each-none; parameters = tt; exitCount = tt }))
   where
-    word : All NotEquals (71 ∷ 79 ∷ 84 ∷ 79 ∷ [])
-    word = all-more refl (all-more refl (all-more refl (all-one refl)))
+    word : Each NotEquals (71 ∷ 79 ∷ 84 ∷ 79 ∷ [])
+    word = each-more refl (each-more refl (each-more refl (each-one refl)))
 
 pub good-computed : Good NotEquals RightForm computedGoTo
 unfolding computedGoTo rightExits formNames formConstants formExits formLast
@@ -81,27 +84,27 @@ good-computed =
     good-after rightParen refl (good-after comma refl (good-then good-name (λ v q. good-give-if _ _ (λ e.
     let two = both-true (leb (limits .fewestExits) (length ns)) (leb (length ns) (limits .mostExits)) e in
     record {
-      names = all-one q;
-      constants = all-none;
+      names = each-one q;
+      constants = each-none;
       exits = qs;
-      last = all-none;
+      last = each-none;
       parameters = tt;
       exitCount = (leb-true (limits .fewestExits) (length ns) (two .0), leb-true (length ns) (limits .mostExits) (two .1));
     })))))))
   where
-    word : All NotEquals (71 ∷ 79 ∷ 84 ∷ 79 ∷ [])
-    word = all-more refl (all-more refl (all-more refl (all-one refl)))
+    word : Each NotEquals (71 ∷ 79 ∷ 84 ∷ 79 ∷ [])
+    word = each-more refl (each-more refl (each-more refl (each-one refl)))
 
 pub good-if : Good NotEquals RightForm arithmeticIf
 unfolding arithmeticIf formNames formConstants formExits formLast
 good-if =
-    good-word (all-more refl (all-one refl)) (good-after leftParen refl (good-then good-expression (λ e q. good-after rightParen refl
+    good-word (each-more refl (each-one refl)) (good-after leftParen refl (good-then good-expression (λ e q. good-after rightParen refl
     (good-then good-number (λ a p. good-after comma refl (good-then good-number (λ b p′. good-after comma refl (good-then good-number (λ c p″.
     good-give _ record {
       names = q .0;
       constants = q .1;
-      exits = all-more p (all-more p′ (all-one p″));
-      last = all-none;
+      exits = each-more p (each-more p′ (each-one p″));
+      last = each-none;
       parameters = tt;
       exitCount = tt;
     })))))))))
@@ -109,72 +112,72 @@ good-if =
 pub good-parameter : Good NotEquals (λ e. IsParameter e × RightExpr e) parameter
 unfolding parameter
 good-parameter =
-    good-choose _ (good-then good-number (λ c q. good-give _ (a-constant, (all-none, all-one q))))
-    (good-then good-name (λ v q. good-give _ (a-variable, (all-one q, all-none))))
+    good-choose _ (good-then good-number (λ c q. good-give _ (a-constant, (each-none, each-one q))))
+    (good-then good-name (λ v q. good-give _ (a-variable, (each-one q, each-none))))
 
 pub good-do : Good Any RightForm doLoop
 unfolding doLoop formNames formConstants formExits formLast
 good-do =
-    good-word (all-more tt (all-one tt)) (good-then (good-any good-number) (λ n qn. good-then (good-any good-name) (λ v qv.
+    good-word (each-more tt (each-one tt)) (good-then (good-any good-number) (λ n qn. good-then (good-any good-name) (λ v qv.
     good-after equals tt (good-then (good-any good-parameter) (λ p qp. good-after comma tt (good-then (good-any good-parameter) (λ q qq.
     good-choose _
     (good-after comma tt (good-then (good-any good-parameter) (λ r qr.
     let three = right-join (qp .1) (right-join (qq .1) (qr .1)) in
     good-give _ record {
-      names = all-more qv (three .0);
+      names = each-more qv (three .0);
       constants = three .1;
-      exits = all-none;
-      last = all-one qn;
+      exits = each-none;
+      last = each-one qn;
       parameters = (qp .0, qq .0, is-written (qr .0));
       exitCount = tt;
     })))
-    (let two = right-join (qp .1) (right-join (qq .1) (all-none, all-none)) in
+    (let two = right-join (qp .1) (right-join (qq .1) (each-none, each-none)) in
     good-give _ record {
-      names = all-more qv (two .0);
+      names = each-more qv (two .0);
       constants = two .1;
-      exits = all-none;
-      last = all-one qn;
+      exits = each-none;
+      last = each-one qn;
       parameters = (qp .0, qq .0, not-written);
       exitCount = tt;
     }))))))))
 
 abbrev RightArray : Array → Type 0
-RightArray (array v r c) = IsName v × All IsDigits (r ∷ optional c)
+RightArray (array v r c) = IsName v × Each IsDigits (r ∷ optional c)
 
 good-array : Good NotEquals RightArray arrayShape
 unfolding arrayShape
 good-array =
     good-then good-name (λ v q. good-after leftParen refl (good-then good-number (λ r p. good-choose _
-    (good-after comma refl (good-then good-number (λ c p′. good-after rightParen refl (good-give _ (q, all-more p (all-one p′))))))
-    (good-after rightParen refl (good-give _ (q, all-one p))))))
+    (good-after comma refl (good-then good-number (λ c p′. good-after rightParen refl (good-give _ (q, each-more p (each-one p′))))))
+    (good-after rightParen refl (good-give _ (q, each-one p))))))
 
-right-arrays : (arrays : List Array) → All RightArray arrays → Right (arrayNames arrays) (arrayConstants arrays)
-right-arrays [] all-none = (all-none, all-none)
-right-arrays (array v r c ∷ others) (all-more q qs) = add (q .1) (right-arrays others qs)
+right-arrays : (arrays : List Array) → Each RightArray arrays → Right (arrayNames arrays) (arrayConstants arrays)
+right-arrays [] each-none = (each-none, each-none)
+right-arrays (array v r c ∷ others) (each-more q qs) = add (q .1) (right-arrays others qs)
   where
-    add : All IsDigits (r ∷ optional c) → Right (arrayNames others) (arrayConstants others) → Right (v ∷ arrayNames others) (r ∷ (optional c ++ arrayConstants others))
-    add (all-more p ps) rest = (all-more (q .0) (rest .0), all-more p (all-append ps (rest .1)))
+    add : Each IsDigits (r ∷ optional c) → Right (arrayNames others) (arrayConstants others) → Right (v ∷ arrayNames others) (r ∷ (optional c ++ arrayConstants others))
+    add (each-more p ps) rest = (each-more (q .0) (rest .0), each-more p (each-append ps (rest .1)))
 
 pub good-dimension : Good NotEquals RightForm dimensions
 unfolding dimensions formNames formConstants formExits formLast
 good-dimension =
     good-word word (good-then (good-listed refl good-array) (λ arrays q.
     let r = right-arrays arrays q in
-    good-give _ record { names = r .0; constants = r .1; exits = all-none; last = all-none; parameters = tt; exitCount = tt }))
+    good-give _ record { names = r .0; constants = r .1; exits = each-none; last = each-none; parameters = tt; exitCount = tt }))
   where
-    word : All NotEquals (68 ∷ 73 ∷ 77 ∷ 69 ∷ 78 ∷ 83 ∷ 73 ∷ 79 ∷ 78 ∷ [])
+    word : Each NotEquals (68 ∷ 73 ∷ 77 ∷ 69 ∷ 78 ∷ 83 ∷ 73 ∷ 79 ∷ 78 ∷ [])
     word =
-        all-more refl (all-more refl (all-more refl (all-more refl (all-more refl (all-more refl (all-more refl (all-more refl (all-one refl))))))))
+        each-more refl (each-more refl (each-more refl (each-more refl (each-more refl (each-more refl (each-more refl (each-more refl (each-one refl))))))))
 
 -- CONTINUE, STOP and END have no parts
 module _ (f : Form) (names-none : formNames f ≡ []) (constants-none : formConstants f ≡ []) (exits-none : formExits f ≡ []) (last-none : formLast f ≡ []) where
   right-bare : Parameters f → ExitCount f → RightForm f
   right-bare p c =
       record {
-        names = subst (All IsName) (sym names-none) all-none;
-        constants = subst (All IsDigits) (sym constants-none) all-none;
-        exits = subst (All IsDigits) (sym exits-none) all-none;
-        last = subst (All IsDigits) (sym last-none) all-none;
+        names = subst (Each IsName) (sym names-none) each-none;
+        constants = subst (Each IsDigits) (sym constants-none) each-none;
+        exits = subst (Each IsDigits) (sym exits-none) each-none;
+        last = subst (Each IsDigits) (sym last-none) each-none;
         parameters = p;
         exitCount = c;
       }
@@ -193,14 +196,14 @@ right-end = right-bare end refl refl refl refl tt tt
 
 pub good-continue : Good NotEquals RightForm (afterWord wordContinue (give continue))
 good-continue =
-    good-word (all-more refl (all-more refl (all-more refl (all-more refl (all-more refl (all-more refl (all-more refl (all-one refl))))))))
+    good-word (each-more refl (each-more refl (each-more refl (each-more refl (each-more refl (each-more refl (each-more refl (each-one refl))))))))
     (good-give _ right-continue)
 
 pub good-stop : Good NotEquals RightForm (afterWord wordStop (give stop))
-good-stop = good-word (all-more refl (all-more refl (all-more refl (all-one refl)))) (good-give _ right-stop)
+good-stop = good-word (each-more refl (each-more refl (each-more refl (each-one refl)))) (good-give _ right-stop)
 
 pub good-end : Good NotEquals RightForm (afterWord wordEnd (give end))
-good-end = good-word (all-more refl (all-more refl (all-one refl))) (good-give _ right-end)
+good-end = good-word (each-more refl (each-more refl (each-one refl))) (good-give _ right-end)
 
 -- ---- the whole text
 
@@ -219,56 +222,56 @@ whole-found {A} r s a e = go (r s) e
             cc
         when false p q = cc
 
-pub sound-is : {A : Type 0} {P : ℕ → Type 0} {Q : A → Type 0} (s : List ℕ) (o : Found A) (a : A) (k : ℕ) → Sound P Q s o → o ≡ found a k → Q a × All P (take k s)
+pub sound-is : {A : Type 0} {P : ℕ → Type 0} {Q : A → Type 0} (s : List ℕ) (o : Found A) (a : A) (k : ℕ) → Sound P Q s o → o ≡ found a k → Q a × Each P (take k s)
 sound-is {A} {P} {Q} s (found b _) a k (sound j q l p) e =
     let same : b ≡ a = cc in
     let long : j ≡ k = cc in
-    (subst Q same q, subst (λ (n : ℕ). All P (take n s)) long p)
+    (subst Q same q, subst (λ (n : ℕ). Each P (take n s)) long p)
 sound-is s bad a k sound-bad e =
     let clash : _≡_ {A = ℕ} 0 1 = cc in
     absurd (omega arith)
 
 -- what a reader gives of the whole text, and over what bytes
-pub whole-good : {A : Type 0} {P : ℕ → Type 0} {Q : A → Type 0} (r : Reader A) (s : List ℕ) (a : A) → Good P Q r → whole r s ≡ some a → Q a × All P (take (length s) s)
+pub whole-good : {A : Type 0} {P : ℕ → Type 0} {Q : A → Type 0} (r : Reader A) (s : List ℕ) (a : A) → Good P Q r → whole r s ≡ some a → Q a × Each P (take (length s) s)
 whole-good r s a g e = sound-is s (r s) a (length s) (g .on s) (whole-found r s a e)
 
 abbrev Gives : Option Form → Type 0
 Gives o = (f : Form) → o ≡ some f → RightForm f
 
-first-right : (os : List (Option Form)) (f : Form) → All Gives os → firstOf (present os) ≡ some f → RightForm f
+first-right : (os : List (Option Form)) (f : Form) → Each Gives os → firstOf (present os) ≡ some f → RightForm f
 unfolding firstOf present
-first-right [] f all-none e =
+first-right [] f each-none e =
     let clash : _≡_ {A = ℕ} 0 1 = cc in
     absurd (omega arith)
-first-right (none ∷ os) f (all-more p ps) e = first-right os f ps e
-first-right (some g ∷ os) f (all-more p ps) e = p f e
+first-right (none ∷ os) f (each-more p ps) e = first-right os f ps e
+first-right (some g ∷ os) f (each-more p ps) e = p f e
 
 -- WHAT WAS READ IS RIGHT
 pub read-right : (s : List ℕ) (f : Form) → formOf s ≡ some f → RightForm f
 unfolding formOf readings readAssignment readGoTo readComputed readIf readDo readContinue readStop readEnd readDimension
 read-right s f e =
     first-right _ f
-    (all-more (λ g q. whole-good assignment s g good-assignment q .0)
-    (all-more (λ g q. whole-good plainGoTo s g good-go-to q .0)
-    (all-more (λ g q. whole-good computedGoTo s g good-computed q .0)
-    (all-more (λ g q. whole-good arithmeticIf s g good-if q .0)
-    (all-more (λ g q. whole-good doLoop s g good-do q .0)
-    (all-more (λ g q. whole-good _ s g good-continue q .0)
-    (all-more (λ g q. whole-good _ s g good-stop q .0)
-    (all-more (λ g q. whole-good _ s g good-end q .0)
-    (all-one (λ g q. whole-good dimensions s g good-dimension q .0))))))))))
+    (each-more (λ g q. whole-good assignment s g good-assignment q .0)
+    (each-more (λ g q. whole-good plainGoTo s g good-go-to q .0)
+    (each-more (λ g q. whole-good computedGoTo s g good-computed q .0)
+    (each-more (λ g q. whole-good arithmeticIf s g good-if q .0)
+    (each-more (λ g q. whole-good doLoop s g good-do q .0)
+    (each-more (λ g q. whole-good _ s g good-continue q .0)
+    (each-more (λ g q. whole-good _ s g good-stop q .0)
+    (each-more (λ g q. whole-good _ s g good-end q .0)
+    (each-one (λ g q. whole-good dimensions s g good-dimension q .0))))))))))
     e
 
-pub read-names : (s : List ℕ) (f : Form) → formOf s ≡ some f → All IsName (formNames f)
+pub read-names : (s : List ℕ) (f : Form) → formOf s ≡ some f → Each IsName (formNames f)
 read-names s f e = read-right s f e .names
 
-pub read-constants : (s : List ℕ) (f : Form) → formOf s ≡ some f → All IsDigits (formConstants f)
+pub read-constants : (s : List ℕ) (f : Form) → formOf s ≡ some f → Each IsDigits (formConstants f)
 read-constants s f e = read-right s f e .constants
 
-pub read-exits : (s : List ℕ) (f : Form) → formOf s ≡ some f → All IsDigits (formExits f)
+pub read-exits : (s : List ℕ) (f : Form) → formOf s ≡ some f → Each IsDigits (formExits f)
 read-exits s f e = read-right s f e .exits
 
-pub read-last : (s : List ℕ) (f : Form) → formOf s ≡ some f → All IsDigits (formLast f)
+pub read-last : (s : List ℕ) (f : Form) → formOf s ≡ some f → Each IsDigits (formLast f)
 read-last s f e = read-right s f e .last
 
 pub read-parameters : (s : List ℕ) (f : Form) → formOf s ≡ some f → Parameters f

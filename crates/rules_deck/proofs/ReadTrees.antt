@@ -9,17 +9,20 @@ use native.Mathlib.Omega.{arith}
 use lib.Dec.{eqb}
 use borrow.Author.Tests.{eqb-true}
 use Rattle.number.specs.Number.{Op}
+use Rattle.rules_object.specs.Each.{Each, each-none, each-more}
+use Rattle.rules_object.proofs.EachLaws.{each-one, each-append}
 use Rattle.rules_deck.specs.Trees.{Name, Digits, Addend, Subscript, Subscripts, Expr, neg, par, bin, Target, cell, element, subscriptNames, subscriptsNames, exprNames, targetNames, addendConstants, optional, subscriptConstants, subscriptsConstants, exprConstants, targetConstants}
 use Rattle.rules_deck.specs.Tokens.{leftParen, rightParen, star, plusSign, comma, minusSign, slash, Reader}
 use Rattle.rules_deck.specs.Grammar.{addend, linearOf, subscript, subscripts, place, operandOf, operand, sign, signed, sumOp, productOp, Mode, anExpression, aTerm, aFactor, moreTerms, moreFactors, joined, more, step, parseIn, enough, parse, expression}
-use Rattle.rules_deck.proofs.Readers.{All, all-none, all-more, all-append, all-one, IsDigits, IsName, NotEquals, Sound, sound, sound-bad, sound-ahead, Good, good-then, good-give, good-after, good-choose, good-number, good-name}
+use Rattle.rules_deck.specs.Spelling.{IsDigits, IsName}
+use Rattle.rules_deck.proofs.Readers.{NotEquals, Sound, sound, sound-bad, sound-ahead, Good, good-then, good-give, good-after, good-choose, good-number, good-name}
 
 -- these names and these runs of digits are right
 abbrev pub Right : List Name → List Digits → Type 0
-Right names digits = All IsName names × All IsDigits digits
+Right names digits = Each IsName names × Each IsDigits digits
 
 pub right-join : {n m : List Name} {c d : List Digits} → Right n c → Right m d → Right (n ++ m) (c ++ d)
-right-join p q = (all-append (p .0) (q .0), all-append (p .1) (q .1))
+right-join p q = (each-append (p .0) (q .0), each-append (p .1) (q .1))
 
 abbrev pub RightSubscript : Subscript → Type 0
 RightSubscript s = Right (subscriptNames s) (subscriptConstants s)
@@ -36,24 +39,24 @@ RightExpr e = Right (exprNames e) (exprConstants e)
 -- ---- subscripts and targets
 
 abbrev RightAddend : Addend → Type 0
-RightAddend a = All IsDigits (addendConstants a)
+RightAddend a = Each IsDigits (addendConstants a)
 
 good-addend : Good NotEquals RightAddend addend
 unfolding addend
 good-addend =
-    good-choose _ (good-after plusSign refl (good-then good-number (λ c q. good-give _ (all-one q))))
-    (good-choose _ (good-after minusSign refl (good-then good-number (λ c q. good-give _ (all-one q)))) (good-give _ all-none))
+    good-choose _ (good-after plusSign refl (good-then good-number (λ c q. good-give _ (each-one q))))
+    (good-choose _ (good-after minusSign refl (good-then good-number (λ c q. good-give _ (each-one q)))) (good-give _ each-none))
 
-good-linear : (m : Option Digits) → All IsDigits (optional m) → Good NotEquals RightSubscript (linearOf m)
+good-linear : (m : Option Digits) → Each IsDigits (optional m) → Good NotEquals RightSubscript (linearOf m)
 unfolding linearOf
-good-linear m qm = good-then good-name (λ v qv. good-then good-addend (λ a qa. good-give _ (all-one qv, all-append qm qa)))
+good-linear m qm = good-then good-name (λ v qv. good-then good-addend (λ a qa. good-give _ (each-one qv, each-append qm qa)))
 
 good-subscript : Good NotEquals RightSubscript subscript
 unfolding subscript
 good-subscript =
     good-choose _
-    (good-then good-number (λ c q. good-choose _ (good-after star refl (good-linear (some c) (all-one q))) (good-give _ (all-none, all-one q))))
-    (good-linear none all-none)
+    (good-then good-number (λ c q. good-choose _ (good-after star refl (good-linear (some c) (each-one q))) (good-give _ (each-none, each-one q))))
+    (good-linear none each-none)
 
 pub good-subscripts : Good NotEquals RightSubscripts subscripts
 unfolding subscripts
@@ -67,8 +70,8 @@ pub good-place : Good NotEquals RightTarget place
 unfolding place
 good-place =
     good-then good-name (λ v p. good-choose _
-    (good-then good-subscripts (λ s q. good-give _ (all-more p (q .0), q .1)))
-    (good-give _ (all-one p, all-none)))
+    (good-then good-subscripts (λ s q. good-give _ (each-more p (q .0), q .1)))
+    (good-give _ (each-one p, each-none)))
 
 -- ---- expressions
 
@@ -80,7 +83,7 @@ right-operand (element v s) q = q
 pub good-operand : Good NotEquals RightExpr operand
 unfolding operand
 good-operand =
-    good-choose _ (good-then good-number (λ c q. good-give _ (all-none, all-one q)))
+    good-choose _ (good-then good-number (λ c q. good-give _ (each-none, each-one q)))
     (good-then good-place (λ t q. good-give _ (right-operand t q)))
 
 abbrev Anything : Bool → Type 0
@@ -126,16 +129,16 @@ module _ {Q : Expr → Type 0} (kept : Kept Q) where
         → (c : ℕ) (s : List ℕ) (o : Option Op) → ((x : Op) → o ≡ some x → NotEquals c)
         → Sound NotEquals Q (c ∷ s) (joined go part again left o s)
     unfolding joined
-    good-joined part again left p a q c s none n = sound 0 q (omega arith) all-none
+    good-joined part again left p a q c s none n = sound 0 q (omega arith) each-none
     good-joined part again left p a q c s (some o) n =
-        sound-ahead (c ∷ s) 1 _ (omega arith) (all-one (n o refl))
+        sound-ahead (c ∷ s) 1 _ (omega arith) (each-one (n o refl))
         (good-then (parts part p) (λ e r. parts (again (bin o left e)) (a (bin o left e) (kept .atOperation o left e q r))) .on s)
 
     good-more : (op : ℕ → Option Op) → ((c : ℕ) (o : Op) → op c ≡ some o → NotEquals c)
         → (part : Mode) (again : Expr → Mode) (left : Expr) → AtMode part → ((e : Expr) → Q e → AtMode (again e)) → Q left
         → (s : List ℕ) → Sound NotEquals Q s (more go op part again left s)
     unfolding more
-    good-more op n part again left p a q [] = sound 0 q (omega arith) all-none
+    good-more op n part again left p a q [] = sound 0 q (omega arith) each-none
     good-more op n part again left p a q (c ∷ s) = good-joined part again left p a q c s (op c) (n c)
 
     good-step : (m : Mode) → AtMode m → (s : List ℕ) → Sound NotEquals Q s (step go m s)

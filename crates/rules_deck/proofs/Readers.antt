@@ -1,7 +1,7 @@
 -- What every reader keeps to: how far it reads, over which bytes, and what it gives. One lemma for each way of joining readers.
 -- Assumes nothing.
 use mathlib.Core.Path.{_≡_, refl, sym, subst}
-use mathlib.Core.List.{List, [], _∷_, _++_}
+use mathlib.Core.List.{List, [], _∷_}
 use mathlib.Core.Bool.{Bool, true, false, _&&_, _||_, cond}
 use Prim.Native.Nat.{ℕ, zero, suc, _+_, _≤_}
 use native.Mathlib.Omega.{arith}
@@ -9,37 +9,13 @@ use lib.ListN.{length, take, drop, length-drop}
 use lib.Seq.{take-add}
 use lib.Dec.{leb, eqb}
 use borrow.Author.Tests.{leb-true, eqb-true, ne-eqb}
-use Rattle.rules_deck.specs.Trees.{Name, Digits}
-use Rattle.rules_deck.specs.Tokens.{equals, comma, isDigit, isLetter, isLetterOrDigit, Found, found, bad, Reader, give, giveIf, ahead, follow, andThen, after, afterWord, choose, run, digitRun, nameRun, taken, number, name, listedUpTo, listed}
+use Rattle.rules_object.specs.Check.{isLetter, isDigit}
+use Rattle.rules_object.specs.Each.{Each, each-none, each-more}
+use Rattle.rules_object.proofs.EachLaws.{each-one, each-map, each-append}
+use Rattle.rules_deck.specs.Tokens.{equals, comma, isLetterOrDigit, Found, found, bad, Reader, give, giveIf, ahead, follow, andThen, after, afterWord, choose, run, digitRun, nameRun, taken, number, name, listedUpTo, listed}
+use Rattle.rules_deck.specs.Spelling.{Passes, IsDigits, is-digits, IsName, is-name}
 
--- ---- every item of a list
-
-pub data All {A : Type 0} (P : A → Type 0) : List A → Type 0 where
-  all-none : All P []
-  all-more : {a : A} {l : List A} → P a → All P l → All P (a ∷ l)
-
-module _ {A : Type 0} {P : A → Type 0} where
-  pub all-append : {l m : List A} → All P l → All P m → All P (l ++ m)
-  all-append all-none q = q
-  all-append (all-more p ps) q = all-more p (all-append ps q)
-
-  pub all-one : {a : A} → P a → All P (a ∷ [])
-  all-one p = all-more p all-none
-
-  pub all-map : {Q : A → Type 0} {l : List A} → ((a : A) → P a → Q a) → All P l → All Q l
-  all-map f all-none = all-none
-  all-map f (all-more {a} p ps) = all-more (f a p) (all-map f ps)
-
--- ---- names and digits
-
-abbrev pub Passes : (ℕ → Bool) → ℕ → Type 0
-Passes test c = test c ≡ true
-
-pub data IsDigits : Digits → Type 0 where
-  is-digits : {c : ℕ} {s : List ℕ} → isDigit c ≡ true → All (Passes isDigit) s → IsDigits (c ∷ s)
-
-pub data IsName : Name → Type 0 where
-  is-name : {c : ℕ} {s : List ℕ} → isLetter c ≡ true → All (Passes isLetterOrDigit) s → IsName (c ∷ s)
+-- ---- bytes
 
 -- a byte that is no =
 abbrev pub NotEquals : ℕ → Type 0
@@ -53,13 +29,11 @@ both-true true b e = (refl, e)
 both-true false b e = (e, cc)
 
 pub digit-bounds : (c : ℕ) → isDigit c ≡ true → (48 ≤ c) × (c ≤ 57)
-unfolding isDigit
 digit-bounds c e =
     let two = both-true (leb 48 c) (leb c 57) e in
     (leb-true 48 c (two .0), leb-true c 57 (two .1))
 
 pub letter-bounds : (c : ℕ) → isLetter c ≡ true → (65 ≤ c) × (c ≤ 90)
-unfolding isLetter
 letter-bounds c e =
     let two = both-true (leb 65 c) (leb c 90) e in
     (leb-true 65 c (two .0), leb-true c 90 (two .1))
@@ -81,18 +55,18 @@ either-plain c e = go (isLetter c) refl e
 -- ---- what a reader finds on s: at most all of s, over bytes of P, and it gives things of Q
 
 pub data Sound {A : Type 0} (P : ℕ → Type 0) (Q : A → Type 0) (s : List ℕ) : Found A → Type 0 where
-  sound : {a : A} (k : ℕ) → Q a → k ≤ length s → All P (take k s) → Sound P Q s (found a k)
+  sound : {a : A} (k : ℕ) → Q a → k ≤ length s → Each P (take k s) → Sound P Q s (found a k)
   sound-bad : Sound P Q s bad
 
 pub record Good {A : Type 0} (P : ℕ → Type 0) (Q : A → Type 0) (r : Reader A) : Type 0 where
   pub on : (s : List ℕ) → Sound P Q s (r s)
 
 module _ {P : ℕ → Type 0} where
-  pub sound-ahead : {B : Type 0} {R : B → Type 0} (s : List ℕ) (k : ℕ) (o : Found B) → k ≤ length s → All P (take k s)
+  pub sound-ahead : {B : Type 0} {R : B → Type 0} (s : List ℕ) (k : ℕ) (o : Found B) → k ≤ length s → Each P (take k s)
       → Sound P R (drop k s) o → Sound P R s (ahead k o)
   unfolding ahead
   sound-ahead s k (found b _) l p (sound j q m p′) =
-      sound (k + j) q (omega (arith, length-drop k s)) (subst (All P) (sym (take-add k j s)) (all-append p p′))
+      sound (k + j) q (omega (arith, length-drop k s)) (subst (Each P) (sym (take-add k j s)) (each-append p p′))
   sound-ahead s k bad l p sound-bad = sound-bad
 
   pub good-then : {A B : Type 0} {Q : A → Type 0} {R : B → Type 0} {r : Reader A} {h : A → Reader B}
@@ -106,11 +80,11 @@ module _ {P : ℕ → Type 0} where
 
   pub good-give : {A : Type 0} {Q : A → Type 0} (a : A) → Q a → Good P Q (give a)
   unfolding give
-  good-give a q = record { on = λ s. sound 0 q (omega arith) all-none }
+  good-give a q = record { on = λ s. sound 0 q (omega arith) each-none }
 
   pub good-give-if : {A : Type 0} {Q : A → Type 0} (b : Bool) (a : A) → (b ≡ true → Q a) → Good P Q (giveIf b a)
   unfolding giveIf
-  good-give-if true a q = record { on = λ s. sound 0 (q refl) (omega arith) all-none }
+  good-give-if true a q = record { on = λ s. sound 0 (q refl) (omega arith) each-none }
   good-give-if false a q = record { on = λ s. sound-bad }
 
   pub good-after : {A : Type 0} {Q : A → Type 0} (c : ℕ) {r : Reader A} → P c → Good P Q r → Good P Q (after c r)
@@ -122,13 +96,13 @@ module _ {P : ℕ → Type 0} where
       go (x ∷ s) = when (eqb x c) refl
         where
           when : (b : Bool) → eqb x c ≡ b → Sound P Q (x ∷ s) (cond b (ahead 1 (r s)) bad)
-          when true e = sound-ahead (x ∷ s) 1 (r s) (omega arith) (all-one (subst P (sym (eqb-true x c e)) pc)) (g .on s)
+          when true e = sound-ahead (x ∷ s) 1 (r s) (omega arith) (each-one (subst P (sym (eqb-true x c e)) pc)) (g .on s)
           when false e = sound-bad
 
-  pub good-word : {A : Type 0} {Q : A → Type 0} {w : List ℕ} {r : Reader A} → All P w → Good P Q r → Good P Q (afterWord w r)
+  pub good-word : {A : Type 0} {Q : A → Type 0} {w : List ℕ} {r : Reader A} → Each P w → Good P Q r → Good P Q (afterWord w r)
   unfolding afterWord
-  good-word all-none g = g
-  good-word (all-more {a} p ps) g = good-after a p (good-word ps g)
+  good-word each-none g = g
+  good-word (each-more {x = c} p ps) g = good-after c p (good-word ps g)
 
   pub good-choose : {A : Type 0} {Q : A → Type 0} (test : List ℕ → Bool) {r q : Reader A} → Good P Q r → Good P Q q → Good P Q (choose test r q)
   unfolding choose
@@ -138,17 +112,17 @@ module _ {P : ℕ → Type 0} where
       go s true = f .on s
       go s false = g .on s
 
-  good-up-to : {A : Type 0} {Q : A → Type 0} {r : Reader A} (n : ℕ) → P comma → Good P Q r → Good P (All Q) (listedUpTo n r)
+  good-up-to : {A : Type 0} {Q : A → Type 0} {r : Reader A} (n : ℕ) → P comma → Good P Q r → Good P (Each Q) (listedUpTo n r)
   unfolding listedUpTo
   good-up-to zero pc g = record { on = λ s. sound-bad }
   good-up-to (suc n) pc g =
       record {
         on = good-then g (λ a q.
-            good-choose _ (good-after comma pc (good-then (good-up-to n pc g) (λ l qs. good-give _ (all-more q qs)))) (good-give _ (all-one q)))
+            good-choose _ (good-after comma pc (good-then (good-up-to n pc g) (λ l qs. good-give _ (each-more q qs)))) (good-give _ (each-one q)))
             .on;
       }
 
-  pub good-listed : {A : Type 0} {Q : A → Type 0} {r : Reader A} → P comma → Good P Q r → Good P (All Q) (listed r)
+  pub good-listed : {A : Type 0} {Q : A → Type 0} {r : Reader A} → P comma → Good P Q r → Good P (Each Q) (listed r)
   unfolding listed
   good-listed pc g = record { on = λ s. good-up-to (suc (length s)) pc g .on s }
 
@@ -156,19 +130,19 @@ pub good-any : {A : Type 0} {P : ℕ → Type 0} {Q : A → Type 0} {r : Reader 
 good-any {A} {P} {Q} {r} g = record { on = λ s. go s (r s) (g .on s) }
   where
     go : (s : List ℕ) (o : Found A) → Sound P Q s o → Sound Any Q s o
-    go s (found a _) (sound k q l p) = sound k q l (all-map (λ c x. tt) p)
+    go s (found a _) (sound k q l p) = sound k q l (each-map (λ c x. tt) p)
     go s bad sound-bad = sound-bad
 
 -- ---- runs
 
-pub run-all : (test : ℕ → Bool) (s : List ℕ) → All (Passes test) (take (run test s) s)
+pub run-all : (test : ℕ → Bool) (s : List ℕ) → Each (Passes test) (take (run test s) s)
 unfolding run
-run-all test [] = all-none
+run-all test [] = each-none
 run-all test (c ∷ s) = go (test c) refl (run-all test s)
   where
-    go : (b : Bool) → test c ≡ b → All (Passes test) (take (run test s) s) → All (Passes test) (take (cond b (suc (run test s)) 0) (c ∷ s))
-    go true e p = all-more e p
-    go false e p = all-none
+    go : (b : Bool) → test c ≡ b → Each (Passes test) (take (run test s) s) → Each (Passes test) (take (cond b (suc (run test s)) 0) (c ∷ s))
+    go true e p = each-more e p
+    go false e p = each-none
 
 pub run-le : (test : ℕ → Bool) (s : List ℕ) → run test s ≤ length s
 unfolding run
@@ -183,10 +157,10 @@ pub good-number : Good NotEquals IsDigits number
 unfolding number digitRun taken
 good-number = record { on = λ s. go (run isDigit s) s (run-le isDigit s) (run-all isDigit s) }
   where
-    go : (k : ℕ) (s : List ℕ) → k ≤ length s → All (Passes isDigit) (take k s) → Sound NotEquals IsDigits s (taken k s)
+    go : (k : ℕ) (s : List ℕ) → k ≤ length s → Each (Passes isDigit) (take k s) → Sound NotEquals IsDigits s (taken k s)
     go zero s l p = sound-bad
     go (suc k) [] l p = absurd (omega arith)
-    go (suc k) (c ∷ s) l (all-more p ps) = sound (suc k) (is-digits p ps) l (all-more (digit-plain c p) (all-map digit-plain ps))
+    go (suc k) (c ∷ s) l (each-more p ps) = sound (suc k) (is-digits p ps) l (each-more (digit-plain c p) (each-map digit-plain ps))
 
 pub good-name : Good NotEquals IsName name
 unfolding name nameRun taken
@@ -199,5 +173,5 @@ good-name = record { on = go }
         when : (b : Bool) → isLetter c ≡ b → Sound NotEquals IsName (c ∷ s) (taken (cond b (suc (run isLetterOrDigit s)) 0) (c ∷ s))
         when true e =
             sound (suc (run isLetterOrDigit s)) (is-name e (run-all isLetterOrDigit s)) (omega (arith, run-le isLetterOrDigit s))
-            (all-more (letter-plain c e) (all-map either-plain (run-all isLetterOrDigit s)))
+            (each-more (letter-plain c e) (each-map either-plain (run-all isLetterOrDigit s)))
         when false e = sound-bad

@@ -10,12 +10,12 @@ use lib.IntN.{pos, natAbs, negℤ}
 use Rattle.rules_shared.specs.Limits.{limits}
 use Rattle.rules_object.specs.Object.{SubscriptEntry, Element}
 use Rattle.rules_object.specs.Machine.{Instr, HLT, CON, LOD, STO, LDE, STE, OP, NEG, JMP, BR3, BRC, DOI, DOE}
-use Rattle.rules_shared.specs.Lists.{Each}
-use Rattle.rules_object.proofs.Words.{each-append, each-left, each-right}
+use Rattle.rules_object.specs.Each.{Each, each-none, each-more}
+use Rattle.rules_object.proofs.EachLaws.{each-head, each-tail, each-one, each-append, each-left, each-right}
 use Rattle.rules_deck.specs.Trees.{Name, Digits, valueOf, Addend, nothing, plus, minus, constant, linear, Subscripts, one, two, Expr, con, var, elm, neg, par, bin, Target, cell, element, written, Form, assign, goTo, computed, ifs, loop, continue, stop, end, dimension, Statement, addendConstants, optional, subscriptNames, subscriptsNames, subscriptConstants, subscriptsConstants, exprConstants, targetConstants, formConstants, formExits}
 use Rattle.rules_deck.specs.Deck.{Dims, dimsOf, Do, endings, width}
 use Rattle.rules_deck.specs.Meaning.{times, addend, third}
-use Rattle.rules_deck.specs.Translation.{Held, heldOf, cellOf, baseOf, exprPlain, targetPlain, formPlain, subscriptEntry, elementEntry, exprCode, storeCode, formCode, addressOf, doInstr, enterCode, statementCode, codeFrom, codeOf}
+use Rattle.rules_deck.specs.Translation.{Held, heldOf, cellOf, baseOf, exprPlain, targetPlain, formPlain, subscriptEntry, elementEntry, exprCode, storeCode, formCode, addressOf, doInstr, enterCode, codeFrom, codeOf}
 use Rattle.rules_deck.specs.Judge.{Reference, exprReferences, targetReferences, formReferences}
 use Rattle.rules_deck.specs.Accepted.{Among, here, there, Shaped}
 
@@ -69,7 +69,7 @@ module _ (held : List Held) (dims : Name → Dims) (m n cells : ℕ) where
   module _ (some-digits : 1 < m) where
     times-small : (o : Option Digits) → Each Small (optional o) → times o < m
     times-small none h = some-digits
-    times-small (some c) h = h .0
+    times-small (some c) h = each-head h
 
     neg-abs : (x : ℕ) → natAbs (negℤ (pos x)) ≡ x
     neg-abs zero = refl
@@ -77,14 +77,14 @@ module _ (held : List Held) (dims : Name → Dims) (m n cells : ℕ) where
 
     addend-small : (a : Addend) → Each Small (addendConstants a) → natAbs (addend a) < m
     addend-small nothing h = omega arith
-    addend-small (plus c) h = h .0
-    addend-small (minus c) h = omega (arith, neg-abs (valueOf c), h .0)
+    addend-small (plus c) h = each-head h
+    addend-small (minus c) h = omega (arith, neg-abs (valueOf c), each-head h)
 
     subscript-right : (s : Rattle.rules_deck.specs.Trees.Subscript) → 0 < cells → Each Small (subscriptConstants s) → Each Celled (subscriptNames s)
         → RightSubscript m n cells (subscriptEntry held dims s)
-    subscript-right (constant c) z hc hn = (omega arith, hc .0, z)
+    subscript-right (constant c) z hc hn = (omega arith, each-head hc, z)
     subscript-right (linear o v a) z hc hn =
-        (times-small o (each-left Small (optional o) (addendConstants a) hc), addend-small a (each-right Small (optional o) (addendConstants a) hc), hn .0)
+        (times-small o (each-left (optional o) (addendConstants a) hc), addend-small a (each-right (optional o) (addendConstants a) hc), each-head hn)
 
     element-right : (v : Name) (s : Subscripts) → Each Small (subscriptsConstants s) → Each Celled (subscriptsNames s) → Spanned (record { name = v; subscripts = s })
         → RightElement m n cells (elementEntry held dims v s)
@@ -96,66 +96,68 @@ module _ (held : List Held) (dims : Name → Dims) (m n cells : ℕ) where
           r .0,
           width-some (dims v .columns),
           r .1,
-          subscript-right s z (each-left Small (subscriptConstants s) (subscriptConstants t) hc) (each-left Celled (subscriptNames s) (subscriptNames t) hn),
-          subscript-right t z (each-right Small (subscriptConstants s) (subscriptConstants t) hc) (each-right Celled (subscriptNames s) (subscriptNames t) hn),
+          subscript-right s z (each-left (subscriptConstants s) (subscriptConstants t) hc) (each-left (subscriptNames s) (subscriptNames t) hn),
+          subscript-right t z (each-right (subscriptConstants s) (subscriptConstants t) hc) (each-right (subscriptNames s) (subscriptNames t) hn),
         )
 
     expr-right : (e : Expr) → Each Small (exprConstants e) → Each Celled (exprPlain e) → Each Spanned (exprReferences e) → Each (Right m n cells) (exprCode held dims e)
-    expr-right (con c) hc hn hr = (hc .0, tt)
-    expr-right (var v) hc hn hr = (hn .0, tt)
-    expr-right (elm v s) hc hn hr = (element-right v s hc hn (hr .0), tt)
-    expr-right (neg e) hc hn hr = each-append (Right m n cells) (exprCode held dims e) _ (expr-right e hc hn hr) (tt, tt)
+    expr-right (con c) hc hn hr = each-one (each-head hc)
+    expr-right (var v) hc hn hr = each-one (each-head hn)
+    expr-right (elm v s) hc hn hr = each-one (element-right v s hc hn (each-head hr))
+    expr-right (neg e) hc hn hr = each-append (expr-right e hc hn hr) (each-one tt)
     expr-right (par e) hc hn hr = expr-right e hc hn hr
     expr-right (bin o a b) hc hn hr =
-        each-append (Right m n cells) (exprCode held dims a) _
-        (expr-right a (each-left Small (exprConstants a) (exprConstants b) hc) (each-left Celled (exprPlain a) (exprPlain b) hn) (each-left Spanned (exprReferences a) (exprReferences b) hr))
-        (each-append (Right m n cells) (exprCode held dims b) _
-        (expr-right b (each-right Small (exprConstants a) (exprConstants b) hc) (each-right Celled (exprPlain a) (exprPlain b) hn) (each-right Spanned (exprReferences a) (exprReferences b) hr))
-        (tt, tt))
+        each-append
+        (expr-right a (each-left (exprConstants a) (exprConstants b) hc) (each-left (exprPlain a) (exprPlain b) hn) (each-left (exprReferences a) (exprReferences b) hr))
+        (each-append
+        (expr-right b (each-right (exprConstants a) (exprConstants b) hc) (each-right (exprPlain a) (exprPlain b) hn) (each-right (exprReferences a) (exprReferences b) hr))
+        (each-one tt))
 
     store-right : (t : Target) → Each Small (targetConstants t) → Each Celled (targetPlain t) → Each Spanned (targetReferences t) → Right m n cells (storeCode held dims t)
-    store-right (cell v) hc hn hr = hn .0
-    store-right (element v s) hc hn hr = element-right v s hc hn (hr .0)
+    store-right (cell v) hc hn hr = each-head hn
+    store-right (element v s) hc hn hr = element-right v s hc hn (each-head hr)
 
     third-right : (p : Option Expr) → Each Small (written exprConstants p) → Each Celled (written exprPlain p) → Each Spanned (written exprReferences p)
         → Each (Right m n cells) (exprCode held dims (third p))
     unfolding valueOf
-    third-right none hc hn hr = (some-digits, tt)
+    third-right none hc hn hr = each-one some-digits
     third-right (some e) hc hn hr = expr-right e hc hn hr
 
     module _ (address : ℕ → ℕ) where
       exits-right : (ns : List Digits) → ((x : Digits) → Among x ns → address (valueOf x) < n) → Each (λ t. t < n) (map (λ x. address (valueOf x)) ns)
-      exits-right [] h = tt
-      exits-right (x ∷ ns) h = (h x here, exits-right ns (λ y r. h y (there r)))
+      exits-right [] h = each-none
+      exits-right (x ∷ ns) h = each-more (h x here) (exits-right ns (λ y r. h y (there r)))
 
       form-right : (entry : Instr) (f : Form) → Each Small (formConstants f) → Each Celled (formPlain f) → Each Spanned (formReferences f)
           → ((x : Digits) → Among x (formExits f) → address (valueOf x) < n) → Shaped f → Right m n cells entry → Each (Right m n cells) (formCode held dims address entry f)
       unfolding formConstants formPlain formReferences formExits
       form-right entry (assign t e) hc hn hr hx s h =
-          each-append (Right m n cells) (exprCode held dims e) _
-          (expr-right e (each-right Small (targetConstants t) (exprConstants e) hc) (each-right Celled (targetPlain t) (exprPlain e) hn) (each-left Spanned (exprReferences e) (targetReferences t) hr))
-          (store-right t (each-left Small (targetConstants t) (exprConstants e) hc) (each-left Celled (targetPlain t) (exprPlain e) hn) (each-right Spanned (exprReferences e) (targetReferences t) hr), tt)
-      form-right entry (goTo x) hc hn hr hx s h = (hx x here, tt)
+          each-append
+          (expr-right e (each-right (targetConstants t) (exprConstants e) hc) (each-right (targetPlain t) (exprPlain e) hn) (each-left (exprReferences e) (targetReferences t) hr))
+          (each-one (store-right t (each-left (targetConstants t) (exprConstants e) hc) (each-left (targetPlain t) (exprPlain e) hn) (each-right (exprReferences e) (targetReferences t) hr)))
+      form-right entry (goTo x) hc hn hr hx s h = each-one (hx x here)
       form-right entry (computed xs v) hc hn hr hx s h =
           let l = length-map xs (λ x. address (valueOf x)) in
-          (hn .0, ((omega (arith, s .0), omega (arith, s .1), exits-right xs hx), tt))
+          let exits : Right m n cells (BRC (map (λ x. address (valueOf x)) xs)) = (omega (arith, s .0), omega (arith, s .1), exits-right xs hx) in
+          each-more (each-head hn) (each-one exits)
       form-right entry (ifs e a b c) hc hn hr hx s h =
-          each-append (Right m n cells) (exprCode held dims e) _ (expr-right e hc hn hr) ((hx a here, hx b (there here), hx c (there (there here))), tt)
+          let exits : Right m n cells (BR3 (address (valueOf a)) (address (valueOf b)) (address (valueOf c))) = (hx a here, hx b (there here), hx c (there (there here))) in
+          each-append (expr-right e hc hn hr) (each-one exits)
       form-right entry (loop x v p q r) hc hn hr hx s h =
-          let c₂ = each-right Small (exprConstants p) (exprConstants q ++ written exprConstants r) hc in
-          let n₂ = each-right Celled (exprPlain p) (exprPlain q ++ written exprPlain r) (hn .1) in
-          let r₂ = each-right Spanned (exprReferences p) (exprReferences q ++ written exprReferences r) hr in
-          each-append (Right m n cells) (exprCode held dims p) _
-          (expr-right p (each-left Small (exprConstants p) (exprConstants q ++ written exprConstants r) hc) (each-left Celled (exprPlain p) (exprPlain q ++ written exprPlain r) (hn .1)) (each-left Spanned (exprReferences p) (exprReferences q ++ written exprReferences r) hr))
-          (each-append (Right m n cells) (exprCode held dims q) _
-          (expr-right q (each-left Small (exprConstants q) (written exprConstants r) c₂) (each-left Celled (exprPlain q) (written exprPlain r) n₂) (each-left Spanned (exprReferences q) (written exprReferences r) r₂))
-          (each-append (Right m n cells) (exprCode held dims (third r)) _
-          (third-right r (each-right Small (exprConstants q) (written exprConstants r) c₂) (each-right Celled (exprPlain q) (written exprPlain r) n₂) (each-right Spanned (exprReferences q) (written exprReferences r) r₂))
-          (h, tt)))
-      form-right entry continue hc hn hr hx s h = tt
-      form-right entry stop hc hn hr hx s h = (omega arith, tt)
-      form-right entry end hc hn hr hx s h = (omega arith, tt)
-      form-right entry (dimension arrays) hc hn hr hx s h = tt
+          let c₂ = each-right (exprConstants p) (exprConstants q ++ written exprConstants r) hc in
+          let n₂ = each-right (exprPlain p) (exprPlain q ++ written exprPlain r) (each-tail hn) in
+          let r₂ = each-right (exprReferences p) (exprReferences q ++ written exprReferences r) hr in
+          each-append
+          (expr-right p (each-left (exprConstants p) (exprConstants q ++ written exprConstants r) hc) (each-left (exprPlain p) (exprPlain q ++ written exprPlain r) (each-tail hn)) (each-left (exprReferences p) (exprReferences q ++ written exprReferences r) hr))
+          (each-append
+          (expr-right q (each-left (exprConstants q) (written exprConstants r) c₂) (each-left (exprPlain q) (written exprPlain r) n₂) (each-left (exprReferences q) (written exprReferences r) r₂))
+          (each-append
+          (third-right r (each-right (exprConstants q) (written exprConstants r) c₂) (each-right (exprPlain q) (written exprPlain r) n₂) (each-right (exprReferences q) (written exprReferences r) r₂))
+          (each-one h)))
+      form-right entry continue hc hn hr hx s h = each-none
+      form-right entry stop hc hn hr hx s h = each-one (omega arith)
+      form-right entry end hc hn hr hx s h = each-one (omega arith)
+      form-right entry (dimension arrays) hc hn hr hx s h = each-none
 
 -- ---- the whole code
 
@@ -172,8 +174,8 @@ module _ (m n cells : ℕ) (deck : List Statement) where
   enter-right q (dimension arrays) = tt
 
   ends-right : (ds : List Do) → Each (Right m n cells) (map (doInstr deck DOE) ds)
-  ends-right [] = tt
-  ends-right (d ∷ ds) = (tt, ends-right ds)
+  ends-right [] = each-none
+  ends-right (d ∷ ds) = each-more tt (ends-right ds)
 
   -- what each statement has so that its code is right
   pub record Fine (f : Form) : Type 0 where
@@ -184,11 +186,11 @@ module _ (m n cells : ℕ) (deck : List Statement) where
     pub shaped : Shaped f
 
   from-right : 1 < m → (q : ℕ) (more : List Statement) → ((j : ℕ) (s : Statement) → getElem? more j ≡ some s → Fine (s .form)) → Each (Right m n cells) (codeFrom deck q more)
-  from-right d q [] h = tt
+  from-right d q [] h = each-none
   from-right d q (s ∷ more) h =
       let x = h 0 s refl in
-      each-append (Right m n cells) (statementCode deck q s) (codeFrom deck (suc q) more)
-      (each-append (Right m n cells) (formCode (heldOf deck) (dimsOf deck) (addressOf deck) (enterCode deck q (s .form)) (s .form)) (map (doInstr deck DOE) (endings deck (s .number)))
+      each-append
+      (each-append
       (form-right (heldOf deck) (dimsOf deck) m n cells d (addressOf deck) (enterCode deck q (s .form)) (s .form) (x .small) (x .celled) (x .spanned) (x .exits) (x .shaped) (enter-right q (s .form)))
       (ends-right (endings deck (s .number))))
       (from-right d (suc q) more (λ j t e. h (suc j) t e))

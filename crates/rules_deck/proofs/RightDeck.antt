@@ -13,8 +13,8 @@ use borrow.Author.Tests.{leb-true}
 use Rattle.rules_shared.specs.Limits.{limits}
 use Rattle.rules_object.specs.Object.{Element, Loop, Line, Named}
 use Rattle.rules_object.specs.Machine.{Instr, HLT, CON, LOD, STO, LDE, STE, OP, NEG, JMP, BR3, BRC, DOI, DOE}
-use Rattle.rules_shared.specs.Lists.{Each}
-use Rattle.rules_object.proofs.Words.{each-append, each-map}
+use Rattle.rules_object.specs.Each.{Each, each-none, each-more}
+use Rattle.rules_object.proofs.EachLaws.{each-one, each-map, each-append}
 use Rattle.rules_deck.specs.Trees.{Name, Digits, valueOf, Statement, formConstants}
 use Rattle.rules_deck.specs.Deck.{positionOf, dosOf, dimsOf, width}
 use Rattle.rules_deck.specs.Cards.{rightDigits}
@@ -23,8 +23,8 @@ use Rattle.rules_deck.specs.Judge.{startsInteger, right11, right12, Refe
 use Rattle.rules_deck.specs.Translation.{heldOf, cellCount, formPlain, addressAt, loopEntry, codeOf, Tables, noTables, pool, tablesAfter, tablesOf, executable, linesFrom, filled, namesFrom}
 use Rattle.rules_deck.specs.Cells.{key, limit, step}
 use Rattle.rules_deck.specs.Accepted.{Among, here, there, Accepted}
+use Rattle.rules_deck.specs.Spelling.{IsName}
 use Rattle.rules_deck.proofs.CardsLaws.{and-both}
-use Rattle.rules_deck.proofs.Readers.{IsName}
 use Rattle.rules_deck.proofs.ReadForms.{read-names, read-constants}
 use Rattle.rules_deck.proofs.TestLaws.{all-among, at-before}
 use Rattle.rules_deck.proofs.NestedDeck.{targets, last-defined, last-after}
@@ -32,7 +32,7 @@ use Rattle.rules_deck.proofs.DeclaredDeck.{element-rows}
 use Rattle.rules_deck.proofs.CellLaws.{slot-below}
 use Rattle.rules_deck.proofs.DeckCells.{plain-has, hidden-has, variable-has, size-dims}
 use Rattle.rules_deck.proofs.MapNames.{Inside}
-use Rattle.rules_deck.proofs.BodySeven.{all-here, InDeck, entry-name, names-inside}
+use Rattle.rules_deck.proofs.BodySeven.{each-here, InDeck, entry-name, names-inside}
 use Rattle.rules_deck.proofs.Values.{ten-some, value-within}
 use Rattle.rules_deck.proofs.HeightsCompiled.{below}
 use Rattle.rules_deck.proofs.TableCompiled.{stands}
@@ -41,26 +41,26 @@ use Rattle.rules_deck.proofs.RightCode.{RightElement, Right, Spanned, p
 -- ---- every one of a list
 
 pub each-among : {A : Type 0} {P : A → Type 0} (l : List A) → ((x : A) → Among x l → P x) → Each P l
-each-among [] h = tt
-each-among (x ∷ l) h = (h x here, each-among l (λ y a. h y (there a)))
+each-among [] h = each-none
+each-among (x ∷ l) h = each-more (h x here) (each-among l (λ y a. h y (there a)))
 
 pub each-place : {A : Type 0} {P : A → Type 0} (l : List A) → ((i : ℕ) (x : A) → getElem? l i ≡ some x → P x) → Each P l
-each-place [] h = tt
-each-place (x ∷ l) h = (h 0 x refl, each-place l (λ i y e. h (suc i) y e))
+each-place [] h = each-none
+each-place (x ∷ l) h = each-more (h 0 x refl) (each-place l (λ i y e. h (suc i) y e))
 
 each-mapped : {A B : Type 0} (P : B → Type 0) (f : A → B) (l : List A) → ((x : A) → Among x l → P (f x)) → Each P (map f l)
-each-mapped P f [] h = tt
-each-mapped P f (x ∷ l) h = (h x here, each-mapped P f l (λ y a. h y (there a)))
+each-mapped P f [] h = each-none
+each-mapped P f (x ∷ l) h = each-more (h x here) (each-mapped P f l (λ y a. h y (there a)))
 
 -- ---- tables of right code
 
 each-pool : (P : ℕ → Type 0) (l : List ℕ) (c : ℕ) → Each P l → P c → Each P (pool l c)
-each-pool P [] c h p = (p, tt)
-each-pool P (b ∷ l) c h p = go (eqb b c) (each-pool P l c (h .1) p)
+each-pool P [] c h p = each-one p
+each-pool P (b ∷ l) c (each-more h hs) p = go (eqb b c) (each-pool P l c hs p)
   where
     go : (t : Bool) → Each P (pool l c) → Each P (cond t (b ∷ l) (b ∷ pool l c))
-    go true r = h
-    go false r = (h .0, r)
+    go true r = each-more h hs
+    go false r = each-more h r
 
 -- the tables of right code: an exit word is an address or a count
 pub record RightTables (m n cells : ℕ) (T : Tables) : Type 0 where
@@ -70,13 +70,13 @@ pub record RightTables (m n cells : ℕ) (T : Tables) : Type 0 where
 
 module _ (m n cells : ℕ) where
   far : (ts : List ℕ) → Each (λ t. t < n) ts → Each (λ x. x < n + 11) ts
-  far ts h = each-map (λ t. t < n) (λ x. x < n + 11) (λ t l. omega arith) ts h
+  far ts h = each-map (λ t l. omega arith) h
 
   with-element : (T : Tables) (e : Element) → RightTables m n cells T → RightElement m n cells e → RightTables m n cells (record { constants = T .constants; elements = T .elements ++ (e ∷ []); exits = T .exits })
-  with-element T e r h = record { constants = r .constants; elements = each-append (RightElement m n cells) (T .elements) (e ∷ []) (r .elements) (h, tt); exits = r .exits }
+  with-element T e r h = record { constants = r .constants; elements = each-append (r .elements) (each-one h); exits = r .exits }
 
   with-exits : (T : Tables) (ts : List ℕ) → RightTables m n cells T → Each (λ x. x < n + 11) ts → RightTables m n cells (record { constants = T .constants; elements = T .elements; exits = T .exits ++ ts })
-  with-exits T ts r h = record { constants = r .constants; elements = r .elements; exits = each-append (λ x. x < n + 11) (T .exits) ts (r .exits) h }
+  with-exits T ts r h = record { constants = r .constants; elements = r .elements; exits = each-append (r .exits) h }
 
   after-right : (T : Tables) (i : Instr) → RightTables m n cells T → Right m n cells i → RightTables m n cells (tablesAfter T i)
   after-right T (HLT x) r h = r
@@ -88,14 +88,14 @@ module _ (m n cells : ℕ) where
   after-right T (OP o) r h = r
   after-right T NEG r h = r
   after-right T (JMP a) r h = r
-  after-right T (BR3 a b c) r h = with-exits T (a ∷ b ∷ c ∷ []) r (far (a ∷ b ∷ c ∷ []) (h .0, (h .1, (h .2, tt))))
-  after-right T (BRC ts) r h = with-exits T (length ts ∷ ts) r (omega (arith, h .1), far ts (h .2))
+  after-right T (BR3 a b c) r h = with-exits T (a ∷ b ∷ c ∷ []) r (far (a ∷ b ∷ c ∷ []) (each-more (h .0) (each-more (h .1) (each-one (h .2)))))
+  after-right T (BRC ts) r h = with-exits T (length ts ∷ ts) r (each-more {x = length ts} (omega (arith, h .1)) (far ts (h .2)))
   after-right T (DOI q d) r h = r
   after-right T (DOE q d) r h = r
 
   tables-right : (T : Tables) (is : List Instr) → RightTables m n cells T → Each (Right m n cells) is → RightTables m n cells (tablesOf T is)
   tables-right T [] r h = r
-  tables-right T (i ∷ is) r h = tables-right (tablesAfter T i) is (after-right T i r (h .0)) (h .1)
+  tables-right T (i ∷ is) r (each-more h hs) = tables-right (tablesAfter T i) is (after-right T i r h) hs
 
 -- ---- DOs, statements and names
 
@@ -119,7 +119,7 @@ pub record NameWithin (cells : ℕ) (e : Named) : Type 0 where
 
 lines-each : (P : Line → Type 0) (deck : List Statement) (q : ℕ) (more : List Statement)
     → ((j : ℕ) (s : Statement) → getElem? more j ≡ some s → P (record { sequence = suc (q + j); number = s .number; address = addressAt deck (q + j) })) → Each P (linesFrom deck q more)
-lines-each P deck q [] h = tt
+lines-each P deck q [] h = each-none
 lines-each P deck q (s ∷ more) h = go (executable (s .form)) (lines-each P deck (suc q) more (λ j t e. let p : q + suc j ≡ suc q + j = omega arith in rw p at (h (suc j) t e)))
   where
     first : P (record { sequence = suc q; number = s .number; address = addressAt deck q })
@@ -127,7 +127,7 @@ lines-each P deck q (s ∷ more) h = go (executable (s .form)) (lines-each P dec
 
     go : (t : Bool) → Each P (linesFrom deck (suc q) more)
         → Each P (cond t (record { sequence = suc q; number = s .number; address = addressAt deck q } ∷ linesFrom deck (suc q) more) (linesFrom deck (suc q) more))
-    go true r = (first, r)
+    go true r = each-more first r
     go false r = r
 
 pub lines-few : (deck : List Statement) (q : ℕ) (more : List Statement) → length (linesFrom deck q more) ≤ length more
@@ -158,7 +158,7 @@ module _ {k : ℕ} {deck : List Statement} (accepted : Accepted k deck) where
   unfolding right12
   small j s e c a =
       let h = accepted .judged j s e in
-      value-within k c (all-here (read-constants (h .text) (s .form) (h .form)) a) (leb-true (length c) k (all-among (λ c. leb (length c) k) (h .passes12) a))
+      value-within k c (each-here (read-constants (h .text) (s .form) (h .form)) a) (leb-true (length c) k (all-among (λ c. leb (length c) k) (h .passes12) a))
 
   spanned : (j : ℕ) (s : Statement) → getElem? deck j ≡ some s → (r : Reference) → Among r (formReferences (s .form)) → Spanned (heldOf deck) (dimsOf deck) (10 ^ k) n cells r
   spanned j s e r a =
@@ -183,7 +183,7 @@ module _ {k : ℕ} {deck : List Statement} (accepted : Accepted k deck) where
   right-code = code-right (10 ^ k) n cells deck (omega (arith, ten-some k (digits-right .0))) fine
 
   pub right-tables : RightTables (10 ^ k) n cells (tablesOf noTables (codeOf deck))
-  right-tables = tables-right (10 ^ k) n cells noTables (codeOf deck) (record { constants = tt; elements = tt; exits = tt }) right-code
+  right-tables = tables-right (10 ^ k) n cells noTables (codeOf deck) (record { constants = each-none; elements = each-none; exits = each-none }) right-code
 
   pub right-loops : Each (LoopWithin n cells) (map (loopEntry deck) (dosOf deck))
   right-loops =
@@ -206,7 +206,7 @@ module _ {k : ℕ} {deck : List Statement} (accepted : Accepted k deck) where
   proper v i =
       let h = accepted .judged (i .position) (i .statement) (i .at) in
       let t = and-both (leb (length v) (limits .nameLength)) (startsInteger v) (all-among (λ v. leb (length v) (limits .nameLength) && startsInteger v) (h .passes11) (i .among)) in
-      record { name = all-here (read-names (h .text) (i .statement .form) (h .form)) (i .among); short = leb-true (length v) (limits .nameLength) (t .0); integer = t .1 }
+      record { name = each-here (read-names (h .text) (i .statement .form) (h .form)) (i .among); short = leb-true (length v) (limits .nameLength) (t .0); integer = t .1 }
 
   pub right-names : Each (NameWithin cells) (namesFrom 0 (heldOf deck))
   right-names =

@@ -10,6 +10,7 @@ use lib.Dec.{leb, ltb}
 use lib.ListN.{length, take, replicate}
 use borrow.Author.Tests.{ne-eqb, ltb-true, le-leb, lt-ltb}
 use Rattle.rules_object.specs.Check.{span}
+use Rattle.rules_object.specs.Each.{each-none, each-more}
 use Rattle.rules_deck.specs.Trees.{Name, Statement}
 use Rattle.rules_deck.specs.Cards.{unlessBlank, withoutBlanks}
 use Rattle.rules_deck.specs.Deck.{sameName, Declared, width}
@@ -18,7 +19,6 @@ use Rattle.rules_deck.specs.Translation.{Held, name, array, hidden, arra
 use Rattle.rules_deck.specs.Accepted.{Among, here, there, Accepted}
 use Rattle.rules_deck.specs.Cells.{key, slotCell, sizeOf, Has, namesHeld}
 use Rattle.rules_deck.specs.Seen.{orNext, cellIn}
-use Rattle.rules_deck.proofs.Readers.{all-none, all-more}
 use Rattle.rules_deck.proofs.TestLaws.{same-name, clash}
 use Rattle.rules_deck.proofs.MapNames.{Distinct, new, Full, NoBlank}
 use Rattle.rules_deck.proofs.MapOnce.{once-held}
@@ -35,9 +35,9 @@ blanks-gone (suc k) zero = refl
 blanks-gone (suc k) (suc m) = blanks-gone k m
 
 padded-back : (k m : ℕ) (v : Name) → length v ≤ k → NoBlank v → withoutBlanks (take k (v ++ replicate m 32)) ≡ v
-padded-back k m [] h all-none = blanks-gone k m
-padded-back zero m (c ∷ v) h (all-more p a) = absurd (omega arith)
-padded-back (suc k) m (c ∷ v) h (all-more p a) = unless-no c _ p ∙ ap (λ s. c ∷ s) (padded-back k m v (omega arith) a)
+padded-back k m [] h each-none = blanks-gone k m
+padded-back zero m (c ∷ v) h (each-more p a) = absurd (omega arith)
+padded-back (suc k) m (c ∷ v) h (each-more p a) = unless-no c _ p ∙ ap (λ s. c ∷ s) (padded-back k m v (omega arith) a)
 
 pub filled-back : (v : Name) → length v ≤ 6 → NoBlank v → withoutBlanks (filled v) ≡ v
 filled-back v h a = padded-back 8 8 v (omega arith) a

@@ -11,11 +11,13 @@ use lib.Dec.{leb, eqb}
 use borrow.Author.Tests.{leb-true}
 use Rattle.number.specs.Number.{Op, add, sub, mul, div}
 use Rattle.rules_shared.specs.Limits.{limits}
+use Rattle.rules_object.specs.Each.{Each, each-none, each-more}
+use Rattle.rules_object.proofs.EachLaws.{each-one}
 use Rattle.rules_deck.specs.Trees.{Expr, bin, Target, Array, Form, continue, stop, end}
 use Rattle.rules_deck.specs.Tokens.{leftParen, rightParen, plusSign, comma, minusSign, equals, wordContinue, wordStop, wordEnd, Reader, give, afterWord, name}
 use Rattle.rules_deck.specs.Grammar.{operandOf, operand, sign, signed, sumOp, productOp, Mode, anExpression, aTerm, aFactor, moreTerms, moreFactors, joined, more, step, parseIn, enough, parse, expression, assignment, plainGoTo, rightExits, computedGoTo, arithmeticIf, parameter, doLoop, arrayShape, dimensions, readAssignment, readGoTo, readComputed, readIf, readDo, readContinue, readStop, readEnd, readDimension, present, readings, firstOf, formOf}
 use Rattle.rules_deck.specs.Accepted.{IsSum, first, minus, plus, less, IsProduct, only, times, over, IsFactor, parens, IsParameter, Shaped}
-use Rattle.rules_deck.proofs.Readers.{All, all-none, all-more, all-one, Any, both-true, Sound, sound, sound-bad, sound-ahead, Good, good-then, good-give, good-give-if, good-after, good-word, good-choose, good-listed, good-any, good-number, good-name}
+use Rattle.rules_deck.proofs.Readers.{Any, both-true, Sound, sound, sound-bad, sound-ahead, Good, good-then, good-give, good-give-if, good-after, good-word, good-choose, good-listed, good-any, good-number, good-name}
 use Rattle.rules_deck.proofs.ReadTrees.{good-place}
 use Rattle.rules_deck.proofs.ReadForms.{whole-good}
 
@@ -84,14 +86,14 @@ module _ (go : Mode → Reader Expr) where
     good-joined : (left : Expr) → Q left → (c : ℕ) (s : List ℕ) (o : Option Op) → ((x : Op) → o ≡ some x → (e : Expr) → P e → Q (bin x left e))
         → Sound Any Q (c ∷ s) (joined go part again left o s)
     unfolding joined
-    good-joined left q c s none n = sound 0 q (omega arith) all-none
+    good-joined left q c s none n = sound 0 q (omega arith) each-none
     good-joined left q c s (some o) n =
-        sound-ahead (c ∷ s) 1 _ (omega arith) (all-one tt) (good-then parts (λ e r. on (bin o left e) (n o refl e r)) .on s)
+        sound-ahead (c ∷ s) 1 _ (omega arith) (each-one tt) (good-then parts (λ e r. on (bin o left e) (n o refl e r)) .on s)
 
     good-more : (op : ℕ → Option Op) (left : Expr) → Q left → ((c : ℕ) (x : Op) → op c ≡ some x → (e : Expr) → P e → Q (bin x left e))
         → (s : List ℕ) → Sound Any Q s (more go op part again left s)
     unfolding more
-    good-more op left q n [] = sound 0 q (omega arith) all-none
+    good-more op left q n [] = sound 0 q (omega arith) each-none
     good-more op left q n (c ∷ s) = good-joined left q c s (op c) (n c)
 
   module _ (parts : (m : Mode) → From m → Good Any (Gives m) (go m)) where
@@ -125,18 +127,18 @@ good-assignment = good-then (good-any good-place) (λ t p. good-after equals tt 
 good-if : Good Any Shaped arithmeticIf
 unfolding arithmeticIf
 good-if =
-    good-word (all-more tt (all-one tt)) (good-after leftParen tt (good-then good-expression (λ e q. good-after rightParen tt
+    good-word (each-more tt (each-one tt)) (good-after leftParen tt (good-then good-expression (λ e q. good-after rightParen tt
     (good-then (good-any good-number) (λ a p. good-after comma tt (good-then (good-any good-number) (λ b p′. good-after comma tt
     (good-then (good-any good-number) (λ c p″. good-give _ q)))))))))
 
 good-go-to : Good Any Shaped plainGoTo
 unfolding plainGoTo
-good-go-to = good-word (all-more tt (all-more tt (all-more tt (all-one tt)))) (good-then (good-any good-number) (λ n q. good-give _ tt))
+good-go-to = good-word (each-more tt (each-more tt (each-more tt (each-one tt)))) (good-then (good-any good-number) (λ n q. good-give _ tt))
 
 good-computed : Good Any Shaped computedGoTo
 unfolding computedGoTo rightExits
 good-computed =
-    good-word (all-more tt (all-more tt (all-more tt (all-one tt)))) (good-after leftParen tt (good-then (good-listed tt (good-any good-number)) (λ ns qs.
+    good-word (each-more tt (each-more tt (each-more tt (each-one tt)))) (good-after leftParen tt (good-then (good-listed tt (good-any good-number)) (λ ns qs.
     good-after rightParen tt (good-after comma tt (good-then (good-any good-name) (λ v q. good-give-if _ _ (λ e.
     let two = both-true (leb (limits .fewestExits) (length ns)) (leb (length ns) (limits .mostExits)) e in
     (leb-true (limits .fewestExits) (length ns) (two .0), leb-true (length ns) (limits .mostExits) (two .1)))))))))
@@ -150,14 +152,14 @@ good-parameter =
 good-do : Good Any Shaped doLoop
 unfolding doLoop
 good-do =
-    good-word (all-more tt (all-one tt)) (good-then (good-any good-number) (λ n qn. good-then (good-any good-name) (λ v qv.
+    good-word (each-more tt (each-one tt)) (good-then (good-any good-number) (λ n qn. good-then (good-any good-name) (λ v qv.
     good-after equals tt (good-then good-parameter (λ p qp. good-after comma tt (good-then good-parameter (λ q qq.
     good-choose _ (good-after comma tt (good-then good-parameter (λ r qr. good-give _ (qp, qq, qr)))) (good-give _ (qp, qq, tt)))))))))
 
 -- the others have no shape
-all-any : (w : List ℕ) → All Any w
-all-any [] = all-none
-all-any (c ∷ w) = all-more tt (all-any w)
+all-any : (w : List ℕ) → Each Any w
+all-any [] = each-none
+all-any (c ∷ w) = each-more tt (all-any w)
 
 good-bare : (w : List ℕ) (f : Form) → Shaped f → Good Any Shaped (afterWord w (give f))
 good-bare w f q = good-word (all-any w) (good-give f q)
@@ -177,23 +179,23 @@ good-dimensions = good-word (all-any _) (good-then (good-listed tt shape) (λ ar
 abbrev IsShaped : Option Form → Type 0
 IsShaped o = (f : Form) → o ≡ some f → Shaped f
 
-first-shaped : (os : List (Option Form)) (f : Form) → All IsShaped os → firstOf (present os) ≡ some f → Shaped f
+first-shaped : (os : List (Option Form)) (f : Form) → Each IsShaped os → firstOf (present os) ≡ some f → Shaped f
 unfolding firstOf present
-first-shaped [] f all-none e = let clash : _≡_ {A = ℕ} 0 1 = cc in absurd (omega arith)
-first-shaped (none ∷ os) f (all-more p ps) e = first-shaped os f ps e
-first-shaped (some g ∷ os) f (all-more p ps) e = p f e
+first-shaped [] f each-none e = let clash : _≡_ {A = ℕ} 0 1 = cc in absurd (omega arith)
+first-shaped (none ∷ os) f (each-more p ps) e = first-shaped os f ps e
+first-shaped (some g ∷ os) f (each-more p ps) e = p f e
 
 pub shaped : (s : List ℕ) (f : Form) → formOf s ≡ some f → Shaped f
 unfolding formOf readings readAssignment readGoTo readComputed readIf readDo readContinue readStop readEnd readDimension
 shaped s f e =
     first-shaped _ f
-    (all-more (λ g q. whole-good assignment s g good-assignment q .0)
-    (all-more (λ g q. whole-good plainGoTo s g good-go-to q .0)
-    (all-more (λ g q. whole-good computedGoTo s g good-computed q .0)
-    (all-more (λ g q. whole-good arithmeticIf s g good-if q .0)
-    (all-more (λ g q. whole-good doLoop s g good-do q .0)
-    (all-more (λ g q. whole-good _ s g (good-bare wordContinue continue tt) q .0)
-    (all-more (λ g q. whole-good _ s g (good-bare wordStop stop tt) q .0)
-    (all-more (λ g q. whole-good _ s g (good-bare wordEnd end tt) q .0)
-    (all-one (λ g q. whole-good dimensions s g good-dimensions q .0))))))))))
+    (each-more (λ g q. whole-good assignment s g good-assignment q .0)
+    (each-more (λ g q. whole-good plainGoTo s g good-go-to q .0)
+    (each-more (λ g q. whole-good computedGoTo s g good-computed q .0)
+    (each-more (λ g q. whole-good arithmeticIf s g good-if q .0)
+    (each-more (λ g q. whole-good doLoop s g good-do q .0)
+    (each-more (λ g q. whole-good _ s g (good-bare wordContinue continue tt) q .0)
+    (each-more (λ g q. whole-good _ s g (good-bare wordStop stop tt) q .0)
+    (each-more (λ g q. whole-good _ s g (good-bare wordEnd end tt) q .0)
+    (each-one (λ g q. whole-good dimensions s g good-dimensions q .0))))))))))
     e

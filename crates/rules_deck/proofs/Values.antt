@@ -6,13 +6,15 @@ use native.Mathlib.Nat.{mul-assoc, mul-le-mul-right}
 use native.Mathlib.Omega.{arith}
 use mathlib.Core.List.{List, [], _∷_}
 use lib.ListN.{length}
+use Rattle.rules_object.specs.Check.{isDigit}
+use Rattle.rules_object.specs.Each.{Each, each-none, each-more}
 use Rattle.rules_deck.specs.Trees.{Digits, valueFrom, valueOf}
-use Rattle.rules_deck.specs.Tokens.{isDigit}
-use Rattle.rules_deck.proofs.Readers.{All, all-none, all-more, Passes, IsDigits, is-digits, digit-bounds}
+use Rattle.rules_deck.specs.Spelling.{Passes, IsDigits, is-digits}
+use Rattle.rules_deck.proofs.Readers.{digit-bounds}
 
-value-below : (v : ℕ) (s : List ℕ) → All (Passes isDigit) s → valueFrom v s + 1 ≤ (v + 1) * 10 ^ length s
-value-below v [] all-none = omega arith
-value-below v (c ∷ s) (all-more p ps) =
+value-below : (v : ℕ) (s : List ℕ) → Each (Passes isDigit) s → valueFrom v s + 1 ≤ (v + 1) * 10 ^ length s
+value-below v [] each-none = omega arith
+value-below v (c ∷ s) (each-more p ps) =
     let d = digit-bounds c p in
     let l : v * 10 + (c - 48) + 1 ≤ (v + 1) * 10 = omega arith in
     let m = mul-le-mul-right (10 ^ length s) l in
@@ -34,4 +36,4 @@ ten-most k h = omega (arith, ten-grows k 9 h)
 
 pub value-within : (k : ℕ) (c : Digits) → IsDigits c → length c ≤ k → valueOf c < 10 ^ k
 unfolding valueOf
-value-within k (c ∷ s) (is-digits p ps) l = omega (arith, value-below 0 (c ∷ s) (all-more p ps), ten-grows (length (c ∷ s)) k l)
+value-within k (c ∷ s) (is-digits p ps) l = omega (arith, value-below 0 (c ∷ s) (each-more p ps), ten-grows (length (c ∷ s)) k l)

@@ -6,7 +6,7 @@ use mathlib.Core.List.{List, [], _∷_, _++_, map}
 use lib.Dec.{leb, eqb}
 use lib.ListN.{length, getD, take, drop}
 use Rattle.rules_shared.specs.Limits.{limits}
-use Rattle.rules_object.specs.Check.{blanks, letter, digit}
+use Rattle.rules_object.specs.Check.{isLetter, isDigit, blanks}
 use Rattle.rules_deck.specs.Trees.{valueOf}
 
 -- ---- a card and its columns
@@ -56,7 +56,7 @@ among c [] = false
 among c (x ∷ xs) = eqb c x || among c xs
 
 unfoldable pub character : ℕ → Bool
-character c = eqb c 32 || (letter c || (digit c || among c others))
+character c = eqb c 32 || (isLetter c || (isDigit c || among c others))
 
 abbrev pub characters : List ℕ → Bool
 characters [] = true
@@ -64,7 +64,7 @@ characters (c ∷ s) = character c && characters s
 
 abbrev pub allDigits : List ℕ → Bool
 allDigits [] = true
-allDigits (c ∷ s) = digit c && allDigits s
+allDigits (c ∷ s) = isDigit c && allDigits s
 
 -- blanks vanish
 abbrev pub unlessBlank : ℕ → List ℕ → List ℕ

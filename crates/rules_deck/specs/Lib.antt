@@ -9,6 +9,7 @@ pub mod Judge
 pub mod Whole
 pub mod Compile
 pub mod Accepted
+pub mod Spelling
 pub mod Cells
 pub mod Sound
 pub mod Cost

@@ -2,11 +2,12 @@
 -- A statement's text is ASCII bytes with blanks gone and `$` read as `*`.
 -- Assumes nothing.
 use Prim.Native.Nat.{ℕ, zero, suc, _+_}
-use mathlib.Core.Bool.{Bool, true, false, _&&_, _||_, cond}
+use mathlib.Core.Bool.{Bool, true, false, _||_, cond}
 use mathlib.Core.List.{List, [], _∷_}
 use mathlib.Core.Option.{Option, none, some}
-use lib.Dec.{leb, eqb}
+use lib.Dec.{eqb}
 use lib.ListN.{length, take, drop}
+use Rattle.rules_object.specs.Check.{isLetter, isDigit}
 use Rattle.rules_deck.specs.Trees.{Name, Digits}
 
 -- ---- bytes: ( ) * + , - / =
@@ -34,12 +35,6 @@ slash = 47
 
 abbrev pub equals : ℕ
 equals = 61
-
-unfoldable pub isDigit : ℕ → Bool
-isDigit c = leb 48 c && leb c 57
-
-unfoldable pub isLetter : ℕ → Bool
-isLetter c = leb 65 c && leb c 90
 
 unfoldable pub isLetterOrDigit : ℕ → Bool
 isLetterOrDigit c = isLetter c || isDigit c

@@ -1,5 +1,5 @@
 -- 01's worked example as bytes and as lists, and 40: the examples of G1 and G2. Assumes nothing.
-use mathlib.Core.Path.{_≡_, refl}
+use mathlib.Core.Path.{_≡_, refl, subst}
 use Prim.Native.Nat.{ℕ, _+_}
 use native.Mathlib.Omega.{arith}
 use mathlib.Core.List.{List, [], _∷_, _++_}
@@ -7,7 +7,9 @@ use mathlib.Core.Option.{none, some}
 use lib.ListN.{length, take, set}
 use Rattle.rules_object.specs.Object.{Object}
 use Rattle.rules_object.specs.Bytes.{bytesOf, wordsOf, objectWords, objectBytes, readObject}
-use Rattle.rules_object.specs.Writable.{Writable}
+use Rattle.rules_object.specs.Writable.{IsByte, Writable}
+use Rattle.rules_object.specs.Each.{Each}
+use Rattle.rules_object.proofs.RoundTrip.{read-writable, object-bytes}
 
 -- I=47, J=I*I*I, STOP, END, with k = 5: the contents, one constant, ten instructions, four statements, two names
 abbrev pub cubeBytes : List ℕ
@@ -62,20 +64,7 @@ unfolding objectBytes objectWords
 cube-written = refl
 
 pub cube-writable : Writable cube
-cube-writable =
-    record {
-      digits = omega arith;
-      cells = omega arith;
-      constants = omega arith;
-      elements = tt;
-      exits = tt;
-      dos = tt;
-      code = omega arith;
-      lines = omega arith;
-      names = omega arith;
-      someCode = omega arith;
-      small = omega arith;
-    }
+cube-writable = read-writable cubeBytes cube (subst (Each IsByte) cube-written (object-bytes cube)) cube-read (omega (arith, cube-length))
 
 -- ---- 40: k = 5, no cells, and HLT 0 alone
 

@@ -17,9 +17,10 @@ use Rattle.rules_object.specs.Object.{Object}
 use Rattle.rules_object.specs.Machine.{State, state, fresh, cell, ruleOf}
 use Rattle.rules_object.specs.Flow.{heightAt}
 use Rattle.rules_object.specs.Check.{flowOf}
-use Rattle.rules_shared.specs.Lists.{all, Each}
+use Rattle.rules_shared.specs.Lists.{all}
 use Rattle.rules_object.specs.Calls.{Lent, taken, given, right50, right51, right52}
 use Rattle.rules_object.specs.Safe.{Within, Stands}
+use Rattle.rules_object.specs.Each.{Each, each-none, each-more}
 use Rattle.rules_object.specs.Promised.{RightLent}
 use Rattle.rules_object.proofs.HeightsExact.{height-reached, reached-height}
 use Rattle.rules_object.specs.Passed.{Passed}
@@ -32,31 +33,31 @@ and-true {a} {b} p q = rw (p, q) refl
 
 module _ (o : Object) where
   all-each : (l : List ℤ) → all (fits (ruleOf o)) l ≡ true → Each (Within o) l
-  all-each [] e = tt
-  all-each (z ∷ l) e = let q = both (fits (ruleOf o) z) _ e in (fits-yes (ruleOf o) z (q .0), all-each l (q .1))
+  all-each [] e = each-none
+  all-each (z ∷ l) e = let q = both (fits (ruleOf o) z) _ e in each-more (fits-yes (ruleOf o) z (q .0)) (all-each l (q .1))
 
   each-all : (l : List ℤ) → Each (Within o) l → all (fits (ruleOf o)) l ≡ true
   each-all [] h = refl
-  each-all (z ∷ l) h = and-true (yes-fits (ruleOf o) z (h .0)) (each-all l (h .1))
+  each-all (z ∷ l) (each-more h hs) = and-true (yes-fits (ruleOf o) z h) (each-all l hs)
 
   each-reverse : (l : List ℤ) → Each (Within o) l → Each (Within o) (reverse l)
-  each-reverse l h = by l [] h tt
+  each-reverse l h = by l [] h each-none
     where
       by : (l r : List ℤ) → Each (Within o) l → Each (Within o) r → Each (Within o) (reverseAux l r)
       by [] r h g = g
-      by (z ∷ l) r h g = by l (z ∷ r) (h .1) (h .0, g)
+      by (z ∷ l) r (each-more h hs) g = by l (z ∷ r) hs (each-more h g)
 
   -- the first n of a store
   each-cells : (n : ℕ) (c : List ℤ) → n ≤ length c → Each (Within o) (take n c) → (a : ℕ) → a < n → Within o (cell c a)
   each-cells zero c l h a i = absurd (omega arith)
   each-cells (suc n) [] l h a i = absurd (omega arith)
-  each-cells (suc n) (z ∷ c) l h zero i = h .0
-  each-cells (suc n) (z ∷ c) l h (suc a) i = each-cells n c (omega arith) (h .1) a (omega arith)
+  each-cells (suc n) (z ∷ c) l (each-more h hs) zero i = h
+  each-cells (suc n) (z ∷ c) l (each-more h hs) (suc a) i = each-cells n c (omega arith) hs a (omega arith)
 
   cells-each : (n : ℕ) (c : List ℤ) → ((a : ℕ) → a < n → Within o (cell c a)) → Each (Within o) (take n c)
-  cells-each zero c f = tt
-  cells-each (suc n) [] f = tt
-  cells-each (suc n) (z ∷ c) f = (f 0 (omega arith), cells-each n c (λ a i. f (suc a) (omega arith)))
+  cells-each zero c f = each-none
+  cells-each (suc n) [] f = each-none
+  cells-each (suc n) (z ∷ c) f = each-more (f 0 (omega arith)) (cells-each n c (λ a i. f (suc a) (omega arith)))
 
 -- ---- from what is lent to a state
 
@@ -95,7 +96,7 @@ pub fresh-stands : {bytes : List ℕ} {o : Object} {table : List ℕ} → Passed
 unfolding flowOf
 fresh-stands {o = o} p store e f =
     let b = p .least .valid .begins in
-    record { inside = b .0; height = b .1; low = omega arith; stack = tt; long = long-enough o store e; store = cells-within o store e f; mark = omega arith }
+    record { inside = b .0; height = b .1; low = omega arith; stack = each-none; long = long-enough o store e; store = cells-within o store e f; mark = omega arith }
 
 -- ---- 52 and paths
 

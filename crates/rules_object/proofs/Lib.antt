@@ -1,3 +1,4 @@
+pub mod EachLaws
 pub mod Fills
 pub mod HeightsExact
 pub mod OneTable

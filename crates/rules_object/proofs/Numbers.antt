@@ -14,8 +14,8 @@ use Rattle.number.proofs.Laws.{ceiling-pos}
 use Rattle.rules_object.specs.Object.{Object}
 use Rattle.rules_shared.specs.Choose.{positive, Turn, again, over, turn}
 use Rattle.rules_object.specs.Machine.{cell, top, under, ruleOf}
-use Rattle.rules_shared.specs.Lists.{Each}
 use Rattle.rules_object.specs.Safe.{Within}
+use Rattle.rules_object.specs.Each.{Each, each-none, each-more}
 
 module _ (o : Object) where
   pub zero-within : Within o (pos 0)
@@ -23,11 +23,11 @@ module _ (o : Object) where
 
   pub top-within : (s : List ℤ) → Each (Within o) s → Within o (top s)
   top-within [] h = zero-within
-  top-within (v ∷ s) h = h .0
+  top-within (v ∷ s) (each-more h hs) = h
 
   pub under-within : (s : List ℤ) → Each (Within o) s → Each (Within o) (under s)
-  under-within [] h = tt
-  under-within (v ∷ s) h = h .1
+  under-within [] h = each-none
+  under-within (v ∷ s) (each-more h hs) = hs
 
   pub set-within : (c : List ℤ) (a : ℕ) (v : ℤ) → ((b : ℕ) → b < o .cells → Within o (cell c b)) → Within o v → (b : ℕ) → b < o .cells → Within o (cell (set c a v) b)
   set-within c a v h w b l = by c a b (h b l)

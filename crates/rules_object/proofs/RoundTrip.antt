@@ -12,9 +12,10 @@ use lib.Seq.{take-append-seam, drop-append-seam, take-at, drop-at, drop-cons, dr
 use borrow.Author.Tests.{leb-true, eqb-true, eqb-false, le-leb, eq-eqb, ne-eqb}
 use Rattle.rules_object.specs.Object.{Element, Loop, Line, Named, Object}
 use Rattle.rules_object.specs.Bytes.{bytesOf, wordsOf, concat, entrySizes, elementWords, loopWords, lineWords, nameWords, bodies, word, elementOf, loopOf, lineOf, namedOf, entries, bodyTable, contentsLength, objectWords, objectBytes, consBody, readBodies, body, objectOf, readWords, readObject}
-use Rattle.rules_shared.specs.Lists.{Each}
 use Rattle.rules_object.specs.Writable.{IsByte, IsWord, WritableElement, WritableLoop, WritableLine, WritableNamed, bodyWords, Writable}
-use Rattle.rules_object.proofs.Words.{each-map, each-of, each-append, each-left, each-right, each-take, each-drop, digits-of, words-bytes, length-bytes, each-byte, bytes-words, each-word, length-words, signed-word, word-signed, signed-is, signed-is-word}
+use Rattle.rules_object.specs.Each.{Each, each-none, each-more}
+use Rattle.rules_object.proofs.EachLaws.{each-one, each-of, each-map, each-append, each-left, each-right, each-take, each-drop}
+use Rattle.rules_object.proofs.Words.{digits-of, words-bytes, length-bytes, each-byte, bytes-words, each-word, length-words, signed-word, word-signed, signed-is, signed-is-word}
 
 -- ---- a test that a whole answer waits on
 
@@ -38,9 +39,8 @@ and-right false t e = cc
 
 pub length-flat : {A : Type 0} (z : ℕ) (f : A → List ℕ) (xs : List A) → Each (λ x. length (f x) ≡ z) xs → length (concat (map f xs)) ≡ length xs * z
 length-flat z f [] h = omega arith
-length-flat z f (x ∷ xs) h =
-    let e = length-flat z f xs (h .1) in
-    let d = h .0 in
+length-flat z f (x ∷ xs) (each-more d h) =
+    let e = length-flat z f xs h in
     simp length-append (omega arith)
 
 -- P: what an entry must be for its words to keep it
@@ -48,17 +48,17 @@ module _ {A : Type 0} (P : A → Type 0) (z : ℕ) (f : A → List ℕ) (g : Lis
   pub entries-flat : ((x : A) → P x → length (f x) ≡ z) → ((x : A) → P x → g (f x) ≡ x) → (xs : List A) → Each P xs
       → map g (entries (length xs) z (concat (map f xs))) ≡ xs
   entries-flat size back [] h = refl
-  entries-flat size back (x ∷ xs) h =
-      let d = size x (h .0) in
-      let e = entries-flat size back xs (h .1) in
+  entries-flat size back (x ∷ xs) (each-more h hs) =
+      let d = size x h in
+      let e = entries-flat size back xs hs in
       let t : take z (f x ++ concat (map f xs)) ≡ f x = take-at (f x) (concat (map f xs)) z d in
       let r : drop z (f x ++ concat (map f xs)) ≡ concat (map f xs) = drop-at (f x) (concat (map f xs)) z d in
-      rw (t, r, back x (h .0)) (ap (λ l. x ∷ l) e)
+      rw (t, r, back x h) (ap (λ l. x ∷ l) e)
 
   -- the entries read are those written
   pub read-flat : 0 < z → ((x : A) → P x → length (f x) ≡ z) → ((x : A) → P x → g (f x) ≡ x) → (xs : List A) → Each P xs
       → map g (entries (length (concat (map f xs)) / z) z (concat (map f xs))) ≡ xs
-  read-flat p size back xs h = rw (length-flat z f xs (each-map P (λ x. length (f x) ≡ z) size xs h), mul-div-cancel (length xs) p) (entries-flat size back xs h)
+  read-flat p size back xs h = rw (length-flat z f xs (each-map size h), mul-div-cancel (length xs) p) (entries-flat size back xs h)
 
 -- and the other way: words in whole entries
 module _ {A : Type 0} (z : ℕ) (f : A → List ℕ) (g : List ℕ → A) where
@@ -69,17 +69,17 @@ module _ {A : Type 0} (z : ℕ) (f : A → List ℕ) (g : List ℕ → A) where
   flat-entries forth (suc n) ws e h =
       let t : length (take z ws) ≡ z = length-take-le z ws (omega arith) in
       let r : length (drop z ws) ≡ n * z = length-drop z ws ∙ (omega arith) in
-      let k = flat-entries forth n (drop z ws) r (each-drop IsWord z ws h) in
-      rw (forth (take z ws) t (each-take IsWord z ws h), k) (take-append-drop z ws)
+      let k = flat-entries forth n (drop z ws) r (each-drop z ws h) in
+      rw (forth (take z ws) t (each-take z ws h), k) (take-append-drop z ws)
 
 module _ {A : Type 0} (P : A → Type 0) (z : ℕ) (g : List ℕ → A) where
   pub each-entries : ((e : List ℕ) → length e ≡ z → Each IsWord e → P (g e)) → (n : ℕ) (ws : List ℕ) → length ws ≡ n * z → Each IsWord ws
       → Each P (map g (entries n z ws))
-  each-entries fine zero ws e h = tt
+  each-entries fine zero ws e h = each-none
   each-entries fine (suc n) ws e h =
       let t : length (take z ws) ≡ z = length-take-le z ws (omega arith) in
       let r : length (drop z ws) ≡ n * z = length-drop z ws ∙ (omega arith) in
-      (fine (take z ws) t (each-take IsWord z ws h), each-entries fine n (drop z ws) r (each-drop IsWord z ws h))
+      each-more (fine (take z ws) t (each-take z ws h)) (each-entries fine n (drop z ws) r (each-drop z ws h))
 
 -- ---- the four entries of more than one word
 
@@ -97,8 +97,8 @@ from-is (suc n) i e l = ap (λ r. word e i ∷ r) (from-is n (suc i) e (omega ar
 
 pub is-word : (e : List ℕ) (i : ℕ) → Each IsWord e → IsWord (word e i)
 is-word [] i h = omega arith
-is-word (w ∷ e) zero h = h .0
-is-word (w ∷ e) (suc i) h = is-word e i (h .1)
+is-word (w ∷ e) zero (each-more h hs) = h
+is-word (w ∷ e) (suc i) (each-more h hs) = is-word e i hs
 
 pub element-back : (e : Element) → WritableElement e → elementOf (elementWords e) ≡ e
 element-back e h = rw (signed-word (e .first .plus) (h .first .plus), signed-word (e .second .plus) (h .second .plus))
@@ -212,41 +212,44 @@ found (z ∷ zs) kind at contents ws bs e =
 -- ---- the whole object
 
 pub each-flat : {A : Type 0} (P : A → Type 0) (f : A → List ℕ) → ((x : A) → P x → Each IsWord (f x)) → (xs : List A) → Each P xs → Each IsWord (concat (map f xs))
-each-flat P f h [] a = tt
-each-flat P f h (x ∷ xs) a = each-append IsWord (f x) (concat (map f xs)) (h x (a .0)) (each-flat P f h xs (a .1))
+each-flat P f h [] a = each-none
+each-flat P f h (x ∷ xs) (each-more p ps) = each-append (h x p) (each-flat P f h xs ps)
 
 element-words : (e : Element) → WritableElement e → Each IsWord (elementWords e)
-element-words e h = let a = signed-is-word (e .first .plus) (h .first .plus) in let b = signed-is-word (e .second .plus) (h .second .plus) in omega arith
+element-words e h = let a = signed-is-word (e .first .plus) (h .first .plus) in let b = signed-is-word (e .second .plus) (h .second .plus) in
+    each-more (h .base) (each-more (h .rows) (each-more (h .columns) (each-more (h .first .times) (each-more (h .first .cell) (each-more a
+    (each-more (h .second .times) (each-more (h .second .cell) (each-one b))))))))
 
 loop-words : (d : Loop) → WritableLoop d → Each IsWord (loopWords d)
-loop-words d h = omega arith
+loop-words d h = each-more (h .variable) (each-more (h .limit) (each-more (h .step) (each-one (h .body))))
 
 line-words : (l : Line) → WritableLine l → Each IsWord (lineWords l)
-line-words l h = omega arith
+line-words l h = each-more (h .sequence) (each-more (h .number) (each-one (h .address)))
 
 name-words : (n : Named) → WritableNamed n → Each IsWord (nameWords n)
-name-words n h = each-append IsWord (wordsOf (n .name)) (n .first ∷ n .rows ∷ n .columns ∷ []) (each-word (n .name) (h .bytes)) (h .first, (h .rows, (h .columns, tt)))
+name-words n h = each-append (each-word (n .name) (h .bytes)) (each-more (h .first) (each-more (h .rows) (each-one (h .columns))))
 
 table-words : (kind at : ℕ) (bs : List (List ℕ)) → kind + length bs < 2 ^ 32 → at + 4 * length (concat bs) < 2 ^ 32 → Each IsWord (bodyTable kind at bs)
-table-words kind at [] l h = tt
+table-words kind at [] l h = each-none
 table-words kind at (b ∷ bs) l h =
     let e = length-append b (concat bs) in
-    (omega arith, (omega arith, (omega arith, table-words (suc kind) (at + 4 * length b) bs (omega arith) (omega arith))))
+    let entry : IsWord kind × IsWord at × IsWord (4 * length b) = omega arith in
+    each-more (entry .0) (each-more (entry .1) (each-more (entry .2) (table-words (suc kind) (at + 4 * length b) bs (omega arith) (omega arith))))
 
 elements-size : (es : List Element) → length (concat (map elementWords es)) ≡ length es * 9
-elements-size es = length-flat 9 elementWords es (each-of (λ e. length (elementWords e) ≡ 9) (λ e. refl) es)
+elements-size es = length-flat 9 elementWords es (each-of (λ e. refl) es)
 
 dos-size : (ds : List Loop) → length (concat (map loopWords ds)) ≡ length ds * 4
-dos-size ds = length-flat 4 loopWords ds (each-of (λ d. length (loopWords d) ≡ 4) (λ d. refl) ds)
+dos-size ds = length-flat 4 loopWords ds (each-of (λ d. refl) ds)
 
 lines-size : (ls : List Line) → length (concat (map lineWords ls)) ≡ length ls * 3
-lines-size ls = length-flat 3 lineWords ls (each-of (λ l. length (lineWords l) ≡ 3) (λ l. refl) ls)
+lines-size ls = length-flat 3 lineWords ls (each-of (λ l. refl) ls)
 
 names-size : (ns : List Named) → Each (λ n. length (n .name) ≡ 8) ns → length (concat (map nameWords ns)) ≡ length ns * 5
-names-size ns h = length-flat 5 nameWords ns (each-map (λ n. length (n .name) ≡ 8) (λ n. length (nameWords n) ≡ 5) name-size ns h)
+names-size ns h = length-flat 5 nameWords ns (each-map name-size h)
 
 pub all-eight : (ns : List Named) → Each WritableNamed ns → Each (λ n. length (n .name) ≡ 8) ns
-all-eight ns h = each-map WritableNamed (λ n. length (n .name) ≡ 8) (λ n k. k .eight) ns h
+all-eight ns h = each-map (λ n k. k .eight) h
 
 length-bodies : (o : Object) → Each (λ n. length (n .name) ≡ 8) (o .names) → length (concat (bodies o)) ≡ bodyWords o
 length-bodies o h =
@@ -258,11 +261,11 @@ unfolding objectBytes objectWords
 object-length o h = length-bytes (objectWords o) ∙ (omega (arith, length-bodies o h))
 
 bodies-words : (o : Object) → Writable o → Each IsWord (concat (bodies o))
-bodies-words o h = joined (bodies o) (h .constants, (e, (h .exits, (d, (h .code, (l, (n, tt)))))))
+bodies-words o h = joined (bodies o) (each-more (h .constants) (each-more e (each-more (h .exits) (each-more d (each-more (h .code) (each-more l (each-one n)))))))
   where
     joined : (bs : List (List ℕ)) → Each (λ b. Each IsWord b) bs → Each IsWord (concat bs)
-    joined [] k = tt
-    joined (b ∷ bs) k = each-append IsWord b (concat bs) (k .0) (joined bs (k .1))
+    joined [] k = each-none
+    joined (b ∷ bs) (each-more k ks) = each-append k (joined bs ks)
 
     e : Each IsWord (concat (map elementWords (o .elements)))
     e = each-flat WritableElement elementWords element-words (o .elements) (h .elements)
@@ -280,7 +283,9 @@ object-words : (o : Object) → Writable o → Each IsWord (objectWords o)
 unfolding objectWords
 object-words o h =
     let t = table-words 1 100 (bodies o) (omega arith) (omega (arith, length-bodies o (all-eight (o .names) (h .names)), h .small)) in
-    (omega arith, (h .digits, (h .cells, (omega arith, each-append IsWord (bodyTable 1 100 (bodies o)) (concat (bodies o)) t (bodies-words o h)))))
+    let version : IsWord 1 = omega arith in
+    let count : IsWord 7 = omega arith in
+    each-more version (each-more (h .digits) (each-more (h .cells) (each-more count (each-append t (bodies-words o h)))))
 
 object-whole : (o : Object) → Each (λ n. length (n .name) ≡ 8) (o .names) → Whole entrySizes (bodies o)
 object-whole o h =
@@ -350,17 +355,14 @@ object-some k c none o e = let z : _≡_ {A = ℕ} 0 1 = cc in absurd (omega ari
 object-some k c (some bs) o e = (bs, refl, e)
 
 each-concat : (bs : List (List ℕ)) → Each IsWord (concat bs) → Each (λ b. Each IsWord b) bs
-each-concat [] h = tt
-each-concat (b ∷ bs) h = (each-left IsWord b (concat bs) h, each-concat bs (each-right IsWord b (concat bs) h))
+each-concat [] h = each-none
+each-concat (b ∷ bs) h = each-more (each-left b (concat bs) h) (each-concat bs (each-right b (concat bs) h))
 
 made : (k c : ℕ) (bs : List (List ℕ)) (o : Object) → Whole entrySizes bs → Each (λ b. Each IsWord b) bs → objectOf k c (some bs) ≡ some o → Made k c bs o
-made k c bs o (whole {b = b1} n1 e1 (whole {b = b2} n2 e2 (whole {b = b3} n3 e3 (whole {b = b4} n4 e4 (whole {b = b5} n5 e5 (whole {b = b6} n6 e6 (whole {b = b7} n7 e7 no-more))))))) h e =
+made k c bs o (whole {b = b1} n1 e1 (whole {b = b2} n2 e2 (whole {b = b3} n3 e3 (whole {b = b4} n4 e4 (whole {b = b5} n5 e5 (whole {b = b6} n6 e6 (whole {b = b7} n7 e7 no-more)))))))
+    (each-more h1 (each-more h2 (each-more h3 (each-more h4 (each-more h5 (each-more h6 (each-more h7 each-none))))))) e =
     let p = no-test (eqb (length b5) 0) _ o e in
     let some5 : length b5 ≡ 0 → ⊥ = eqb-false (length b5) 0 (p .0) in
-    let h2 = h .1 .0 in
-    let h4 = h .1 .1 .1 .0 in
-    let h6 = h .1 .1 .1 .1 .1 .0 in
-    let h7 = h .1 .1 .1 .1 .1 .1 .0 in
     let q2 : length b2 ≡ length b2 / 9 * 9 = omega arith in
     let q4 : length b4 ≡ length b4 / 4 * 4 = omega arith in
     let q6 : length b6 ≡ length b6 / 3 * 3 = omega arith in
@@ -383,11 +385,11 @@ made k c bs o (whole {b = b1} n1 e1 (whole {b = b2} n2 e2 (whole {b = b3} n3 e3 
           record {
             digits = hk;
             cells = hc;
-            constants = h .0;
+            constants = h1;
             elements = each-entries WritableElement 9 elementOf element-fine (length b2 / 9) b2 q2 h2;
-            exits = h .1 .1 .0;
+            exits = h3;
             dos = each-entries WritableLoop 4 loopOf loop-fine (length b4 / 4) b4 q4 h4;
-            code = h .1 .1 .1 .1 .0;
+            code = h5;
             lines = each-entries WritableLine 3 lineOf line-fine (length b6 / 3) b6 q6 h6;
             names = named;
             someCode = omega arith;
@@ -422,7 +424,7 @@ back-of : (ws : List ℕ) (o : Object) → Each IsWord ws → word ws 0 ≡ 1 �
     → readBodies entrySizes 1 100 (take 21 (drop 4 ws)) (drop 21 (drop 4 ws)) ≡ some bs → objectOf (word ws 1) (word ws 2) (some bs) ≡ some o → Back ws o
 back-of ws o h e0 e3 bs r e =
     let f = found entrySizes 1 100 (take 21 (drop 4 ws)) (drop 21 (drop 4 ws)) bs r in
-    let w : Each IsWord (concat bs) = rw (f .flat) (each-drop IsWord 21 (drop 4 ws) (each-drop IsWord 4 ws h)) in
+    let w : Each IsWord (concat bs) = rw (f .flat) (each-drop 21 (drop 4 ws) (each-drop 4 ws h)) in
     let m = made (word ws 1) (word ws 2) bs o (f .fits) (each-concat bs w) e in
     let c : 0 < length (concat bs) = m .code in
     let l : 25 ≤ length ws = omega (arith, ap length (f .flat), length-drop 21 (drop 4 ws), length-drop 4 ws) in

@@ -17,8 +17,9 @@ use Rattle.rules_shared.specs.Choose.{sign3, exit, positive, allPositive, Turn,
 use Rattle.rules_object.specs.Object.{Element, Loop, Object}
 use Rattle.rules_object.specs.Machine.{Instr, HLT, CON, LOD, STO, LDE, STE, OP, NEG, JMP, BR3, BRC, DOI, DOE, State, state, cell, top, under, operated, placeOf, elementLoaded, elementStored, branched, begun, turned, ended, halts, act, ruleOf, step}
 use Rattle.rules_object.specs.Check.{pops, pushes, instruction}
-use Rattle.rules_shared.specs.Lists.{Each}
 use Rattle.rules_object.specs.Safe.{elementCell, elementCells, touchedBy, touches, Right, Within, Stands}
+use Rattle.rules_object.specs.Each.{Each, each-none, each-more}
+use Rattle.rules_object.proofs.EachLaws.{each-one}
 use Rattle.rules_shared.proofs.RunLaws.{run-keeps, halted}
 use Rattle.rules_shared.proofs.Places.{place-below}
 use Rattle.rules_object.proofs.HaltsThere.{step-there}
@@ -108,13 +109,13 @@ module _ (o : Object) (H : List ℕ) (t : State) (s : Stands o H t) where
   operated-kept : (r : Result) (h : ℕ) → ResultFits (ruleOf o) r → Led o H (suc (t .index)) h → length (under (under (t .stack))) + 1 ≡ h → Kept o H (operated r t (under (under (t .stack))))
   unfolding haltNumber
   operated-kept (value v lost) h f l e =
-      arrive _ h _ (t .store) (marked (t .mark) lost (t .index)) l (omega arith) (f, rest₂) (s .long) (s .store) (marked-inside (t .mark) lost (t .index) _ (s .mark) (s .inside))
+      arrive _ h _ (t .store) (marked (t .mark) lost (t .index)) l (omega arith) (each-more f rest₂) (s .long) (s .store) (marked-inside (t .mark) lost (t .index) _ (s .mark) (s .inside))
   operated-kept byZero h f l e = omega arith
 
   loaded-kept : (e : Element) (p : Option ℕ) (h : ℕ) → GoodElement o e → ((q : ℕ) → p ≡ some q → q < e .rows * e .columns) → Led o H (suc (t .index)) h → suc (length (t .stack)) ≡ h → Kept o H (elementLoaded p e t)
   unfolding haltNumber
   loaded-kept e none h g b l q = omega arith
-  loaded-kept e (some p) h g b l q = let z = b p refl in let y = g .span in moves _ h _ l q (s .store (e .base + p) (omega arith), s .stack)
+  loaded-kept e (some p) h g b l q = let z = b p refl in let y = g .span in moves _ h _ l q (each-more (s .store (e .base + p) (omega arith)) (s .stack))
 
   stored-kept : (e : Element) (p : Option ℕ) (h : ℕ) → Led o H (suc (t .index)) h → length (under (t .stack)) ≡ h → Kept o H (elementStored p e t)
   unfolding haltNumber
@@ -156,8 +157,8 @@ module _ (o : Object) (H : List ℕ) (t : State) (s : Stands o H t) where
 
   act-kept : (i : Instr) → Good o i → pops i ≤ length (t .stack) → Leads o H (t .index) i (length (t .stack)) → Kept o H (act (ruleOf o) i t)
   act-kept (HLT x) g p l = halts-fault x
-  act-kept (CON c) g p l = moves _ _ _ (l 0 (omega arith)) (omega arith) (g, s .stack)
-  act-kept (LOD a) g p l = moves _ _ _ (l 0 (omega arith)) (omega arith) (s .store a g, s .stack)
+  act-kept (CON c) g p l = moves _ _ _ (l 0 (omega arith)) (omega arith) (each-more g (s .stack))
+  act-kept (LOD a) g p l = moves _ _ _ (l 0 (omega arith)) (omega arith) (each-more (s .store a g) (s .stack))
   act-kept (STO a) g p l = writes _ _ a _ _ (l 0 (omega arith)) (omega (arith, under-length (t .stack))) rest₁ top₁
   act-kept (LDE e) g p l = loaded-kept e (placeOf (t .store) e) _ g (λ q r. place-below (e .rows) (e .columns) _ _ q r) (l 0 (omega arith)) (omega arith)
   act-kept (STE e) g p l = stored-kept e (placeOf (t .store) e) _ (l 0 (omega arith)) (omega (arith, under-length (t .stack)))
@@ -166,7 +167,7 @@ module _ (o : Object) (H : List ℕ) (t : State) (s : Stands o H t) where
       let e₂ = two-one f .1 in
       operated-kept (apply (ruleOf o) f (top (under (t .stack))) (top (t .stack))) _ (apply-fits (ruleOf o) f _ _ top₂) (l 0 (omega arith))
       (omega (arith, under-length (t .stack), under-length (under (t .stack))))
-  act-kept NEG g p l = moves _ _ _ (l 0 (omega arith)) (omega (arith, under-length (t .stack))) (neg-fits (ruleOf o) (top (t .stack)) top₁, rest₁)
+  act-kept NEG g p l = moves _ _ _ (l 0 (omega arith)) (omega (arith, under-length (t .stack))) (each-more (neg-fits (ruleOf o) (top (t .stack)) top₁) rest₁)
   act-kept (JMP a) g p l = moves a _ _ (l 0 (omega arith)) (omega arith) (s .stack)
   act-kept (BR3 a b c) g p l =
       moves _ _ _ (sign-led (top (t .stack)) (l 0 (omega arith)) (l 1 (omega arith)) (l 2 (omega arith))) (omega (arith, under-length (t .stack))) rest₁
@@ -195,26 +196,26 @@ after-low a (DOE n d) h b l = l 0 (omega arith) .low
 
 module _ (o : Object) where
   element-touched : (e : Element) (store : List ℤ) → GoodElement o e → Each (λ a. a < o .cells) (elementCells e store)
-  element-touched e store g = (g .first, (g .second, by (placeOf store e) (λ q r. place-below (e .rows) (e .columns) _ _ q r)))
+  element-touched e store g = each-more (g .first) (each-more (g .second) (by (placeOf store e) (λ q r. place-below (e .rows) (e .columns) _ _ q r)))
     where
       by : (p : Option ℕ) → ((q : ℕ) → p ≡ some q → q < e .rows * e .columns) → Each (λ a. a < o .cells) (elementCell e p)
-      by none f = tt
-      by (some p) f = let z = f p refl in let y = g .span in (omega arith, tt)
+      by none f = each-none
+      by (some p) f = let z = f p refl in let y = g .span in each-one (omega arith)
 
   touched-below : (i : Instr) (store : List ℤ) → Good o i → Each (λ a. a < o .cells) (touchedBy i store)
-  touched-below (HLT x) c g = tt
-  touched-below (CON n) c g = tt
-  touched-below (LOD a) c g = (g, tt)
-  touched-below (STO a) c g = (g, tt)
+  touched-below (HLT x) c g = each-none
+  touched-below (CON n) c g = each-none
+  touched-below (LOD a) c g = each-one g
+  touched-below (STO a) c g = each-one g
   touched-below (LDE e) c g = element-touched e c g
   touched-below (STE e) c g = element-touched e c g
-  touched-below (OP f) c g = tt
-  touched-below NEG c g = tt
-  touched-below (JMP a) c g = tt
-  touched-below (BR3 x y z) c g = tt
-  touched-below (BRC ts) c g = tt
-  touched-below (DOI n d) c g = (g .variable, (g .limit, (g .step, tt)))
-  touched-below (DOE n d) c g = (g .variable, (g .limit, (g .step, tt)))
+  touched-below (OP f) c g = each-none
+  touched-below NEG c g = each-none
+  touched-below (JMP a) c g = each-none
+  touched-below (BR3 x y z) c g = each-none
+  touched-below (BRC ts) c g = each-none
+  touched-below (DOI n d) c g = each-more (g .variable) (each-more (g .limit) (each-one (g .step)))
+  touched-below (DOE n d) c g = each-more (g .variable) (each-more (g .limit) (each-one (g .step)))
 
 -- ---- the theorems
 

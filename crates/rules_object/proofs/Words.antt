@@ -8,41 +8,12 @@ use mathlib.Core.Bool.{Bool, true, false, cond}
 use mathlib.Core.List.{List, [], _∷_, _++_}
 use lib.Arith.{digits-div, digits-mod}
 use lib.Dec.{ltb}
-use lib.ListN.{length, take, drop, take-append-drop}
+use lib.ListN.{length}
 use lib.IntN.{ℤ, pos, negsuc}
 use borrow.Author.Tests.{ltb-true, ltb-false, lt-ltb, le-ltb}
 use Rattle.rules_object.specs.Bytes.{wordBytes, bytesOf, wordsOf, signedOf, signedWord}
-use Rattle.rules_shared.specs.Lists.{Each}
 use Rattle.rules_object.specs.Writable.{IsByte, IsWord, IsSigned}
-
--- ---- a predicate of every element
-
-pub each-map : {A : Type 0} (P Q : A → Type 0) → ((x : A) → P x → Q x) → (xs : List A) → Each P xs → Each Q xs
-each-map P Q f [] h = tt
-each-map P Q f (x ∷ xs) h = (f x (h .0), each-map P Q f xs (h .1))
-
-module _ {A : Type 0} (P : A → Type 0) where
-  pub each-of : ((x : A) → P x) → (xs : List A) → Each P xs
-  each-of f [] = tt
-  each-of f (x ∷ xs) = (f x, each-of f xs)
-
-  pub each-append : (xs ys : List A) → Each P xs → Each P ys → Each P (xs ++ ys)
-  each-append [] ys h k = k
-  each-append (x ∷ xs) ys h k = (h .0, each-append xs ys (h .1) k)
-
-  pub each-left : (xs ys : List A) → Each P (xs ++ ys) → Each P xs
-  each-left [] ys h = tt
-  each-left (x ∷ xs) ys h = (h .0, each-left xs ys (h .1))
-
-  pub each-right : (xs ys : List A) → Each P (xs ++ ys) → Each P ys
-  each-right [] ys h = h
-  each-right (x ∷ xs) ys h = each-right xs ys (h .1)
-
-  pub each-take : (n : ℕ) (xs : List A) → Each P xs → Each P (take n xs)
-  each-take n xs h = each-left (take n xs) (drop n xs) (rw (take-append-drop n xs) h)
-
-  pub each-drop : (n : ℕ) (xs : List A) → Each P xs → Each P (drop n xs)
-  each-drop n xs h = each-right (take n xs) (drop n xs) (rw (take-append-drop n xs) h)
+use Rattle.rules_object.specs.Each.{Each, each-none, each-more}
 
 -- ---- bytes of words
 
@@ -58,15 +29,17 @@ words-cons w s h = ap (λ x. x ∷ wordsOf s) (digits-of w h)
 
 pub words-bytes : (ws : List ℕ) → Each IsWord ws → wordsOf (bytesOf ws) ≡ ws
 words-bytes [] h = refl
-words-bytes (w ∷ ws) h = words-cons w (bytesOf ws) (h .0) ∙ ap (λ r. w ∷ r) (words-bytes ws (h .1))
+words-bytes (w ∷ ws) (each-more p ps) = words-cons w (bytesOf ws) p ∙ ap (λ r. w ∷ r) (words-bytes ws ps)
 
 pub length-bytes : (ws : List ℕ) → length (bytesOf ws) ≡ 4 * length ws
 length-bytes [] = refl
 length-bytes (w ∷ ws) = omega (arith, length-bytes ws)
 
 pub each-byte : (ws : List ℕ) → Each IsByte (bytesOf ws)
-each-byte [] = tt
-each-byte (w ∷ ws) = (omega arith, (omega arith, (omega arith, (omega arith, each-byte ws))))
+each-byte [] = each-none
+each-byte (w ∷ ws) =
+    let byte : (n : ℕ) → IsByte (n % 256) = λ n. omega arith in
+    each-more (byte w) (each-more (byte (w / 256)) (each-more (byte (w / 65536)) (each-more (byte (w / 16777216)) (each-byte ws))))
 
 -- ---- words of bytes
 
@@ -89,17 +62,19 @@ bytes-words [] h e = refl
 bytes-words (a ∷ []) h e = absurd (omega arith)
 bytes-words (a ∷ b ∷ []) h e = absurd (omega arith)
 bytes-words (a ∷ b ∷ c ∷ []) h e = absurd (omega arith)
-bytes-words (a ∷ b ∷ c ∷ d ∷ s) h e =
-    let k : bytesOf (wordsOf s) ≡ s = bytes-words s (h .1 .1 .1 .1) (omega arith) in
-    let f = bytes-cons a b c d (h .0) (h .1 .0) (h .1 .1 .0) (h .1 .1 .1 .0) in
+bytes-words (a ∷ b ∷ c ∷ d ∷ s) (each-more ha (each-more hb (each-more hc (each-more hd h)))) e =
+    let k : bytesOf (wordsOf s) ≡ s = bytes-words s h (omega arith) in
+    let f = bytes-cons a b c d ha hb hc hd in
     ap (λ x. x ++ bytesOf (wordsOf s)) f ∙ ap (λ r. a ∷ b ∷ c ∷ d ∷ r) k
 
 pub each-word : (s : List ℕ) → Each IsByte s → Each IsWord (wordsOf s)
-each-word [] h = tt
-each-word (a ∷ []) h = tt
-each-word (a ∷ b ∷ []) h = tt
-each-word (a ∷ b ∷ c ∷ []) h = tt
-each-word (a ∷ b ∷ c ∷ d ∷ s) h = (omega arith, each-word s (h .1 .1 .1 .1))
+each-word [] h = each-none
+each-word (a ∷ []) h = each-none
+each-word (a ∷ b ∷ []) h = each-none
+each-word (a ∷ b ∷ c ∷ []) h = each-none
+each-word (a ∷ b ∷ c ∷ d ∷ s) (each-more ha (each-more hb (each-more hc (each-more hd h)))) =
+    let word : IsWord (a + b * 256 + c * 65536 + d * 16777216) = omega arith in
+    each-more word (each-word s h)
 
 pub length-words : (s : List ℕ) → length (wordsOf s) ≡ length s / 4
 length-words [] = refl

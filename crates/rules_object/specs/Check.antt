@@ -53,17 +53,17 @@ abbrev pub blanks : List ℕ → Bool
 blanks [] = true
 blanks (c ∷ s) = eqb c 32 && blanks s
 
-abbrev pub letter : ℕ → Bool
-letter c = leb 65 c && leb c 90
+abbrev pub isLetter : ℕ → Bool
+isLetter c = leb 65 c && leb c 90
 
-abbrev pub digit : ℕ → Bool
-digit c = leb 48 c && leb c 57
+abbrev pub isDigit : ℕ → Bool
+isDigit c = leb 48 c && leb c 57
 
 -- at most n letters or digits, then blanks
 abbrev pub nameTail : ℕ → List ℕ → Bool
 nameTail zero s = blanks s
 nameTail (suc n) [] = true
-nameTail (suc n) (c ∷ s) = cond (letter c || digit c) (nameTail n s) (blanks (c ∷ s))
+nameTail (suc n) (c ∷ s) = cond (isLetter c || isDigit c) (nameTail n s) (blanks (c ∷ s))
 
 -- a letter I-N, up to five letters or digits, blank-filled
 abbrev pub rightName : List ℕ → Bool

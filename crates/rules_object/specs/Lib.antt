@@ -1,6 +1,7 @@
 pub mod Halts
 pub mod Object
 pub mod Bytes
+pub mod Each
 pub mod Writable
 pub mod Machine
 pub mod Flow

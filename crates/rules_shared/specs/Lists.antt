@@ -13,8 +13,3 @@ firstBad test (a ∷ more) n = cond (test a) (firstBad test more (suc n)) (some 
 abbrev pub all : {A : Type 0} → (A → Bool) → List A → Bool
 all test [] = true
 all test (a ∷ more) = test a && all test more
-
--- a predicate of every element
-abbrev pub Each : {A : Type 0} → (A → Type 0) → List A → Type 0
-Each P [] = Unit {0}
-Each P (x ∷ xs) = P x × Each P xs

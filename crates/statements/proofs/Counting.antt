@@ -9,9 +9,10 @@ use lib.Dec.{eqb, leb}
 use lib.ListN.{length, take, length-map}
 use borrow.Author.Tests.{eqb-true, eqb-false, leb-true}
 use Rattle.rules_shared.specs.Lists.{all}
+use Rattle.rules_object.specs.Each.{Each, each-none, each-more}
 use Rattle.rules_deck.specs.Trees.{Target, cell, element, Form, assign, goTo, computed, ifs, loop, continue, stop, end, dimension, formExits, formLast}
 use Rattle.rules_deck.specs.Judge.{right13}
-use Rattle.rules_deck.proofs.Readers.{All, all-none, all-more, both-true}
+use Rattle.rules_deck.proofs.Readers.{both-true}
 use Rattle.tokens.specs.Words.{capped}
 use Rattle.elements.specs.Values.{targetValue}
 use Rattle.draft.specs.declared.Counts.{Counts}
@@ -131,11 +132,11 @@ plan-numbers {p} {items} f h = ap (λ (x : Plan). numbersOf x items) (h .plan) �
 pub book-numbers : {p : Plan} {items : List ℕ} (f : Form) → Plans f items p → right13 f ≡ true → numbersOf p items ≡ jumpWords f
 book-numbers f h r = plan-numbers f h ∙ numbers-exact f r
 
-all-low : (l : List ℕ) → all rightNumber l ≡ true → All Low l
-all-low [] h = all-none
+all-low : (l : List ℕ) → all rightNumber l ≡ true → Each Low l
+all-low [] h = each-none
 all-low (n ∷ l) h =
     let w = both-true (rightNumber n) (all rightNumber l) h in
-    all-more (leb-true n 99999 (both-true (leb 1 n) (leb n 99999) (w .0) .1)) (all-low l (w .1))
+    each-more (leb-true n 99999 (both-true (leb 1 n) (leb n 99999) (w .0) .1)) (all-low l (w .1))
 
-pub low-numbers : {p : Plan} {items : List ℕ} (f : Form) → Plans f items p → right13 f ≡ true → All Low (numbersOf p items)
-low-numbers {p} {items} f h r = subst (All Low) (sym (plan-numbers f h)) (all-low _ (sym (right13-capped f) ∙ r))
+pub low-numbers : {p : Plan} {items : List ℕ} (f : Form) → Plans f items p → right13 f ≡ true → Each Low (numbersOf p items)
+low-numbers {p} {items} f h r = subst (Each Low) (sym (plan-numbers f h)) (all-low _ (sym (right13-capped f) ∙ r))

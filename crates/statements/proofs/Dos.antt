@@ -10,9 +10,9 @@ use lib.ListN.{take}
 use Rattle.rules_shared.specs.Limits.{limits}
 use Rattle.rules_object.specs.Bytes.{concat}
 use Rattle.rules_object.specs.Bytes as object
+use Rattle.rules_object.proofs.EachLaws.{each-head}
 use Rattle.rules_deck.specs.Trees.{Name, Digits, Expr, Form, assign, goTo, computed, ifs, loop, continue, stop, end, dimension}
 use Rattle.rules_deck.specs.Translation.{Held, hidden, cellCount, isName, isHidden, holds, cellOf, limitOf, appear, formPlain, brings}
-use Rattle.rules_deck.proofs.Readers.{All, all-more}
 use Rattle.tokens.specs.Words.{nameWord}
 use Rattle.items.specs.Parsed.{Put}
 use Rattle.draft.specs.declared.Counts.{Counts}
@@ -113,9 +113,6 @@ enters-full f held e l k h =
 
 -- ---- a DO
 
-only : {P : Name → Type 0} {v : Name} → All P (v ∷ []) → P v
-only (all-more p a) = p
-
 variable-word : {p : Plan} (n : Digits) (v : Name) (a b : Expr) (c : _) → p ≡ formPlan (loop n v a b c) → cellWord (p .target) ≡ nameWord v
 unfolding formPlan cellWord
 variable-word n v a b c e = ap (λ (y : Plan). cellWord (y .target)) e
@@ -140,7 +137,7 @@ enters-one {p} {names} {dos} {loops} {dos′} {loops′} {m} {k} {word} {variabl
         let H = brings q F held in
         let X = appear held (formPlain F) in
         let fresh : holds (isHidden q) X ≡ false = appear-fresh q (formPlain F) held h in
-        let vis : variable ≡ cellOf H v = c .is H (m .cells) v l′ (only {P = Told} (g′ .told)) (w ∙ variable-word n v i j o e′) (only {P = λ (y : Name). holds (isName y) H ≡ true} (g′ .plains)) in
+        let vis : variable ≡ cellOf H v = c .is H (m .cells) v l′ (each-head {P = Told} (g′ .told)) (w ∙ variable-word n v i j o e′) (each-head {P = λ (y : Name). holds (isName y) H ≡ true} (g′ .plains)) in
         let cells : m .cells ≡ cellCount X + 2 = l′ .cells-are ∙ cells-append X (hidden q ∷ []) in
         let lim : m .cells - 2 ≡ limitOf H q = let t : m .cells - 2 ≡ cellCount X = omega arith in t ∙ sym (limit-last q X fresh) in
         let step : m .cells - 2 + 1 ≡ suc (limitOf H q) = add-one (m .cells - 2) ∙ ap suc lim in

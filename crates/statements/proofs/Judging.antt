@@ -5,16 +5,16 @@ use mathlib.Core.Bool.{true, false}
 use mathlib.Core.Option.{none, some}
 use Prim.Native.Nat.{ℕ}
 use mathlib.Core.List.{List}
+use Rattle.rules_object.specs.Each.{Each}
 use Rattle.rules_deck.specs.Trees.{Form, formNames}
 use Rattle.rules_deck.specs.Translation.{Held}
 use Rattle.rules_deck.specs.Judge.{Taken, takes, right15, right16, right18, judgeForm}
-use Rattle.rules_deck.proofs.Readers.{All}
 use Rattle.draft.specs.Names.{Told}
 use Rattle.draft.proofs.ReadForm.{read-told}
 use Rattle.draft.proofs.Knowing.{brings-first, brings-items}
 use Rattle.statements.specs.Steps.{Passed, Right}
 
-pub told-of : {k : ℕ} {f : Form} → Passed k f → All Told (formNames f)
+pub told-of : {k : ℕ} {f : Form} → Passed k f → Each Told (formNames f)
 told-of {f = f} h = read-told (h .text) f (h .read) (h .right-11)
 
 pub right-of : {k : ℕ} {f : Form} (q : ℕ) (held : List Held) → Passed k f → right15 held f ≡ true → right16 held f ≡ true → Right q f held

@@ -11,10 +11,10 @@ use Rattle.rules_deck.specs.Trees.{Form, formNames, formLast}
 use Rattle.rules_deck.specs.Translation.{Held, Tables, isHidden, holds, brings, emit, tablesOf}
 use Rattle.rules_object.specs.Bytes.{concat}
 use Rattle.rules_object.specs.Bytes as object
+use Rattle.rules_object.specs.Each.{Each}
 use Rattle.rules_deck.specs.Cards.{rightDigits}
 use Rattle.rules_deck.specs.Grammar.{formOf}
 use Rattle.rules_deck.specs.Judge.{right11, right12, right13, right14, right15}
-use Rattle.rules_deck.proofs.Readers.{All}
 use Rattle.draft.specs.declared.Counts.{Counts}
 use Rattle.draft.specs.Parts.{itemsWords, formFirst, formItems}
 use Rattle.draft.specs.Names.{Lists, Told, Known, namesFit}
@@ -62,7 +62,7 @@ pub record Filled (q : ℕ) (f : Form) (held : List Held) (T : Tables) (words na
 
 -- what was judged before
 pub record Right (q : ℕ) (f : Form) (held : List Held) : Type 0 where
-  pub told : All Told (formNames f)
+  pub told : Each Told (formNames f)
   pub right-13 : right13 f ≡ true
   pub right-15 : right15 held f ≡ true
   pub known-first : Known (brings q f held) (formFirst f)

@@ -6,8 +6,9 @@ use native.Mathlib.Omega.{arith}
 use mathlib.Core.Bool.{false}
 use mathlib.Core.List.{List}
 use lib.ListN.{length, getD, take, drop, length-drop}
+use Rattle.rules_object.specs.Each.{Each}
+use Rattle.rules_object.proofs.EachLaws.{each-both}
 use Rattle.rules_deck.specs.Translation.{Held, appear}
-use Rattle.rules_deck.proofs.Readers.{All}
 use Rattle.draft.specs.Parts.{Item, itemsWords, itemNames, itemsNames, itemPlain, itemsPlain, Worded}
 use Rattle.draft.specs.Names.{Told, Lists, namesFit}
 use Rattle.names.specs.declared.Grown.{Grown}
@@ -22,7 +23,7 @@ use Rattle.names.proofs.Growth.{over-appear, appear-append}
 pub record Rest (held : List Held) (items t : List ℕ) (at n cells : ℕ) (is : List Item) : Type 0 where
   pub left : List Item
   pub are : drop at items ≡ itemsWords left
-  pub told : All Told (itemsNames left)
+  pub told : Each Told (itemsNames left)
   pub grown : List Held
   pub lists : Lists grown t n cells
   pub same : appear held (itemsPlain is) ≡ appear grown (itemsPlain left)
@@ -33,7 +34,7 @@ pub record Taking (items t₀ : List ℕ) (n₀ cells₀ : ℕ) (t : List ℕ) (
   pub kept : length t ≡ length t₀
   pub names-fit : n ≤ 100
   pub cells-fit : cells ≤ 4096
-  pub part : (held : List Held) (is : List Item) → Lists held t₀ n₀ cells₀ → items ≡ itemsWords is → All Told (itemsNames is) → Rest held items t at n cells is
+  pub part : (held : List Held) (is : List Item) → Lists held t₀ n₀ cells₀ → items ≡ itemsWords is → Each Told (itemsNames is) → Rest held items t at n cells is
 
 module _ (items t₀ : List ℕ) (n₀ cells₀ : ℕ) where
   pub taking-start : Worded items → n₀ ≤ 100 → cells₀ ≤ 4096 → Taking items t₀ n₀ cells₀ t₀ 0 n₀ cells₀
@@ -57,7 +58,7 @@ module _ (items t₀ : List ℕ) (n₀ cells₀ : ℕ) where
           is = λ held is ls w told.
               let q = p .part held is ls w told in
               let f = front (drop at items) (q .left) (q .are) (let d = length-drop at items in omega (arith, d, l)) in
-              let halves = split-all (itemNames (f .first)) (subst (λ (x : List Item). All Told (itemsNames x)) (f .both) (q .told)) in
+              let halves = each-both (itemNames (f .first)) (subst (λ (x : List Item). Each Told (itemsNames x)) (f .both) (q .told)) in
               let full : TakesItem (drop at items) t t′ n cells Full = subst (λ (x : Grown). TakesItem (drop at items) t t′ n cells x) e h in
               let over = full .is (q .grown) (f .first) (itemsWords (f .rest)) (q .lists) (f .are) (halves .0) in
               let same = q .same ∙ ap (λ (x : List Item). appear (q .grown) (itemsPlain x)) (f .both) ∙ appear-append (itemPlain (f .first)) (itemsPlain (f .rest)) (q .grown) in
@@ -79,7 +80,7 @@ module _ (items t₀ : List ℕ) (n₀ cells₀ : ℕ) where
           part = λ held is ls w told.
               let q = p .part held is ls w told in
               let f = front (drop at items) (q .left) (q .are) (let d = length-drop at items in omega (arith, d, l)) in
-              let halves = split-all (itemNames (f .first)) (subst (λ (x : List Item). All Told (itemsNames x)) (f .both) (q .told)) in
+              let halves = each-both (itemNames (f .first)) (subst (λ (x : List Item). Each Told (itemsNames x)) (f .both) (q .told)) in
               record {
                 left = f .rest;
                 are = step-on items at (q .left) l f;

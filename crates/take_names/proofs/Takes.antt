@@ -6,9 +6,10 @@ use native.Mathlib.Omega.{arith}
 use mathlib.Core.Bool.{Bool, true, false, cond}
 use mathlib.Core.List.{List, [], _∷_, _++_}
 use lib.ListN.{getD, take}
+use Rattle.rules_object.specs.Each.{Each, each-none, each-more}
+use Rattle.rules_object.proofs.EachLaws.{each-one, each-both}
 use Rattle.rules_deck.specs.Trees.{Name, Subscript, constant, linear, Subscripts, one, two, subscriptNames, subscriptsNames}
 use Rattle.rules_deck.specs.Translation.{Held, name, appear}
-use Rattle.rules_deck.proofs.Readers.{All, all-none, all-more, all-one}
 use Rattle.tokens.specs.Words.{nameWord}
 use Rattle.elements.specs.Values.{subscriptValue, subscriptsValue}
 use Rattle.items.specs.Parsed.{Put}
@@ -68,7 +69,7 @@ module _ (t : List ℕ) (n cells word : ℕ) (r : Bool) (h : Holds t n word fals
             let words : take (4 * (n + 1)) t′ ≡ take (4 * n) t ++ heldWords cells (name v ∷ []) =
             ap (λ (k : ℕ). take k t′) four ∙ put .table ∙ ap (λ (w : ℕ). take (4 * n) t ++ (w ∷ cells ∷ 0 ∷ 0 ∷ [])) e in
             subst (λ (x : List Held). Lists x t′ (n + 1) (cells + 1)) (comes held v l e tv p)
-            (lists-more (name v ∷ []) l words (omega arith) (omega arith) (omega arith) (omega arith) (all-one tv) all-none);
+            (lists-more (name v ∷ []) l words (omega arith) (omega arith) (omega arith) (omega arith) (each-one tv) each-none);
       }
 
 pub none-word : (t : List ℕ) (n cells word : ℕ) → word ≡ 0 → n ≤ 100 → cells ≤ 4096 → TakesAny t t n cells word (Names n cells)
@@ -80,10 +81,10 @@ some-name t t′ n cells word r z h = record { within = h .within; is = h .is; n
 -- ---- a subscript's name
 
 subscript-takes : {t t′ : List ℕ} {n cells word : ℕ} {r : Grown} (x : Subscript) (held : List Held) → TakesAny t t′ n cells word r
-    → word ≡ subscriptValue x .name → All Told (subscriptNames x) → Lists held t n cells → Appeared (appear held (subscriptNames x)) t′ r
+    → word ≡ subscriptValue x .name → Each Told (subscriptNames x) → Lists held t n cells → Appeared (appear held (subscriptNames x)) t′ r
 unfolding subscriptValue
 subscript-takes (constant c) held h e told l = h .none held l e
-subscript-takes (linear m v a) held h e (all-more tv none) l = h .is held v l e tv
+subscript-takes (linear m v a) held h e (each-more tv none) l = h .is held v l e tv
 
 -- ---- one operand
 
@@ -91,9 +92,9 @@ module _ (items t : List ℕ) (n cells : ℕ) where
   pub takes-plain : (t′ : List ℕ) (r : Grown) → getD items 0 0 ≡ 2 → TakesName t t′ n cells (getD items 1 0) r → TakesItem items t t′ n cells r
   takes-plain t′ r k h = record { within = h .within; is = go }
     where
-      go : (held : List Held) (i : Item) (more : List ℕ) → Lists held t n cells → items ≡ itemWords i ++ more → All Told (itemNames i) → Appeared (appear held (itemPlain i)) t′ r
+      go : (held : List Held) (i : Item) (more : List ℕ) → Lists held t n cells → items ≡ itemWords i ++ more → Each Told (itemNames i) → Appeared (appear held (itemPlain i)) t′ r
       go held (value c) more l e told = absurd (let z = kind-is (value c) more e 2 k in omega (arith, z))
-      go held (plain v) more l e (all-more tv none) = h .is held v l (ap (λ (x : List ℕ). getD x 1 0) e) tv
+      go held (plain v) more l e (each-more tv none) = h .is held v l (ap (λ (x : List ℕ). getD x 1 0) e) tv
       go held (place v s) more l e told = absurd (let z = kind-is (place v s) more e 2 k in omega (arith, z))
       go held negate more l e told = absurd (let z = kind-is negate more e 2 k in omega (arith, z))
       go held (apply o) more l e told = absurd (no-operand o more 2 (omega arith) (kind-is (apply o) more e 2 k))
@@ -101,7 +102,7 @@ module _ (items t : List ℕ) (n cells : ℕ) where
   pub takes-none : (getD items 0 0 ≡ 2 → ⊥) → (getD items 0 0 ≡ 4 → ⊥) → n ≤ 100 → cells ≤ 4096 → TakesItem items t t n cells (Names n cells)
   takes-none k₂ k₄ fn fc = record { within = (fn, fc); is = go }
     where
-      go : (held : List Held) (i : Item) (more : List ℕ) → Lists held t n cells → items ≡ itemWords i ++ more → All Told (itemNames i)
+      go : (held : List Held) (i : Item) (more : List ℕ) → Lists held t n cells → items ≡ itemWords i ++ more → Each Told (itemNames i)
           → Appeared (appear held (itemPlain i)) t (Names n cells)
       go held (value c) more l e told = l
       go held (plain v) more l e told = absurd (k₂ (ap (λ (x : List ℕ). getD x 0 0) e))
@@ -113,16 +114,16 @@ module _ (items t : List ℕ) (n cells : ℕ) where
   abbrev Subscribed : List ℕ → Grown → Type 0
   Subscribed t′ r =
       (held : List Held) (s : Subscripts) → Lists held t n cells → getD items 4 0 ≡ subscriptsValue s .first .name → getD items 8 0 ≡ subscriptsValue s .second .name
-      → All Told (subscriptsNames s) → Appeared (appear held (subscriptsNames s)) t′ r
+      → Each Told (subscriptsNames s) → Appeared (appear held (subscriptsNames s)) t′ r
 
   -- is all that it takes
   takes-place : (t′ : List ℕ) (r : Grown) → getD items 0 0 ≡ 4 → Within r → Subscribed t′ r → TakesItem items t t′ n cells r
   takes-place t′ r k w f = record { within = w; is = go }
     where
-      go : (held : List Held) (i : Item) (more : List ℕ) → Lists held t n cells → items ≡ itemWords i ++ more → All Told (itemNames i) → Appeared (appear held (itemPlain i)) t′ r
+      go : (held : List Held) (i : Item) (more : List ℕ) → Lists held t n cells → items ≡ itemWords i ++ more → Each Told (itemNames i) → Appeared (appear held (itemPlain i)) t′ r
       go held (value c) more l e told = absurd (let z = kind-is (value c) more e 4 k in omega (arith, z))
       go held (plain v) more l e told = absurd (let z = kind-is (plain v) more e 4 k in omega (arith, z))
-      go held (place v s) more l e (all-more tv told) = f held s l (ap (λ (x : List ℕ). getD x 4 0) e) (ap (λ (x : List ℕ). getD x 8 0) e) told
+      go held (place v s) more l e (each-more tv told) = f held s l (ap (λ (x : List ℕ). getD x 4 0) e) (ap (λ (x : List ℕ). getD x 8 0) e) told
       go held negate more l e told = absurd (let z = kind-is negate more e 4 k in omega (arith, z))
       go held (apply o) more l e told = absurd (no-operand o more 4 (omega arith) (kind-is (apply o) more e 4 k))
 
@@ -137,7 +138,7 @@ module _ (items t : List ℕ) (n cells : ℕ) where
       full held (one x) l e₁ e₂ told = subscript-takes x held stopped e₁ told l
       full held (two x y) l e₁ e₂ told =
           subst (λ (z : List Held). namesFit z ≡ false) (sym (appear-append (subscriptNames x) (subscriptNames y) held))
-          (over-appear (subscriptNames y) (appear held (subscriptNames x)) (subscript-takes x held stopped e₁ (split-all (subscriptNames x) told .0) l))
+          (over-appear (subscriptNames y) (appear held (subscriptNames x)) (subscript-takes x held stopped e₁ (each-both (subscriptNames x) told .0) l))
 
   pub takes-both : (t₁ t₂ : List ℕ) (a b : ℕ) (q r : Grown) → getD items 0 0 ≡ 4 → TakesAny t t₁ n cells (getD items 4 0) q → q ≡ Names a b
       → TakesAny t₁ t₂ a b (getD items 8 0) r → TakesItem items t t₂ n cells r
@@ -150,6 +151,6 @@ module _ (items t : List ℕ) (n cells : ℕ) where
       both : Subscribed t₂ r
       both held (one x) l e₁ e₂ told = g .none (appear held (subscriptNames x)) (subscript-takes x held first e₁ told l) e₂
       both held (two x y) l e₁ e₂ told =
-          let halves = split-all (subscriptNames x) told in
+          let halves = each-both (subscriptNames x) told in
           subst (λ (z : List Held). Appeared z t₂ r) (sym (appear-append (subscriptNames x) (subscriptNames y) held))
           (subscript-takes y (appear held (subscriptNames x)) g e₂ (halves .1) (subscript-takes x held first e₁ (halves .0) l))

@@ -8,15 +8,17 @@ use native.Mathlib.Omega.{arith}
 use native.Mathlib.Numerals.{add-one}
 use lib.ListN.{length, take, drop, length-drop}
 use lib.Seq.{drop-drop}
+use Rattle.rules_object.specs.Each.{Each}
+use Rattle.rules_object.proofs.EachLaws.{each-head}
 use Rattle.rules_deck.specs.Cards.{cardsOf, textColumns, textOf, Punched, numberOf, following, grouped}
-use Rattle.rules_deck.proofs.CardsLaws.{Each, RightStatement}
+use Rattle.rules_deck.proofs.CardsLaws.{RightStatement}
 use Rattle.rules_deck.proofs.CardsGroups.{statements-grouped}
 use Rattle.cards.specs.declared.Number.{Number}
 use Rattle.texts.specs.declared.Taken.{Taken}
 use Rattle.texts.specs.declared.Taken.the-variants.{Statement, End}
 use Rattle.texts.specs.Taking.{Accepted, over, begins, skipped, passed, firstOf, firstText, Takes}
 use Rattle.texts.proofs.TextLaws.{over-stands}
-use Rattle.texts.proofs.StatementLaws.{group-first, group-skip, skip-stops, each-from, each-first, all-right}
+use Rattle.texts.proofs.StatementLaws.{group-first, group-skip, skip-stops, each-from, all-right}
 
 -- ---- what `judge` counts
 
@@ -81,7 +83,7 @@ onward {deck} {card} {text} {text′} {r} {number} {n} {next} a t f = go (held (
         let s : Statement number n next ≡ Statement (record { 0 = p .number }) (length (textOf (p .raw))) (card + passed (drop card cards)) = sym f ∙ t .says ∙ ap (λ (ps : List Punched). firstOf ps (card + passed (drop card cards))) e in
         let m : n ≡ length (textOf (p .raw)) = cc in
         let k : card + passed (drop card cards) ≡ next = cc in
-        let fine = each-first (subst (Each RightStatement) e (each-from card cards (all-right deck a))) in
+        let fine = each-head (subst (Each RightStatement) e (each-from card cards (all-right deck a))) in
         let o : text′ ≡ over 0 (textOf (p .raw)) text = t .put ∙ ap (λ (ps : List Punched). over 0 (firstText ps) text) e in
         record {
           taken = p;

@@ -10,10 +10,11 @@ use lib.ListN.{length, drop, length-append}
 use lib.Seq.{drop-nil, drop-drop}
 use borrow.Author.Tests.{eqb-true}
 use Rattle.rules_shared.specs.Limits.{limits}
+use Rattle.rules_object.specs.Each.{Each}
+use Rattle.rules_object.proofs.EachLaws.{each-head, each-tail}
 use Rattle.rules_deck.specs.Cards.{cardsOf, textColumns, comment, firstCard, textOf, Punched, numberOf, rightNumber, Reading, nothingRead, wrongCard, afterCard, Carded, cardsRefused, statements, cardByCard, rightDigits, rightLength, counted, carded, following, grouped}
-use Rattle.rules_deck.proofs.CardsLaws.{Each, also, RightStatement, Stands, as-comment, as-first, as-continuation, stands, statements-right}
+use Rattle.rules_deck.proofs.CardsLaws.{RightStatement, Stands, as-comment, as-first, as-continuation, stands, statements-right}
 use Rattle.rules_deck.proofs.CardsGroups.{statements-grouped}
-use Rattle.cards.specs.declared.Columns.the-variants as columns
 use Rattle.texts.specs.declared.Reached.{Reached}
 use Rattle.texts.specs.declared.Taken.the-variants.{Statement, End}
 use Rattle.cards.specs.declared.Number.{Number}
@@ -21,6 +22,7 @@ use Rattle.cards.specs.Columns.{CardAt, punchedOf}
 use Rattle.texts.specs.Taking.{Accepted, over, begins, skipped, passed, firstOf, firstText, Takes, Follows}
 use Rattle.cards.proofs.DeckLaws.{cards-end}
 use Rattle.texts.proofs.TextLaws.{over-none, over-append, text-append}
+use Rattle.cards.specs.declared.Columns.the-variants as columns
 
 -- ---- cards that start no statement change no statement after them
 
@@ -105,20 +107,14 @@ right-number card f b = go (f .is) b
 
 -- ---- and every statement short
 
-each-rest : {P : Punched → Type 0} {p : Punched} {ps : List Punched} → Each P (p ∷ ps) → Each P ps
-each-rest (also q h) = h
-
 pub each-from : {P : Punched → Type 0} (i : ℕ) (cards : List (List ℕ)) → Each P (grouped cards) → Each P (grouped (drop i cards))
 each-from zero cards h = h
 each-from (suc i) [] h = h
 each-from {P = P} (suc i) (card ∷ cards) h = each-from i cards (go (begins card) refl)
   where
     go : (b : Bool) → begins card ≡ b → Each P (grouped cards)
-    go true b = each-rest (subst (Each P) (group-first card cards b) h)
+    go true b = each-tail (subst (Each P) (group-first card cards b) h)
     go false b = subst (Each P) (group-other card cards b) h
-
-pub each-first : {P : Punched → Type 0} {p : Punched} {ps : List Punched} → Each P (p ∷ ps) → P p
-each-first (also q h) = q
 
 pub all-right : (deck : List ℕ) → Accepted deck → Each RightStatement (grouped (cardsOf deck))
 all-right deck a = subst (Each RightStatement) (statements-grouped (a .digits) deck (a .all) (a .is)) (statements-right (a .digits) deck (a .all) (a .is))
@@ -160,7 +156,7 @@ module _ (deck : List ℕ) (card first : ℕ) (f : first ≡ card + skipped (dro
     group-here = group-skip (drop card cards) ∙ ap grouped (from-first ∙ a .here) ∙ group-first here (drop (first + 1) cards) starts-here
 
     right-here : RightStatement (record { number = numberOf here; raw = textColumns here ++ following (drop (first + 1) cards) })
-    right-here = each-first (subst (Each RightStatement) group-here (each-from card cards (all-right deck acc)))
+    right-here = each-head (subst (Each RightStatement) group-here (each-from card cards (all-right deck acc)))
 
     pub first-is : First deck card first here
     unfolding passed

@@ -10,26 +10,23 @@ use lib.ListN.{length, drop, getD, length-drop, drop-of-length-le}
 use lib.Seq.{drop-cons}
 use lib.Dec.{leb, eqb}
 use borrow.Author.Tests.{le-leb, lt-leb, eq-eqb, ne-eqb}
-use Rattle.rules_deck.specs.Tokens.{isDigit, isLetter, isLetterOrDigit, run, nameRun}
+use Rattle.rules_object.specs.Check.{isLetter, isDigit}
+use Rattle.rules_deck.specs.Tokens.{isLetterOrDigit, run, nameRun}
 use Rattle.rules_deck.proofs.Readers.{run-le}
 use Rattle.tokens.specs.Words.{startsWord}
 
 -- ---- bytes
 
 pub digit-low : (c : ℕ) → c < 48 → isDigit c ≡ false
-unfolding isDigit
 digit-low c h = rw (lt-leb 48 c h)
 
 pub digit-high : (c : ℕ) → 48 ≤ c → isDigit c ≡ leb c 57
-unfolding isDigit
 digit-high c h = rw (le-leb 48 c h)
 
 pub letter-low : (c : ℕ) → c < 65 → isLetter c ≡ false
-unfolding isLetter
 letter-low c h = rw (lt-leb 65 c h)
 
 pub letter-high : (c : ℕ) → 65 ≤ c → isLetter c ≡ leb c 90
-unfolding isLetter
 letter-high c h = rw (le-leb 65 c h)
 
 pub either-letter : (c : ℕ) → isLetter c ≡ true → isLetterOrDigit c ≡ true

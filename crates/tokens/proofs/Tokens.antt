@@ -10,7 +10,8 @@ use lib.Dec.{eqb, ltb}
 use lib.ListN.{length, take, drop, getD, drop-of-length-le, List·getD-eq-default}
 use lib.Seq.{drop-cons, getD-take, getD-drop, length-take-le}
 use borrow.Author.Tests.{eq-eqb, ne-eqb, ltb-true, ltb-false}
-use Rattle.rules_deck.specs.Tokens.{isDigit, isLetter, isLetterOrDigit, Found, found, bad, Reader, ahead, after, afterWord, starts, startsDigit, run, digitRun, nameRun, taken, number, name}
+use Rattle.rules_object.specs.Check.{isLetter, isDigit}
+use Rattle.rules_deck.specs.Tokens.{isLetterOrDigit, Found, found, bad, Reader, ahead, after, afterWord, starts, startsDigit, run, digitRun, nameRun, taken, number, name}
 use Rattle.rules_deck.proofs.Readers.{run-le}
 use Rattle.rules_deck.proofs.Found.{ahead-none, ahead-ahead}
 use Rattle.tokens.specs.Words.{startsWord}

@@ -8,13 +8,14 @@ use lib.ListN.{length, getD, take, drop, length-drop}
 use lib.Seq.{take-all}
 use borrow.Author.Tests.{le-leb, lt-leb}
 use Rattle.rules_object.specs.Bytes.{wordsOf, bytesOf, concat, nameWords, namedOf, entries}
-use Rattle.rules_shared.specs.Lists.{Each}
 use Rattle.rules_object.specs.Writable.{IsByte}
 use Rattle.rules_shared.specs.Refusals.{accepted}
 use Rattle.rules_shared.specs.Output.{write}
 use Rattle.rules_object.specs.Calls.{mapOf}
 use Rattle.rules_object.specs.Calls as book
-use Rattle.rules_object.proofs.Words.{each-drop, each-word, length-words, bytes-words}
+use Rattle.rules_object.specs.Each.{Each, each-none, each-more}
+use Rattle.rules_object.proofs.EachLaws.{each-drop}
+use Rattle.rules_object.proofs.Words.{each-word, length-words, bytes-words}
 use Rattle.rules_object.proofs.RoundTrip.{flat-entries, name-forth}
 use Rattle.word.proofs.Laws.{word-at, word-drop}
 use Rattle.object.specs.declared.Layout.{Layout}
@@ -23,8 +24,8 @@ use Rattle.object.proofs.Reading.{Agrees, all-entries, named-one}
 use Rattle.verdicts.specs.Outcomes.{Writes}
 
 each-byte : (s : List ℕ) → ((i : ℕ) → getD s i 0 < 256) → Each IsByte s
-each-byte [] h = tt
-each-byte (a ∷ s) h = (h 0, each-byte s (λ i. h (suc i)))
+each-byte [] h = each-none
+each-byte (a ∷ s) h = each-more (h 0) (each-byte s (λ i. h (suc i)))
 
 module _ (e : Layout) (s : List ℕ) (bytes : (i : ℕ) → getD s i 0 < 256) (p : Placed e s) where
   abbrev body : List ℕ
@@ -55,7 +56,7 @@ module _ (e : Layout) (s : List ℕ) (bytes : (i : ℕ) → getD s i 0 < 256) (p
   unfolding mapOf
   map-bytes =
       let w : length (wordsOf body) ≡ n * 5 = words-length ∙ (omega arith) in
-      let b : Each IsByte body = each-drop IsByte (e .names) s (each-byte s bytes) in
+      let b : Each IsByte body = each-drop (e .names) s (each-byte s bytes) in
       ap (λ l. bytesOf (concat (map nameWords l))) (sym names-are)
       ∙ ap bytesOf (flat-entries 5 nameWords namedOf name-forth n (wordsOf body) w (each-word body b))
       ∙ bytes-words body b (omega (arith, body-length, words-length))

@@ -6,8 +6,8 @@ use native.Mathlib.Omega.{arith}
 use mathlib.Core.List.{List}
 use lib.ListN.{length, take}
 use lib.Seq.{length-take-le}
+use Rattle.rules_object.specs.Each.{Each}
 use Rattle.rules_deck.specs.Trees.{Statement}
-use Rattle.rules_deck.proofs.Readers.{All}
 use Rattle.draft.specs.declared.Counts.{Counts}
 use Rattle.draft.specs.Draft.{draftOf}
 use Rattle.draft.specs.Kept.{Fit, Room, Kept}
@@ -16,7 +16,7 @@ use Rattle.draft.proofs.DraftDeck.{draft-rows, draft-jumps, draft-loops, rows-c
 use Rattle.whole.specs.Whole.{SetsTold, Sketched, Whole}
 
 module _ (deck : List Statement) (names constants elements dos loops code rows jumps : List ℕ) (n : Counts)
-    (room : Room names constants elements dos loops code rows jumps) (fit : Fit n) (kept : Kept (draftOf deck) names constants elements dos loops code rows jumps n) (told : All SetsTold deck) where
+    (room : Room names constants elements dos loops code rows jumps) (fit : Fit n) (kept : Kept (draftOf deck) names constants elements dos loops code rows jumps n) (told : Each SetsTold deck) where
   pub sketched : Sketched deck rows (n .statements) loops (n .dos) jumps (n .jumps)
   sketched =
       let are : take (5 * n .statements) rows ≡ deckRows deck = kept .rows-are ∙ draft-rows deck in

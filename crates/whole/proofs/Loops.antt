@@ -6,10 +6,10 @@ use native.Mathlib.Omega.{arith}
 use mathlib.Core.List.{List, [], _∷_, _++_}
 use lib.ListN.{length, getD, length-append}
 use lib.Seq.{getD-append-add}
+use Rattle.rules_object.specs.Each.{Each, each-more}
 use Rattle.rules_deck.specs.Trees.{Name, Digits, valueOf, Form, assign, goTo, computed, ifs, loop, continue, stop, end, dimension, Statement, formExits, formLast}
 use Rattle.rules_deck.specs.Deck.{Do, doOf, dosFrom}
 use Rattle.rules_deck.specs.Whole.{formSets}
-use Rattle.rules_deck.proofs.Readers.{All, all-more}
 use Rattle.tokens.specs.Words.{nameWord}
 use Rattle.draft.specs.Names.{Told}
 use Rattle.draft.specs.Draft.{setWord, jumpWords, loopWords}
@@ -54,8 +54,8 @@ past q j s deck i d none w =
       told = w .told;
     }
 
-the-first : (v : Name) (l : List Name) → All Told (v ∷ l) → Told v
-the-first v l (all-more t a) = t
+the-first : (v : Name) (l : List Name) → Each Told (v ∷ l) → Told v
+the-first v l (each-more t a) = t
 
 -- the DO itself, and the DOs after it
 module _ (q j : ℕ) (n : Digits) (v : Name) (deck : List Statement) where
@@ -115,17 +115,17 @@ module _ (q j : ℕ) (s : Statement) (deck : List Statement) (told : SetsTold s)
   step (computed ns v) e i h = past q j s deck i _ (ap (loopWords q j) e) (again i h)
   step (ifs x a b c) e i h = past q j s deck i _ (ap (loopWords q j) e) (again i h)
   step (loop n v x y z) e zero h =
-      here q j n v deck s (ap (loopWords q j) e, (ap jumpWords e, (ap setWord e, the-first v [] (subst (λ (f : Form). All Told (formSets f)) e told))))
+      here q j n v deck s (ap (loopWords q j) e, (ap jumpWords e, (ap setWord e, the-first v [] (subst (λ (f : Form). Each Told (formSets f)) e told))))
   step (loop n v x y z) e (suc i) h =
-      next q j n v deck s i _ (ap (loopWords q j) e, (ap jumpWords e, (ap setWord e, the-first v [] (subst (λ (f : Form). All Told (formSets f)) e told)))) (again i (omega arith))
+      next q j n v deck s i _ (ap (loopWords q j) e, (ap jumpWords e, (ap setWord e, the-first v [] (subst (λ (f : Form). Each Told (formSets f)) e told)))) (again i (omega arith))
   step continue e i h = past q j s deck i _ (ap (loopWords q j) e) (again i h)
   step stop e i h = past q j s deck i _ (ap (loopWords q j) e) (again i h)
   step end e i h = past q j s deck i _ (ap (loopWords q j) e) (again i h)
   step (dimension arrays) e i h = past q j s deck i _ (ap (loopWords q j) e) (again i h)
 
-pub do-words : (q j : ℕ) (deck : List Statement) → All SetsTold deck → (i : ℕ) → i < length (dosFrom q deck) → DoWords q j deck i (getD (dosFrom q deck) i noDo)
+pub do-words : (q j : ℕ) (deck : List Statement) → Each SetsTold deck → (i : ℕ) → i < length (dosFrom q deck) → DoWords q j deck i (getD (dosFrom q deck) i noDo)
 do-words q j [] a i h = absurd (omega arith)
-do-words q j (s ∷ deck) (all-more t a) i h = step q j s deck t (do-words (suc q) (j + length (jumpWords (s .form))) deck a) (s .form) refl i h
+do-words q j (s ∷ deck) (each-more t a) i h = step q j s deck t (do-words (suc q) (j + length (jumpWords (s .form))) deck a) (s .form) refl i h
 
 -- two words a DO
 words-of : (q j : ℕ) (f : Form) → length (loopWords q j f) ≡ 2 * length (doOf q f)

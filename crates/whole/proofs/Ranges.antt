@@ -11,10 +11,11 @@ use lib.ListN.{length, getD, take, getElem?}
 use lib.Seq.{getD-take, length-take-le}
 use borrow.Author.Tests.{ne-eqb}
 use Rattle.rules_shared.specs.Lists.{all}
+use Rattle.rules_object.specs.Each.{Each, each-more}
+use Rattle.rules_object.proofs.EachLaws.{each-map}
 use Rattle.rules_deck.specs.Trees.{Name, Digits, valueOf, cell, element, Form, assign, goTo, computed, ifs, loop, continue, stop, end, dimension, Statement, formExits, formLast}
 use Rattle.rules_deck.specs.Deck.{sameName, positionOf, Do, dosOf}
 use Rattle.rules_deck.specs.Whole.{firstWrong, lastOf, inRange, mayEnd, mayEndAt, crosses, depth, rightDo, firstWrongDo, right24, formSets, right25}
-use Rattle.rules_deck.proofs.Readers.{All, all-more}
 use Rattle.tokens.specs.Words.{nameWord}
 use Rattle.draft.specs.Names.{Told}
 use Rattle.draft.specs.Draft.{kindOf, setWord, jumpWords}
@@ -24,7 +25,7 @@ use Rattle.numbers.proofs.Tests.{all-same}
 use Rattle.ranges.specs.Ranges.{doAt, lastIndex, lastAt, covers, mayEndKind, apart, doRight, doPlace, staysOut, jumpStays, jumpsRight, leaves, setRight}
 use Rattle.whole.specs.Whole.{SetsTold}
 use Rattle.draft.proofs.NameWords.{word-test, some-word}
-use Rattle.whole.proofs.ByIndex.{noDo, all-by, all-zero, first-zero, dos-zero, depth-zero, all-map}
+use Rattle.whole.proofs.ByIndex.{noDo, all-by, all-zero, first-zero, dos-zero, depth-zero, each-map}
 use Rattle.whole.proofs.Rows.{statementAt, jumpsOf, kind-is, set-is, many-is, jump-is, jump-inside}
 use Rattle.whole.proofs.Loops.{DoWords, do-words, loops-length}
 
@@ -70,13 +71,13 @@ all-true : (test : ℕ → Bool) (n i : ℕ) → ((k : ℕ) → i ≤ k → k < 
 all-true test zero i h = refl
 all-true test (suc n) i h = rw (h i (omega arith) (omega arith)) (all-true test n (suc i) (λ k a b. h k (omega arith) (omega arith)))
 
-all-at : (deck : List Statement) → All SetsTold deck → (q : ℕ) → q < length deck → SetsTold (statementAt deck q)
+all-at : (deck : List Statement) → Each SetsTold deck → (q : ℕ) → q < length deck → SetsTold (statementAt deck q)
 all-at [] a q h = absurd (omega arith)
-all-at (s ∷ deck) (all-more t a) zero h = t
-all-at (s ∷ deck) (all-more t a) (suc q) h = all-at deck a q (omega arith)
+all-at (s ∷ deck) (each-more t a) zero h = t
+all-at (s ∷ deck) (each-more t a) (suc q) h = all-at deck a q (omega arith)
 
 module _ (deck : List Statement) (rows : List ℕ) (count : ℕ) (many : count ≡ length deck) (are : take (5 * count) rows ≡ deckRows deck)
-    (loops : List ℕ) (dos : ℕ) (long : 2 * dos ≤ length loops) (dos-are : take (2 * dos) loops ≡ loopsFrom 0 0 deck) (told : All SetsTold deck) where
+    (loops : List ℕ) (dos : ℕ) (long : 2 * dos ≤ length loops) (dos-are : take (2 * dos) loops ≡ loopsFrom 0 0 deck) (told : Each SetsTold deck) where
   pub dos-many : length (dosOf deck) ≡ dos
   unfolding dosOf
   dos-many =
@@ -182,7 +183,7 @@ module _ (deck : List Statement) (rows : List ℕ) (count : ℕ) (many : count �
           let f = statementAt deck q .form in
           let a = all-by goes (jumpsOf deck q) 0 (jumpStays loops dos jumps q) (startOf rows q) stays-is in
           rw (kind-is deck rows count many are q (inside q h), many-is deck rows count many are q (inside q h))
-          (exits-only goes f (allFrom (jumpStays loops dos jumps q) (length (jumpsOf deck q)) (startOf rows q)) (sym a) ∙ all-map goes valueOf (formExits f))
+          (exits-only goes f (allFrom (jumpStays loops dos jumps q) (length (jumpsOf deck q)) (startOf rows q)) (sym a) ∙ each-map goes valueOf (formExits f))
 
     pub first24-is : firstFrom (jumpsRight rows loops dos jumps) suc count 0 ≡ firstWrong (right24 deck) 0 deck
     first24-is = sym (first-zero (right24 deck) deck (jumpsRight rows loops dos jumps) right24-is ∙ ap (λ (n : ℕ). firstFrom (jumpsRight rows loops dos jumps) suc n 0) (sym many))
@@ -214,14 +215,14 @@ module _ (deck : List Statement) (rows : List ℕ) (count : ℕ) (many : count �
           sym (and-true (all (λ d. not (inRange deck d q && sameName (d .variable) v)) (dosOf deck)) ∙ a
           ∙ ap (λ (n : ℕ). allFrom (λ i. not (inRange deck (doOfDeck i) q && eqb (nameWord (doOfDeck i .variable)) (nameWord v))) n 0) dos-many)
 
-      sets-is : (f : Form) → All Told (formSets f) → free (setWord f) ≡ all (λ v. all (λ d. not (inRange deck d q && sameName (d .variable) v)) (dosOf deck)) (formSets f)
+      sets-is : (f : Form) → Each Told (formSets f) → free (setWord f) ≡ all (λ v. all (λ d. not (inRange deck d q && sameName (d .variable) v)) (dosOf deck)) (formSets f)
       unfolding formSets
-      sets-is (assign (cell v) e) (all-more t a) = one-set v t
+      sets-is (assign (cell v) e) (each-more t a) = one-set v t
       sets-is (assign (element v s) e) a = none-set
       sets-is (goTo n) a = none-set
       sets-is (computed ns v) a = none-set
       sets-is (ifs e x y z) a = none-set
-      sets-is (loop n v x y z) (all-more t a) = one-set v t
+      sets-is (loop n v x y z) (each-more t a) = one-set v t
       sets-is continue a = none-set
       sets-is stop a = none-set
       sets-is end a = none-set

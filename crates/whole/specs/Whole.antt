@@ -7,10 +7,10 @@ use mathlib.Core.Option.{Option, none, some}
 use lib.ListN.{length, take}
 use Rattle.rules_shared.specs.Limits.{limits}
 use Rattle.rules_shared.specs.Refusals.{Refusal, refusal}
+use Rattle.rules_object.specs.Each.{Each}
 use Rattle.rules_deck.specs.Trees.{Statement}
 use Rattle.rules_deck.specs.Deck.{positionOf}
 use Rattle.rules_deck.specs.Whole.{formSets, judgeDeck}
-use Rattle.rules_deck.proofs.Readers.{All}
 use Rattle.draft.specs.Names.{Told}
 use Rattle.draft.specs.Sketch.{deckRows, deckJumps, loopsFrom}
 use Rattle.whole.specs.declared.Verdict.{Verdict}
@@ -18,7 +18,7 @@ use Rattle.whole.specs.declared.Verdict.the-variants.{Right, Refused}
 
 -- the names that a statement sets are told by their words
 abbrev pub SetsTold : Statement → Type 0
-SetsTold s = All Told (formSets (s .form))
+SetsTold s = Each Told (formSets (s .form))
 
 -- the tables hold the deck
 pub record Sketched (deck : List Statement) (rows : List ℕ) (count : ℕ) (loops : List ℕ) (dos : ℕ) (jumps : List ℕ) (many : ℕ) : Type 0 where
@@ -26,7 +26,7 @@ pub record Sketched (deck : List Statement) (rows : List ℕ) (count : ℕ) (loo
   pub rows-are : take (5 * count) rows ≡ deckRows deck
   pub loops-are : take (2 * dos) loops ≡ loopsFrom 0 0 deck
   pub jumps-are : take many jumps ≡ deckJumps deck
-  pub told : All SetsTold deck
+  pub told : Each SetsTold deck
 
 -- the tables hold some deck: what keeps reading inside them
 pub record Whole (rows : List ℕ) (count : ℕ) (loops : List ℕ) (dos : ℕ) (jumps : List ℕ) (many : ℕ) : Type 0 where

@@ -5,8 +5,9 @@ use Prim.Native.Nat.{ℕ, _+_, _*_, _-_, _≤_, min}
 use native.Mathlib.Omega.{arith}
 use lib.ListN.{length, take, drop, getD}
 use lib.Seq.{getD-take, getD-drop, length-take-le}
+use Rattle.rules_object.specs.Check.{isDigit}
 use Rattle.rules_deck.specs.Trees.{valueFrom, valueOf}
-use Rattle.rules_deck.specs.Tokens.{isDigit, run, digitRun}
+use Rattle.rules_deck.specs.Tokens.{run, digitRun}
 use Rattle.rules_deck.proofs.Readers.{digit-bounds, run-le}
 use Rattle.tokens.specs.Words.{most, capped}
 use Rattle.tokens.proofs.Runs.{in-run, run-inside}
