@@ -30,7 +30,7 @@ dimsHeld held v = dimsIn (arraysHeld held) v
 -- of at most six characters, each a byte and none a blank: its eight bytes tell it
 pub record Told (v : Name) : Type 0 where
   pub short : length v ≤ limits .nameLength
-  pub solid : All (λ (c : ℕ). c ≡ 32 → ⊥) v
+  pub solid : Each (λ (c : ℕ). c ≡ 32 → ⊥) v
   pub bytes : Each (λ (c : ℕ). c < 256) v
 
 -- its value is the one that the reader gives

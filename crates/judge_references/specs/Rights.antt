@@ -9,7 +9,7 @@ use Rattle.rules_shared.specs.Lists.{all}
 use Rattle.rules_deck.specs.Trees.{Name, Subscripts}
 use Rattle.rules_deck.specs.Translation.{Held, isArray, holds}
 use Rattle.rules_deck.specs.Judge.{rightReference}
-use Rattle.rules_deck.proofs.Readers.{All}
+use Rattle.rules_shared.specs.Lists.{Each}
 use Rattle.draft.specs.Parts.{Item, place, itemWords, itemsWords, itemNames, itemsNames, itemPlain, itemReferences, rightItems}
 use Rattle.draft.specs.Names.{Lists, Told}
 
@@ -23,14 +23,14 @@ rightItem held i = all (rightReference held) (itemReferences i) && all (λ v. no
 
 abbrev pub RightItem : List ℕ → List ℕ → ℕ → Bool → Type 0
 RightItem items table n r =
-    (held : List Held) (cells : ℕ) (i : Item) (more : List ℕ) → Lists held table n cells → items ≡ itemWords i ++ more → All Told (itemNames i) → r ≡ rightItem held i
+    (held : List Held) (cells : ℕ) (i : Item) (more : List ℕ) → Lists held table n cells → items ≡ itemWords i ++ more → Each Told (itemNames i) → r ≡ rightItem held i
 
 abbrev pub RightPlace : List ℕ → List ℕ → ℕ → Bool → Type 0
 RightPlace items table n r =
     (held : List Held) (cells : ℕ) (v : Name) (s : Subscripts) (more : List ℕ) → Lists held table n cells → items ≡ itemWords (place v s) ++ more
-    → All Told (itemNames (place v s)) → r ≡ rightItem held (place v s)
+    → Each Told (itemNames (place v s)) → r ≡ rightItem held (place v s)
 
 -- 16 of some operands
 abbrev pub References : List ℕ → List ℕ → ℕ → Bool → Type 0
 References items table n r =
-    (held : List Held) (cells : ℕ) (is : List Item) → Lists held table n cells → items ≡ itemsWords is → All Told (itemsNames is) → r ≡ rightItems held is
+    (held : List Held) (cells : ℕ) (is : List Item) → Lists held table n cells → items ≡ itemsWords is → Each Told (itemsNames is) → r ≡ rightItems held is

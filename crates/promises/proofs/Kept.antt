@@ -25,6 +25,7 @@ use Rattle.promises.specs.Promises.{Kept, RefusalKeeps, RoundTrip}
 use Rattle.promises.proofs.Runs.{series-run}
 use Rattle.promises.proofs.Made.{made, right}
 use Rattle.promises.proofs.Machine.{goes-on-kept, steps-kept, heights-kept, no-fault-kept, tests-nothing-kept, cells-past-kept, bench-is-run-kept, checked-runs-kept, bench-starts-fresh-kept, places-kept}
+use Rattle.promises.proofs.Program.{program-kept}
 use Rattle.promises.proofs.Decks.{halts-kept, means-kept, goes-kept, never-kept, ends-kept, names-kept, passes-kept, above-kept}
 
 compile-keeps : (k : ℕ) (deck output : List ℕ) → (compiling k deck output .refusal ≡ accepted → ⊥) → compiling k deck output ≡ notWritten (compiling k deck output .refusal) output
@@ -81,4 +82,5 @@ kept =
       noTwoForms = λ text f g p q. one-spelled p q;
       tenExactly = ten-exactly;
       table = record { decks = decks-right; p9 = p9; p10 = p10; p11 = p11; p12 = p12 };
+      programPrints = program-kept;
     }

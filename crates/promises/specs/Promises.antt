@@ -1,5 +1,5 @@
 -- Every promise, each under a sentence in plain words. Decks and objects are bytes here; `compiling`, `checking`, `running`, `benching` and `mapping` are the calls,
--- `meaningOf` is what a deck means. `Judged`, `Runnable`, `TouchesOnly` and `StepsOf` stand in `rules_object`, in `Promised.antt`. `proofs/Kept.antt` has the proof of each.
+-- `meaningOf` is what a deck means, `printed` what the program prints. `Judged`, `Runnable`, `TouchesOnly` and `StepsOf` stand in `rules_object`, in `Promised.antt`. `proofs/Kept.antt` has the proof of each.
 -- Assumes nothing.
 use mathlib.Core.Path.{_≡_}
 use mathlib.Core.Logic.{_↔_}
@@ -7,7 +7,7 @@ use Prim.Native.Nat.{ℕ, suc, _+_, _*_, _≤_, _<_}
 use mathlib.Core.Bool.{true}
 use mathlib.Core.List.{List, [], _∷_, _++_}
 use mathlib.Core.Option.{some}
-use lib.ListN.{length, getElem?}
+use lib.ListN.{length, getElem?, take, drop}
 use lib.IntN.{ℤ, pos}
 use Rattle.rules_shared.specs.Limits.{limits}
 use Rattle.rules_shared.specs.Runs.{go, halt, run}
@@ -20,7 +20,7 @@ use Rattle.rules_object.specs.Machine.{State, cell, step}
 use Rattle.rules_object.specs.Check.{span, flowOf, benchStep, right41}
 use Rattle.rules_object.specs.Flow.{heightAt, Valid, NoTable, Reached, PathsAgree}
 use Rattle.rules_object.specs.Heights.{heights}
-use Rattle.rules_shared.specs.Refusals.{refusal, accepted}
+use Rattle.rules_shared.specs.Refusals.{refusal, accepted, Refusal}
 use Rattle.rules_shared.specs.Output.{notWritten}
 use Rattle.rules_object.specs.Calls.{checking, Lent, taken, Ran, notRun, running, benching, mapping}
 use Rattle.rules_object.specs.Safe.{Right, ranWithCells, afterSteps, freshLent, In}
@@ -29,6 +29,7 @@ use Rattle.rules_object.specs.Each.{Each}
 use Rattle.rules_object.specs.Promised.{Judged, rightStore, Runnable, TouchesOnly, StepsOf}
 use Rattle.rules_deck.specs.Trees.{Name, Statement, Form}
 use Rattle.rules_deck.specs.Deck.{Do, endings}
+use Rattle.rules_deck.specs.Cards.{cardLength}
 use Rattle.rules_deck.specs.Grammar.{formOf}
 use Rattle.rules_deck.specs.Meaning.{Cause, Key, bounds, Standing}
 use Rattle.rules_deck.specs.Translation.{addressAt, filled}
@@ -37,6 +38,8 @@ use Rattle.rules_deck.specs.Accepted.{Among}
 use Rattle.rules_deck.specs.Spelling.{spellForm, Spells, Spellable, withoutPluses, NoForm}
 use Rattle.rules_deck.specs.Seen.{statementsOf, meaningOf, haltOf, deckSteps, InStatement, deckNames, deckDims, deckLevels, objectIn, namedCell, namedValues, lineOf, series, sum}
 use Rattle.rules_deck.specs.Worked.{decks, DecksRight}
+use Rattle.rules_program.specs.Text.{haltLine, refusedLine, nameLines}
+use Rattle.rules_program.specs.Program.{controlOf, zeroStore, printed}
 
 -- compiling the deck with k digits gives the object
 pub record Compiled (k : ℕ) (deck object : List ℕ) : Type 0 where
@@ -306,6 +309,23 @@ pub record Table : Type 0 where
   pub p11 : checking (objectBytes (object 0 (1 ∷ []) [] [] [] (wordCON 0 ∷ wordJMP 0 ∷ []))) ≡ refusal 44 0 0
   pub p12 : checking (objectBytes (codeOnly (wordJMP 0 ∷ []))) ≡ accepted
 
+-- ---- 12. The program
+
+-- what is printed of a control card and a deck
+pub data Prints (card deck : List ℕ) : List ℕ → Type 0 where
+  -- the card is no control card: REFUSED 1 0
+  noCard : controlOf card ≡ none → Prints card deck (refusedLine 1 0)
+  -- the deck is refused whatever room its object has, by a number that only decks are refused by: never by 30, nor by 40 and above
+  noDeck : (k : ℕ) (r : Refusal) → controlOf card ≡ some k → ((output : List ℕ) → compiling k deck output .refusal ≡ r) → (1 ≤ r .number) × (r .number ≤ 25)
+      → Prints card deck (refusedLine (r .number) (r .place))
+  -- its object is run with a zero store, and not refused: the halt, and the values of the names
+  ran : (k : ℕ) (object : List ℕ) (o : Object) (r : Ran) → controlOf card ≡ some k → Compiled k deck object → readObject object ≡ some o
+      → running object zeroStore freshLent 1000000 ≡ r → r .refusal ≡ accepted → Prints card deck (haltLine (r .halt) (r .steps) (r .sequence) ++ nameLines (o .names) (r .store))
+
+-- Of every input one of these is printed, the first 80 bytes being the control card.
+abbrev pub ProgramPrints : Type 0
+ProgramPrints = (input : List ℕ) → Prints (take cardLength input) (drop cardLength input) (printed input)
+
 -- ---- all of them
 
 pub record Kept : Type 0 where
@@ -342,3 +362,4 @@ pub record Kept : Type 0 where
   pub noTwoForms : NoTwoForms
   pub tenExactly : TenExactly
   pub table : Table
+  pub programPrints : ProgramPrints

@@ -3,4 +3,5 @@ pub mod Lengths
 pub mod TidyDeck
 pub mod LongInput
 pub mod Enough
+pub mod Prints
 pub mod ProgramExamples

@@ -5,7 +5,7 @@ use Prim.Native.Nat.{ℕ}
 use mathlib.Core.List.{List, [], _∷_, _++_}
 use Rattle.rules_deck.specs.Trees.{Name}
 use Rattle.rules_deck.specs.Translation.{Held, appear}
-use Rattle.rules_deck.proofs.Readers.{All}
+use Rattle.rules_shared.specs.Lists.{Each}
 use Rattle.tokens.specs.Words.{nameWord}
 use Rattle.draft.specs.Parts.{Item, itemWords, itemsWords, itemNames, itemsNames, itemPlain, itemsPlain}
 use Rattle.draft.specs.Names.{Lists, Told}
@@ -26,11 +26,11 @@ pub record TakesAny (before after : List ℕ) (n cells word : ℕ) (r : Grown) :
 -- the plain names of the operand that some words start with
 pub record TakesItem (items before after : List ℕ) (n cells : ℕ) (r : Grown) : Type 0 where
   pub within : Within r
-  pub is : (held : List Held) (i : Item) (more : List ℕ) → Lists held before n cells → items ≡ itemWords i ++ more → All Told (itemNames i)
+  pub is : (held : List Held) (i : Item) (more : List ℕ) → Lists held before n cells → items ≡ itemWords i ++ more → Each Told (itemNames i)
       → Appeared (appear held (itemPlain i)) after r
 
 -- the plain names of some operands have taken their cells
 pub record Appears (items before after : List ℕ) (n cells : ℕ) (r : Grown) : Type 0 where
   pub within : Within r
-  pub is : (held : List Held) (is : List Item) → Lists held before n cells → items ≡ itemsWords is → All Told (itemsNames is)
+  pub is : (held : List Held) (is : List Item) → Lists held before n cells → items ≡ itemsWords is → Each Told (itemsNames is)
       → Appeared (appear held (itemsPlain is)) after r
