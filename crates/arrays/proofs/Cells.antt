@@ -6,7 +6,7 @@ use native.Mathlib.Omega.{arith}
 use native.Mathlib.Nat.{mul-le-mul}
 use mathlib.Core.List.{List, [], _∷_, _++_}
 use lib.ListN.{take}
-use Rattle.rules_object.proofs.EachLaws.{each-one}
+use Rattle.rules_shared.proofs.EachLaws.{each-one}
 use Rattle.rules_deck.specs.Deck.{Declared, width}
 use Rattle.rules_deck.specs.Translation.{array, arraySize}
 use Rattle.tokens.specs.Words.{most, nameWord}

@@ -9,7 +9,7 @@ use mathlib.Core.Option.{none, some}
 use lib.Dec.{leb}
 use lib.ListN.{length, getD}
 use borrow.Author.Tests.{leb-true}
-use Rattle.rules_object.specs.Each.{Each}
+use Rattle.rules_shared.specs.Lists.{Each}
 use Rattle.rules_deck.specs.Trees.{Array, array, arrayNames, valueOf}
 use Rattle.rules_deck.specs.Deck.{declare}
 use Rattle.rules_deck.specs.Translation.{Held}
@@ -24,8 +24,7 @@ use Rattle.names.specs.Appears.{Appeared}
 use Rattle.names.proofs.Growth.{over-more}
 use Rattle.arrays.specs.One.{brought, rightArray, TakesArray}
 use Rattle.arrays.specs.Arrays.{Declares}
-use Rattle.arrays.proofs.Judging.{word-at, named-at, Parted, parted-start, Next, parted-next, parted-end, parted-more, here-words, here-told}
-use Rattle.arrays.proofs.Judging.{brought-both, brought-last, right-more}
+use Rattle.arrays.proofs.Judging.{word-at, named-at, Parted, parted-start, Next, parted-next, parted-end, parted-more, here-words, here-told, brought-both, brought-last, right-more}
 
 -- ---- the words of an array that passes 15
 

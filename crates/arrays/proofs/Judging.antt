@@ -8,8 +8,8 @@ use mathlib.Core.List.{List, [], _∷_, _++_, append-assoc, append-nil}
 use lib.ListN.{length, getD, drop, length-append}
 use lib.Seq.{getD-drop, drop-at}
 use native.Mathlib.Nat.{add-zero}
-use Rattle.rules_object.specs.Each.{Each, each-more}
-use Rattle.rules_object.proofs.EachLaws.{each-both}
+use Rattle.rules_shared.specs.Lists.{Each, each-more}
+use Rattle.rules_shared.proofs.EachLaws.{each-both}
 use Rattle.rules_deck.specs.Trees.{Name, Array, array, arrayNames}
 use Rattle.rules_deck.specs.Deck.{declare}
 use Rattle.rules_deck.specs.Translation.{Held}

@@ -10,7 +10,7 @@ use lib.Dec.{eqb, leb}
 use lib.ListN.{length, getD, drop}
 use lib.Seq.{getD-drop, drop-drop}
 use borrow.Author.Tests.{eq-eqb, ne-eqb, le-leb}
-use Rattle.rules_object.specs.Each.{Each, each-more}
+use Rattle.rules_shared.specs.Lists.{Each, each-more}
 use Rattle.rules_deck.specs.Trees.{Name, Array, array, arrayNames, valueOf}
 use Rattle.rules_deck.specs.Deck.{sameName, declare}
 use Rattle.rules_deck.specs.Translation.{Held, isName, isArray, holds}

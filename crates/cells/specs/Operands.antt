@@ -4,7 +4,7 @@ use mathlib.Core.Path.{_≡_}
 use Prim.Native.Nat.{ℕ}
 use mathlib.Core.Bool.{Bool, _&&_}
 use mathlib.Core.List.{List, [], _∷_, _++_}
-use Rattle.rules_object.specs.Each.{Each}
+use Rattle.rules_shared.specs.Lists.{Each}
 use Rattle.rules_deck.specs.Translation.{Held, hidden, appear}
 use Rattle.draft.specs.Parts.{Item, itemsWords, itemsNames, itemsPlain, rightItems}
 use Rattle.draft.specs.Names.{Lists, Told}

@@ -9,7 +9,7 @@ use lib.ListN.{length, getElem?}
 use Rattle.rules_object.specs.Bytes.{objectBytes}
 use Rattle.rules_shared.specs.Refusals.{Refusal, refusal}
 use Rattle.rules_shared.specs.Output.{notWritten, write}
-use Rattle.rules_object.specs.Each.{Each}
+use Rattle.rules_shared.specs.Lists.{Each}
 use Rattle.rules_deck.specs.Trees.{Name, Form, assign, loop, Target, cell, Statement}
 use Rattle.rules_deck.specs.Cards.{Punched, Carded, cardsRefused, statements, carded}
 use Rattle.rules_deck.specs.Translation.{targetPlain, exprPlain, formPlain, heldOf, translate}

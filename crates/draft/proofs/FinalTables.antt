@@ -8,7 +8,7 @@ use lib.ListN.{length}
 use borrow.Author.Tests.{eq-eqb}
 use Rattle.rules_object.specs.Object.{Loop, Element}
 use Rattle.rules_object.specs.Machine.{Instr, HLT, CON, LOD, STO, LDE, STE, OP, NEG, JMP, BR3, BRC, DOI, DOE}
-use Rattle.rules_object.proofs.EachLaws.{each-head}
+use Rattle.rules_shared.proofs.EachLaws.{each-head}
 use Rattle.rules_deck.specs.Trees.{Name, valueOf, Form, assign, goTo, computed, ifs, loop, continue, stop, end, dimension, Statement, formLast}
 use Rattle.rules_deck.specs.Deck.{Do, Dims, doOf, dosFrom, dosOf, endings, dimsOf}
 use Rattle.rules_deck.specs.Meaning.{third}

@@ -7,9 +7,8 @@ use mathlib.Core.Logic.{_⊎_, inl, inr}
 use mathlib.Core.Bool.{Bool, true, false, cond, false≢true}
 use mathlib.Core.List.{List, [], _∷_, _++_, map}
 use mathlib.Core.Option.{some}
-use Rattle.rules_shared.specs.Lists.{all}
-use Rattle.rules_object.specs.Each.{Each}
-use Rattle.rules_object.proofs.EachLaws.{each-map}
+use Rattle.rules_shared.specs.Lists.{all, Each}
+use Rattle.rules_shared.proofs.EachLaws.{each-map}
 use Rattle.rules_deck.specs.Trees.{Name, Digits, valueOf, Form, formNames, formConstants}
 use Rattle.rules_deck.specs.Cards.{rightDigits}
 use Rattle.rules_deck.specs.Grammar.{formOf}

@@ -10,10 +10,9 @@ use lib.Dec.{leb}
 use lib.ListN.{length}
 use borrow.Author.Tests.{leb-true, leb-false, le-leb, lt-leb}
 use Rattle.rules_shared.specs.Limits.{limits}
-use Rattle.rules_shared.specs.Lists.{all}
+use Rattle.rules_shared.specs.Lists.{all, Each, each-none, each-more}
 use Rattle.rules_object.specs.Check.{isLetter, isDigit}
-use Rattle.rules_object.specs.Each.{Each, each-none, each-more}
-use Rattle.rules_object.proofs.EachLaws.{each-map}
+use Rattle.rules_shared.proofs.EachLaws.{each-map}
 use Rattle.rules_deck.specs.Trees.{Name, Digits, valueOf, Form, formNames, formConstants, formExits, formLast}
 use Rattle.rules_deck.specs.Tokens.{isLetterOrDigit}
 use Rattle.rules_deck.specs.Cards.{rightDigits}

@@ -5,8 +5,8 @@ use Prim.Native.Nat.{ℕ, _+_}
 use mathlib.Core.Bool.{Bool, true, false, _||_, cond, false≢true}
 use mathlib.Core.List.{List, [], _∷_, _++_}
 use Rattle.rules_object.specs.Machine.{Instr}
-use Rattle.rules_object.specs.Each.{Each}
-use Rattle.rules_object.proofs.EachLaws.{each-head, each-left, each-right}
+use Rattle.rules_shared.specs.Lists.{Each}
+use Rattle.rules_shared.proofs.EachLaws.{each-head, each-left, each-right}
 use Rattle.rules_deck.specs.Trees.{Name, Subscript, constant, linear, Subscripts, one, two, subscriptNames, subscriptsNames, Target, cell, element, Form, assign, goTo, computed, ifs, loop, continue, stop, end, dimension}
 use Rattle.rules_deck.specs.Deck.{sameName}
 use Rattle.rules_deck.specs.Translation.{Held, name, array, hidden, size, isName, isArray, isHidden, firstCell, holds, cellOf, baseOf, limitOf, subscriptEntry, firstEntry, secondEntry, elementEntry, storeCode, formCode}

@@ -9,8 +9,8 @@ use native.Mathlib.Omega.{arith}
 use lib.ListN.{length, take, length-take}
 use lib.Seq.{length-sets}
 use Rattle.rules_shared.specs.Refusals.{refusal}
-use Rattle.rules_object.specs.Each.{Each}
-use Rattle.rules_object.proofs.EachLaws.{each-head}
+use Rattle.rules_shared.specs.Lists.{Each}
+use Rattle.rules_shared.proofs.EachLaws.{each-head}
 use Rattle.rules_deck.specs.Trees.{Form, assign, goTo, computed, ifs, loop, continue, stop, end, dimension}
 use Rattle.rules_deck.specs.Trees as trees
 use Rattle.rules_deck.specs.Cards.{cardsOf, textOf}

@@ -9,7 +9,7 @@ use lib.Dec.{leb}
 use lib.ListN.{length}
 use borrow.Author.Tests.{leb-true}
 use Rattle.rules_shared.specs.Refusals.{refusal}
-use Rattle.rules_object.specs.Each.{each-none}
+use Rattle.rules_shared.specs.Lists.{each-none}
 use Rattle.rules_deck.specs.Cards.{Punched, cardsOf, textOf, rightDigits, counted, Carded, cardsRefused, statements, carded}
 use Rattle.rules_deck.specs.Judge.{Taken, nothingTaken}
 use Rattle.rules_deck.specs.Compile.{Read, notRead, readText, readFrom}

@@ -8,7 +8,7 @@ use mathlib.Core.List.{List, [], _∷_, _++_, map, append-assoc, append-nil}
 use lib.ListN.{length, take, length-append}
 use Rattle.rules_object.specs.Machine.{CON, LOD, STO, STE}
 use Rattle.rules_object.specs.Bytes.{concat, elementWords}
-use Rattle.rules_object.proofs.EachLaws.{each-head, each-both}
+use Rattle.rules_shared.proofs.EachLaws.{each-head, each-both}
 use Rattle.rules_deck.specs.Trees.{Digits, valueOf}
 use Rattle.rules_deck.specs.Translation.{Held, cellOf, elementEntry, Tables, pool, poolAt, tablesAfter}
 use Rattle.tokens.specs.Words.{capped, nameWord}

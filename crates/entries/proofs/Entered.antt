@@ -9,8 +9,8 @@ use mathlib.Core.Option.{Option, none, some}
 use lib.ListN.{take}
 use lib.IntN.{pos, negℤ}
 use Rattle.rules_object.specs.Bytes.{signedWord}
-use Rattle.rules_object.specs.Each.{Each}
-use Rattle.rules_object.proofs.EachLaws.{each-head, each-tail, each-both}
+use Rattle.rules_shared.specs.Lists.{Each}
+use Rattle.rules_shared.proofs.EachLaws.{each-head, each-tail, each-both}
 use Rattle.rules_deck.specs.Trees.{Name, Digits, valueOf, optional, Addend, nothing, plus, minus, constant, linear, one, two, addendConstants, subscriptNames, subscriptConstants, subscriptsNames, subscriptsConstants}
 use Rattle.rules_deck.specs.Trees as trees
 use Rattle.rules_deck.specs.Deck.{Dims, width}

@@ -1,15 +1,14 @@
 -- Elements' entries.
 -- Assumes nothing.
 use mathlib.Core.Path.{_≡_}
-use Prim.Native.Nat.{ℕ, _<_, _^_}
-use Prim.Native.Nat.{_+_, _*_}
+use Prim.Native.Nat.{ℕ, _<_, _^_, _+_, _*_}
 use mathlib.Core.Bool.{true}
 use mathlib.Core.List.{List, [], _∷_, _++_}
 use lib.IntN.{pos, negℤ}
 use lib.ListN.{take}
 use Rattle.rules_object.specs.Bytes.{signedWord, elementWords}
 use Rattle.rules_object.specs.Object as object
-use Rattle.rules_object.specs.Each.{Each}
+use Rattle.rules_shared.specs.Lists.{Each}
 use Rattle.rules_deck.specs.Trees.{Name, subscriptNames, subscriptConstants, subscriptsNames, subscriptsConstants}
 use Rattle.rules_deck.specs.Trees as trees
 use Rattle.rules_deck.specs.Deck.{Dims}

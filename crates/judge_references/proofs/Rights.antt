@@ -8,9 +8,8 @@ use mathlib.Core.List.{List, _∷_, _++_}
 use lib.Dec.{eqb, leb, ltb}
 use lib.ListN.{length, getD, drop, length-drop}
 use borrow.Author.Tests.{ne-eqb, le-ltb, lt-ltb}
-use Rattle.rules_shared.specs.Lists.{all}
-use Rattle.rules_object.specs.Each.{Each, each-more}
-use Rattle.rules_object.proofs.EachLaws.{each-both}
+use Rattle.rules_shared.specs.Lists.{all, Each, each-more}
+use Rattle.rules_shared.proofs.EachLaws.{each-both}
 use Rattle.rules_deck.specs.Trees.{Name, Subscript, constant, linear, Subscripts, one, two, subscriptNames, subscriptsNames}
 use Rattle.rules_deck.specs.Translation.{Held, isArray, holds}
 use Rattle.rules_deck.specs.Judge.{rightCount, rightReference}

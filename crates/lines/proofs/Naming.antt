@@ -11,7 +11,7 @@ use lib.Seq.{take-length, getD-append-add}
 use Rattle.rules_object.specs.Object.{Named}
 use Rattle.rules_object.specs.Bytes.{concat, wordsOf, nameWords}
 use Rattle.rules_object.specs.Writable.{IsByte, WritableNamed}
-use Rattle.rules_object.specs.Each.{Each, each-none, each-more}
+use Rattle.rules_shared.specs.Lists.{Each, each-none, each-more}
 use Rattle.rules_deck.specs.Trees.{Statement}
 use Rattle.rules_deck.specs.Translation.{Held, name, array, hidden, arraySize, heldOf, namesFrom, translate}
 use Rattle.rules_deck.proofs.TestLaws.{clash, at-before}

@@ -12,7 +12,7 @@ use Rattle.rules_object.specs.Machine.{cell, fresh, ruleOf}
 use Rattle.rules_object.specs.Check.{right41}
 use Rattle.rules_object.specs.Calls.{taken, right50, right51}
 use Rattle.rules_object.specs.Safe.{Within, Stands}
-use Rattle.rules_object.specs.Each.{Each, each-more}
+use Rattle.rules_shared.specs.Lists.{Each, each-more}
 use Rattle.rules_object.proofs.Lents.{long-enough, cells-within}
 use Rattle.object.specs.declared.Layout.{Layout}
 use Rattle.object.specs.Layout.{objectAt, Placed}

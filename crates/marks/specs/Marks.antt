@@ -6,7 +6,7 @@ use mathlib.Core.Bool.{cond}
 use mathlib.Core.List.{List, [], _∷_}
 use lib.Dec.{eqb}
 use lib.ListN.{length, take}
-use Rattle.rules_object.specs.Each.{Each}
+use Rattle.rules_shared.specs.Lists.{Each}
 use Rattle.elements.specs.declared.Target.{Target}
 use Rattle.elements.specs.declared.Target.the-variants.{Cell, Element}
 use Rattle.plans.specs.declared.Plan.{Plan}

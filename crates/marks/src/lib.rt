@@ -3,7 +3,7 @@ ghost use mathlib.Core.Path.{_≡_};
 ghost use mathlib.Core.List.{[], _∷_};
 ghost use Prim.Native.Nat.{_+_, _*_, _≤_, _<_};
 ghost use lib.ListN.{length, take};
-ghost use Rattle.rules_object.specs.Each.{Each};
+ghost use Rattle.rules_shared.specs.Lists.{Each};
 ghost use Rattle.items.specs.Parsed.{Put};
 ghost use Rattle.marks.specs.Marks.{numbersOf, Low, Jumping, cellWord, setOf};
 use elements::Target;

@@ -10,8 +10,8 @@ use lib.Dec.{leb}
 use lib.ListN.{take}
 use borrow.Author.Tests.{leb-false, lt-leb}
 use Rattle.rules_shared.specs.Limits.{limits}
-use Rattle.rules_object.specs.Each.{Each, each-none}
-use Rattle.rules_object.proofs.EachLaws.{each-append}
+use Rattle.rules_shared.specs.Lists.{Each, each-none}
+use Rattle.rules_shared.proofs.EachLaws.{each-append}
 use Rattle.rules_deck.specs.Trees.{Name}
 use Rattle.rules_deck.specs.Deck.{Declared}
 use Rattle.rules_deck.specs.Translation.{Held, name, array, hidden, arraySize, cellCount, isName, holds, appear}

@@ -9,7 +9,7 @@ use mathlib.Core.List.{List, [], _∷_, _++_}
 use lib.Dec.{ltb}
 use lib.ListN.{getD, drop, take-append-drop}
 use borrow.Author.Tests.{le-ltb}
-use Rattle.rules_object.specs.Each.{Each, each-more}
+use Rattle.rules_shared.specs.Lists.{Each, each-more}
 use Rattle.rules_deck.specs.Trees.{Name}
 use Rattle.rules_deck.specs.Deck.{sameName, Dims, width}
 use Rattle.rules_deck.specs.Translation.{Held, name, array, hidden, arraySize, cellCount, isName, isArray, firstCell, holds, cellOf, baseOf}

@@ -15,7 +15,7 @@ use borrow.Author.Tests.{eq-eqb, ne-eqb}
 use Rattle.rules_object.specs.Object.{Object}
 use Rattle.rules_object.specs.Bytes.{word, wordsOf, elementOf, loopOf, lineOf, namedOf, entries, entrySizes, readBodies, contentsLength, objectOf, readWords, readObject}
 use Rattle.rules_object.specs.Writable.{IsByte}
-use Rattle.rules_object.specs.Each.{Each, each-none, each-more}
+use Rattle.rules_shared.specs.Lists.{Each, each-none, each-more}
 use Rattle.rules_object.proofs.Words.{length-words}
 use Rattle.rules_object.proofs.RoundTrip.{writes-back, read-writable, object-length, all-eight}
 use Rattle.word.specs.Word.{wordAt}

@@ -25,7 +25,7 @@ use Rattle.rules_shared.specs.Output.{notWritten}
 use Rattle.rules_object.specs.Calls.{checking, Lent, taken, Ran, notRun, running, benching, mapping}
 use Rattle.rules_object.specs.Safe.{Right, ranWithCells, afterSteps, freshLent, In}
 use Rattle.rules_object.specs.Small.{wordHLT, wordCON, wordADD, wordJMP, object, codeOnly}
-use Rattle.rules_object.specs.Each.{Each}
+use Rattle.rules_shared.specs.Lists.{Each}
 use Rattle.rules_object.specs.Promised.{Judged, rightStore, Runnable, TouchesOnly, StepsOf}
 use Rattle.rules_deck.specs.Trees.{Name, Statement, Form}
 use Rattle.rules_deck.specs.Deck.{Do, endings}

@@ -7,8 +7,8 @@ use mathlib.Core.Option.{Option, none, some}
 use Prim.Native.Nat.{ℕ}
 use native.Mathlib.Omega.{arith}
 use lib.ListN.{length, take}
-use Rattle.rules_object.specs.Each.{each-more}
-use Rattle.rules_object.proofs.EachLaws.{each-one}
+use Rattle.rules_shared.specs.Lists.{each-more}
+use Rattle.rules_shared.proofs.EachLaws.{each-one}
 use Rattle.rules_deck.specs.Trees.{Form, assign, goTo, computed, ifs, loop, continue, stop, end, dimension}
 use Rattle.rules_deck.specs.Tokens.{comma, equals, wordContinue, wordStop, wordEnd, Reader, give, afterWord, whole}
 use Rattle.rules_deck.specs.Grammar.{plainGoTo, doLoop, readAssignment, readGoTo, readComputed, readIf, readDo, readContinue, readStop, readEnd, readDimension, present, readings, firstOf, formOf}

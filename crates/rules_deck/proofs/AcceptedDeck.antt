@@ -10,7 +10,7 @@ use mathlib.Core.Option.{Option, none, some}
 use lib.ListN.{length, getElem?, take}
 use Rattle.rules_shared.specs.Limits.{limits}
 use Rattle.rules_shared.specs.Refusals.{Refusal}
-use Rattle.rules_object.specs.Each.{Each, each-none, each-more}
+use Rattle.rules_shared.specs.Lists.{Each, each-none, each-more}
 use Rattle.rules_deck.specs.Trees.{Form, Statement}
 use Rattle.rules_deck.specs.Cards.{characters, Punched, textOf, Carded, cardsRefused, statements, carded, rightDigits}
 use Rattle.rules_deck.specs.Grammar.{formOf}

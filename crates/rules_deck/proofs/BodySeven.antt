@@ -12,11 +12,10 @@ use lib.Dec.{leb}
 use lib.ListN.{length, getElem?, take}
 use borrow.Author.Tests.{leb-true}
 use Rattle.rules_shared.specs.Limits.{limits}
-use Rattle.rules_shared.specs.Lists.{all}
+use Rattle.rules_shared.specs.Lists.{all, Each, each-more}
 use Rattle.rules_object.specs.Object.{Named}
 use Rattle.rules_object.specs.Check.{span, isLetter, isDigit}
-use Rattle.rules_object.specs.Each.{Each, each-more}
-use Rattle.rules_object.proofs.EachLaws.{each-map}
+use Rattle.rules_shared.proofs.EachLaws.{each-map}
 use Rattle.rules_deck.specs.Trees.{Name, Array, array, arrayNames, Form, assign, goTo, computed, ifs, loop, continue, stop, end, dimension, Statement, formNames}
 use Rattle.rules_deck.specs.Tokens.{isLetterOrDigit}
 use Rattle.rules_deck.specs.Deck.{sameName, Dims, Declared, declare, arraysIn, dimsIn, dimsOf}

@@ -12,8 +12,8 @@ use lib.Seq.{take-nil, take-add, take-take, getD-take}
 use borrow.Author.Tests.{leb-true, eqb-true, eqb-false}
 use Rattle.rules_shared.specs.Limits.{limits}
 use Rattle.rules_object.specs.Check.{blanks}
-use Rattle.rules_object.specs.Each.{Each, each-none, each-more}
-use Rattle.rules_object.proofs.EachLaws.{each-append, each-right}
+use Rattle.rules_shared.specs.Lists.{Each, each-none, each-more}
+use Rattle.rules_shared.proofs.EachLaws.{each-append, each-right}
 use Rattle.rules_deck.specs.Trees.{valueOf}
 use Rattle.rules_deck.specs.Cards.{cardsOf, columnsRead, numberColumns, textLength, textColumns, comment, firstCard, character, characters, allDigits, withoutBlanks, readAs, textOf, Punched, numberOf, rightNumber, Reading, nothingRead, wrongFirst, wrongContinuation, wrongCharacters, wrongCard, started, extended, continued, afterCard, Carded, cardsRefused, statements, cardByCard, rightDigits, rightLength, counted, carded}
 

@@ -17,10 +17,9 @@ use Rattle.rules_object.specs.Object.{SubscriptEntry, Element, Loop, Line, Name
 use Rattle.rules_object.specs.Machine.{Instr, HLT, CON, LOD, STO, LDE, STE, OP, NEG, JMP, BR3, BRC, DOI, DOE, operationOf, operandOf, ruleOf}
 use Rattle.rules_object.specs.Check.{right41, rightConstant, rightSubscript, rightElement, rightLoop, rightLine, blanks, nameTail, rightName, span, rightNamed, targets, exitAt, operandTests, unknownOperation, right43, operationNumber}
 use Rattle.rules_shared.specs.Refusals.{atEntry}
-use Rattle.rules_shared.specs.Lists.{firstBad}
+use Rattle.rules_shared.specs.Lists.{firstBad, Each, each-none, each-more}
 use Rattle.rules_object.specs.Calls.{refused42, refused43}
-use Rattle.rules_object.specs.Each.{Each, each-none, each-more}
-use Rattle.rules_object.proofs.EachLaws.{each-one, each-map}
+use Rattle.rules_shared.proofs.EachLaws.{each-one, each-map}
 use Rattle.rules_deck.specs.Trees.{Name, Statement}
 use Rattle.rules_deck.specs.Tokens.{isLetterOrDigit}
 use Rattle.rules_deck.specs.Judge.{startsInteger}

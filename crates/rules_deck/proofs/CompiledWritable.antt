@@ -18,8 +18,8 @@ use Rattle.rules_object.specs.Flow.{Reached}
 use Rattle.rules_object.specs.Check.{span, operationNumber, flowOf, isLetter, isDigit}
 use Rattle.rules_object.specs.Calls.{passed, checked, verdict, checking}
 use Rattle.rules_object.specs.Writable.{IsByte, IsWord, IsSigned, WritableSubscript, WritableElement, WritableLoop, WritableLine, WritableNamed, Writable}
-use Rattle.rules_object.specs.Each.{Each, each-none, each-more}
-use Rattle.rules_object.proofs.EachLaws.{each-map, each-append, each-take}
+use Rattle.rules_shared.specs.Lists.{Each, each-none, each-more}
+use Rattle.rules_shared.proofs.EachLaws.{each-map, each-append, each-take}
 use Rattle.rules_object.proofs.RoundTrip.{reads-back}
 use Rattle.rules_deck.specs.Trees.{Name, Statement}
 use Rattle.rules_deck.specs.Tokens.{isLetterOrDigit}

@@ -10,7 +10,7 @@ use Rattle.rules_shared.specs.Refusals.{refusal}
 use Rattle.rules_deck.specs.Punch.{bytes, deck}
 use Rattle.rules_deck.specs.Trees.{Form, con, loop, computed, stop, valueOf, formNames, formConstants, formExits, formLast, formLevels}
 use Rattle.rules_deck.specs.Cards.{cardsOf, comment, firstCard, character, textOf, numberOf, rightNumber, wrongCard, afterCard, rightDigits, rightLength, carded}
-use Rattle.rules_deck.specs.Tokens.{isDigit, isLetter, isLetterOrDigit, give, giveIf, ahead, follow, andThen, after, afterWord, choose, starts, startsDigit, allOf, whole, run, digitRun, nameRun, taken as bytesTaken, number, name, listedUpTo, listed}
+use Rattle.rules_deck.specs.Tokens.{isLetterOrDigit, give, giveIf, ahead, follow, andThen, after, afterWord, choose, starts, startsDigit, allOf, whole, run, digitRun, nameRun, taken as bytesTaken, number, name, listedUpTo, listed}
 use Rattle.rules_deck.specs.Grammar.{addend, linearOf, subscript, subscripts, place as targetRead, operandOf as operandRead, operand, sign, signed, sumOp, productOp, joined, more, step as grammarStep, parseIn, enough, parse, expression, assignment, plainGoTo, rightExits, computedGoTo, arithmeticIf, parameter, doLoop, arrayShape, dimensions, readAssignment, readGoTo, readComputed, readIf, readDo, readContinue, readStop, readEnd, readDimension, present, readings, firstOf, formOf}
 use Rattle.rules_deck.specs.Translation.{formPlain}
 use Rattle.rules_deck.specs.Judge.{Taken, right11, right12, right13, right14, right15, formReferences, right16, formPooled, formWords, formExitWords, takes, right18, judgeForm}
@@ -46,7 +46,7 @@ Refused [] = Unit {0}
 Refused (e ∷ more) = (deckOf 5 (deck (e .cards)) ≡ notRead (refusal 18 (e .place) 0)) × Refused more
 
 pub examples : Refused table
-unfolding valueOf formNames formConstants formExits formLast formLevels cardsOf comment firstCard character textOf numberOf rightNumber wrongCard afterCard rightDigits rightLength carded isDigit isLetter isLetterOrDigit give giveIf ahead follow andThen after afterWord choose starts startsDigit allOf whole run digitRun nameRun bytesTaken number name listedUpTo listed addend linearOf subscript subscripts targetRead operandRead operand sign signed sumOp productOp joined more grammarStep parseIn enough parse expression assignment plainGoTo rightExits computedGoTo arithmeticIf parameter doLoop arrayShape dimensions readAssignment readGoTo readComputed readIf readDo readContinue readStop readEnd readDimension present readings firstOf formOf formPlain right11 right12 right13 right14 right15 formReferences right16 formPooled formWords formExitWords takes right18 judgeForm deckOf
+unfolding valueOf formNames formConstants formExits formLast formLevels cardsOf comment firstCard character textOf numberOf rightNumber wrongCard afterCard rightDigits rightLength carded isLetterOrDigit give giveIf ahead follow andThen after afterWord choose starts startsDigit allOf whole run digitRun nameRun bytesTaken number name listedUpTo listed addend linearOf subscript subscripts targetRead operandRead operand sign signed sumOp productOp joined more grammarStep parseIn enough parse expression assignment plainGoTo rightExits computedGoTo arithmeticIf parameter doLoop arrayShape dimensions readAssignment readGoTo readComputed readIf readDo readContinue readStop readEnd readDimension present readings firstOf formOf formPlain right11 right12 right13 right14 right15 formReferences right16 formPooled formWords formExitWords takes right18 judgeForm deckOf
 examples = (refl, (refl, (refl, (refl, (refl, (refl, tt))))))
 
 -- ---- exit words and words of code, from what is taken before: decks that take so many are dear to compute

@@ -11,7 +11,7 @@ use lib.ListN.{length, take, drop, getD, getElem?, length-drop}
 use lib.Seq.{drop-length}
 use lib.Dec.{eqb}
 use borrow.Author.Tests.{ne-eqb}
-use Rattle.rules_object.specs.Each.{Each, each-more}
+use Rattle.rules_shared.specs.Lists.{Each, each-more}
 use Rattle.rules_deck.specs.Trees.{Name, Expr, con, var, par, cell, element, Form, goTo, continue, stop, end}
 use Rattle.rules_deck.specs.Tokens.{leftParen, rightParen, plusSign, minusSign, comma, equals, wordGoTo, wordIf, wordDo, wordContinue, wordStop, wordEnd, wordDimension, found, Reader, give, andThen, after, afterWord, choose, starts, startsDigit, whole, number, name}
 use Rattle.rules_deck.specs.Grammar.{subscripts, place, operandOf, operand, sign, signed, sumOp, productOp, anExpression, aTerm, aFactor, moreTerms, moreFactors, joined, more, step, parse, expression, assignment, plainGoTo, computedGoTo, arithmeticIf, parameter, doLoop, dimensions, readAssignment, readGoTo, readComputed, readIf, readDo, readContinue, readStop, readEnd, readDimension, present, readings, firstOf, formOf}

@@ -10,8 +10,8 @@ use lib.ListN.{length, take}
 use lib.Dec.{leb, eqb}
 use borrow.Author.Tests.{leb-true, eqb-true}
 use Rattle.rules_shared.specs.Limits.{limits}
-use Rattle.rules_object.specs.Each.{Each, each-none, each-more}
-use Rattle.rules_object.proofs.EachLaws.{each-one, each-append}
+use Rattle.rules_shared.specs.Lists.{Each, each-none, each-more}
+use Rattle.rules_shared.proofs.EachLaws.{each-one, each-append}
 use Rattle.rules_deck.specs.Trees.{Name, Digits, Expr, con, var, optional, Array, array, arrayNames, arrayConstants, Form, assign, goTo, computed, ifs, loop, continue, stop, end, dimension, formNames, formConstants, formExits, formLast}
 use Rattle.rules_deck.specs.Tokens.{leftParen, rightParen, comma, equals, wordContinue, wordStop, wordEnd, Found, found, bad, Reader, give, afterWord, allOf, whole}
 use Rattle.rules_deck.specs.Grammar.{assignment, plainGoTo, rightExits, computedGoTo, arithmeticIf, parameter, doLoop, arrayShape, dimensions, readAssignment, readGoTo, readComputed, readIf, readDo, readContinue, readStop, readEnd, readDimension, present, readings, firstOf, formOf}

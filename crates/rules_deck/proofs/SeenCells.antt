@@ -10,7 +10,7 @@ use lib.Dec.{leb, ltb}
 use lib.ListN.{length, take, replicate}
 use borrow.Author.Tests.{ne-eqb, ltb-true, le-leb, lt-ltb}
 use Rattle.rules_object.specs.Check.{span}
-use Rattle.rules_object.specs.Each.{each-none, each-more}
+use Rattle.rules_shared.specs.Lists.{each-none, each-more}
 use Rattle.rules_deck.specs.Trees.{Name, Statement}
 use Rattle.rules_deck.specs.Cards.{unlessBlank, withoutBlanks}
 use Rattle.rules_deck.specs.Deck.{sameName, Declared, width}

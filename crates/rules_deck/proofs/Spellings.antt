@@ -8,8 +8,8 @@ use mathlib.Core.Option.{Option, some, none}
 use Prim.Native.Nat.{ℕ}
 use native.Mathlib.Omega.{arith}
 use Rattle.number.specs.Number.{Op, add, sub, mul, div}
-use Rattle.rules_object.specs.Each.{Each, each-none, each-more}
-use Rattle.rules_object.proofs.EachLaws.{each-head, each-tail, each-left, each-right}
+use Rattle.rules_shared.specs.Lists.{Each, each-none, each-more}
+use Rattle.rules_shared.proofs.EachLaws.{each-head, each-tail, each-left, each-right}
 use Rattle.rules_deck.specs.Trees.{Expr, con, var, bin, exprNames, exprConstants, optional, written, element, targetNames, targetConstants, Array, array, arrayNames, arrayConstants, Form, assign, goTo, computed, ifs, loop, continue, stop, end, dimension, formNames, formConstants, formExits, formLast}
 use Rattle.rules_deck.specs.Grammar.{formOf}
 use Rattle.rules_deck.specs.Accepted.{IsSum, IsProduct, IsFactor, IsParameter, OptionalParameter}

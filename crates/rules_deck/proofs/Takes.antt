@@ -11,7 +11,7 @@ use lib.Seq.{take-append-seam, drop-append-seam}
 use lib.Dec.{leb}
 use borrow.Author.Tests.{eq-eqb, ne-eqb, lt-leb}
 use Rattle.rules_object.specs.Check.{isLetter, isDigit}
-use Rattle.rules_object.specs.Each.{Each, each-none, each-more}
+use Rattle.rules_shared.specs.Lists.{Each, each-none, each-more}
 use Rattle.rules_deck.specs.Tokens.{comma, isLetterOrDigit, Found, found, bad, Reader, give, giveIf, ahead, follow, andThen, after, afterWord, choose, starts, startsDigit, allOf, whole, run, digitRun, nameRun, taken, number, name, listed}
 use Rattle.rules_deck.specs.Spelling.{Passes, IsDigits, is-digits, IsName, is-name, spellMore, spellList}
 use Rattle.rules_deck.proofs.Parse.{listStep, listed-step}

@@ -11,8 +11,8 @@ use lib.Seq.{drop-at, length-take-le}
 use lib.Dec.{eqb}
 use borrow.Author.Tests.{eqb-true}
 use Rattle.rules_object.specs.Check.{isLetter, isDigit}
-use Rattle.rules_object.specs.Each.{Each, each-more}
-use Rattle.rules_object.proofs.EachLaws.{each-one}
+use Rattle.rules_shared.specs.Lists.{Each, each-more}
+use Rattle.rules_shared.proofs.EachLaws.{each-one}
 use Rattle.rules_deck.specs.Tokens.{comma, isLetterOrDigit, Found, found, bad, Reader, give, giveIf, ahead, follow, andThen, after, afterWord, choose, whole, run, digitRun, nameRun, taken, number, name, listedUpTo, listed}
 use Rattle.rules_deck.specs.Spelling.{Passes, IsDigits, is-digits, IsName, is-name, spellMore, spellList}
 use Rattle.rules_deck.proofs.Parse.{listStep}

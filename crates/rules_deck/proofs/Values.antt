@@ -7,7 +7,7 @@ use native.Mathlib.Omega.{arith}
 use mathlib.Core.List.{List, [], _∷_}
 use lib.ListN.{length}
 use Rattle.rules_object.specs.Check.{isDigit}
-use Rattle.rules_object.specs.Each.{Each, each-none, each-more}
+use Rattle.rules_shared.specs.Lists.{Each, each-none, each-more}
 use Rattle.rules_deck.specs.Trees.{Digits, valueFrom, valueOf}
 use Rattle.rules_deck.specs.Spelling.{Passes, IsDigits, is-digits}
 use Rattle.rules_deck.proofs.Readers.{digit-bounds}

@@ -12,7 +12,7 @@ use lib.ListN.{length}
 use Rattle.number.specs.Number.{Op, add, sub, mul, div}
 use Rattle.rules_shared.specs.Limits.{limits}
 use Rattle.rules_object.specs.Check.{isLetter, isDigit}
-use Rattle.rules_object.specs.Each.{Each}
+use Rattle.rules_shared.specs.Lists.{Each}
 use Rattle.rules_deck.specs.Trees.{Name, Digits, Addend, nothing, plus, minus, Subscript, constant, linear, Subscripts, one, two, Expr, con, var, elm, neg, par, bin, Target, cell, element, Array, array, Form, assign, goTo, computed, ifs, loop, continue, stop, end, dimension, Statement, targetNames, targetConstants, optional, formNames, formConstants, formExits, formLast}
 use Rattle.rules_deck.specs.Tokens.{leftParen, rightParen, star, plusSign, comma, minusSign, slash, equals, wordGoTo, wordIf, wordDo, wordContinue, wordStop, wordEnd, wordDimension, isLetterOrDigit}
 use Rattle.rules_deck.specs.Cards.{Punched, textOf, statements, carded}

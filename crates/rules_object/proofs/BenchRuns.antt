@@ -11,6 +11,7 @@ use lib.IntN.{ℤ, pos}
 use borrow.Author.Tests.{lt-ltb, le-leb}
 use Rattle.rules_shared.specs.Limits.{limits}
 use Rattle.rules_shared.specs.Runs.{go, halt, run, steps}
+use Rattle.rules_shared.specs.Lists.{each-none}
 use Rattle.rules_object.specs.Halts.{badStack, badInstruction, Out}
 use Rattle.rules_object.specs.Object.{Object}
 use Rattle.rules_object.specs.Machine.{State, fresh, step}
@@ -46,7 +47,7 @@ module _ {bytes : List ℕ} {o : Object} {table : List ℕ} (p : Passed bytes o 
   bench-steps = steps-same (Stands o table) (step o) (benchStep o) (step-stands p) alike
 
   fresh-52 : right52 o table freshLent ≡ true
-  fresh-52 = lent-right p freshLent (record { reached = first; stack = tt; mark = omega arith })
+  fresh-52 = lent-right p freshLent (record { reached = first; stack = each-none; mark = omega arith })
 
   same-object : (store : List ℤ) (a : ℕ) → benchObject (some o) store freshLent a ≡ runChecked (passed o table) store freshLent a
   unfolding given

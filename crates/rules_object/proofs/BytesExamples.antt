@@ -8,7 +8,7 @@ use lib.ListN.{length, take, set}
 use Rattle.rules_object.specs.Object.{Object}
 use Rattle.rules_object.specs.Bytes.{bytesOf, wordsOf, objectWords, objectBytes, readObject}
 use Rattle.rules_object.specs.Writable.{IsByte, Writable}
-use Rattle.rules_object.specs.Each.{Each}
+use Rattle.rules_shared.specs.Lists.{Each}
 use Rattle.rules_object.proofs.RoundTrip.{read-writable, object-bytes}
 
 -- I=47, J=I*I*I, STOP, END, with k = 5: the contents, one constant, ten instructions, four statements, two names

@@ -8,24 +8,24 @@ use mathlib.Core.Option.{Option, none, some}
 use Prim.Native.Nat.{ℕ, suc}
 use native.Mathlib.Omega.{arith}
 use Rattle.rules_object.specs.Object.{Object}
-use Rattle.rules_shared.specs.Lists.{Each}
+use Rattle.rules_shared.specs.Lists.{Each, each-more, firstBad}
 use Rattle.rules_object.specs.Check.{right41, rightConstant, rightElement, rightLoop, rightLine, rightNamed, right43, flowOf}
 use Rattle.rules_object.specs.Flow.{Valid, NoTable}
 use Rattle.rules_object.specs.Heights.{heights}
 use Rattle.rules_shared.specs.Refusals.{refusal, accepted, orElse, unless}
-use Rattle.rules_shared.specs.Lists.{firstBad}
 use Rattle.rules_object.specs.Calls.{refused42, refused43, judged44, judged, checkedObject, checked, verdict, checking}
 use Rattle.rules_object.specs.Promised.{Judged}
+use Rattle.rules_shared.proofs.EachLaws.{each-map}
 use Rattle.rules_object.proofs.HeightsExact.{heights-some, heights-none}
 use Rattle.rules_object.proofs.OneTable.{no-table-is}
-use Rattle.rules_object.proofs.Passed.{each-map, passed-judged}
+use Rattle.rules_object.proofs.Passed.{passed-judged}
 use Rattle.rules_object.proofs.Accepts.{checks}
 
 -- ---- each is right: none is bad
 
 none-bad : {A : Type 0} (test : A → Bool) (l : List A) (n : ℕ) → Each (λ a. test a ≡ true) l → firstBad test l n ≡ none
 none-bad test [] n h = refl
-none-bad test (a ∷ more) n h = ap (λ b. cond b (firstBad test more (suc n)) (some n)) (h .0) ∙ none-bad test more (suc n) (h .1)
+none-bad test (a ∷ more) n (each-more p ps) = ap (λ b. cond b (firstBad test more (suc n)) (some n)) p ∙ none-bad test more (suc n) ps
 
 judged-none : {bytes : List ℕ} {o : Object} → Judged bytes o → orElse (unless (right41 o) 41) (orElse (refused42 o) (refused43 o)) ≡ none
 unfolding refused42 refused43
@@ -35,7 +35,7 @@ judged-none {o = o} j =
     let e₄ = none-bad (rightLoop o) (o .dos) 0 (j .dos) in
     let e₆ = none-bad (rightLine o) (o .lines) 0 (j .lines) in
     let e₇ = none-bad (rightNamed o) (o .names) 0 (j .names) in
-    let e₅ = none-bad (right43 o) (o .code) 0 (each-map (λ w r. r .operand) (o .code) (j .code)) in
+    let e₅ = none-bad (right43 o) (o .code) 0 (each-map (λ w r. r .operand) (j .code)) in
     rw (j .limits, e₁, e₂, e₄, e₆, e₇, e₅) refl
 
 -- ---- what is left is 44

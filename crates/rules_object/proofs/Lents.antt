@@ -17,10 +17,9 @@ use Rattle.rules_object.specs.Object.{Object}
 use Rattle.rules_object.specs.Machine.{State, state, fresh, cell, ruleOf}
 use Rattle.rules_object.specs.Flow.{heightAt}
 use Rattle.rules_object.specs.Check.{flowOf}
-use Rattle.rules_shared.specs.Lists.{all}
+use Rattle.rules_shared.specs.Lists.{all, Each, each-none, each-more}
 use Rattle.rules_object.specs.Calls.{Lent, taken, given, right50, right51, right52}
 use Rattle.rules_object.specs.Safe.{Within, Stands}
-use Rattle.rules_object.specs.Each.{Each, each-none, each-more}
 use Rattle.rules_object.specs.Promised.{RightLent}
 use Rattle.rules_object.proofs.HeightsExact.{height-reached, reached-height}
 use Rattle.rules_object.specs.Passed.{Passed}

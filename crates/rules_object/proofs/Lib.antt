@@ -1,4 +1,3 @@
-pub mod EachLaws
 pub mod Fills
 pub mod HeightsExact
 pub mod OneTable

@@ -15,7 +15,7 @@ use Rattle.rules_object.specs.Object.{Object}
 use Rattle.rules_shared.specs.Choose.{positive, Turn, again, over, turn}
 use Rattle.rules_object.specs.Machine.{cell, top, under, ruleOf}
 use Rattle.rules_object.specs.Safe.{Within}
-use Rattle.rules_object.specs.Each.{Each, each-none, each-more}
+use Rattle.rules_shared.specs.Lists.{Each, each-none, each-more}
 
 module _ (o : Object) where
   pub zero-within : Within o (pos 0)

@@ -13,12 +13,12 @@ use Rattle.rules_object.specs.Machine.{noElement, noLoop, operationOf, o
 use Rattle.rules_object.specs.Check.{right41, rightConstant, rightElement, rightLoop, right43, flowOf, rightLine, rightNamed, operandTests, unknownOperation}
 use Rattle.rules_object.specs.Heights.{heights}
 use Rattle.rules_shared.specs.Refusals.{Refusal, atEntry, orElse, unless}
-use Rattle.rules_shared.specs.Lists.{firstBad}
+use Rattle.rules_shared.specs.Lists.{firstBad, Each, each-none, each-more}
 use Rattle.rules_object.specs.Calls.{refused42, refused43, refused, passed, judged44, judged, checkedObject, checked}
 use Rattle.rules_object.specs.Bytes.{readObject}
 use Rattle.rules_object.specs.Passed.{Passed}
-use Rattle.rules_shared.specs.Lists.{Each}
 use Rattle.rules_object.specs.Promised.{RightWord, Judged}
+use Rattle.rules_shared.proofs.EachLaws.{each-map}
 use Rattle.rules_object.proofs.HeightsExact.{heights-some}
 
 -- ---- answers that are none
@@ -40,21 +40,17 @@ entry-none number kind (some n) e = absurd (some-none e)
 
 -- none is bad: each is right
 each-right : {A : Type 0} (test : A → Bool) (l : List A) (n : ℕ) → firstBad test l n ≡ none → Each (λ a. test a ≡ true) l
-each-right test [] n e = tt
+each-right test [] n e = each-none
 each-right test (a ∷ more) n e = by (test a) refl e (each-right test more (suc n))
   where
     by : (b : Bool) → test a ≡ b → cond b (firstBad test more (suc n)) (some n) ≡ none → (firstBad test more (suc n) ≡ none → Each (λ a. test a ≡ true) more) → Each (λ a. test a ≡ true) (a ∷ more)
-    by true q e ih = (q, ih e)
+    by true q e ih = each-more q (ih e)
     by false q e ih = absurd (some-none e)
 
 each-at : {A : Type 0} (test : A → Bool) (l : List A) (d : A) → Each (λ a. test a ≡ true) l → (i : ℕ) → i < length l → test (getD l i d) ≡ true
 each-at test [] d h i l = absurd (omega arith)
-each-at test (a ∷ more) d h zero l = h .0
-each-at test (a ∷ more) d h (suc i) l = each-at test more d (h .1) i (omega arith)
-
-pub each-map : {A : Type 0} {P Q : A → Type 0} → ((a : A) → P a → Q a) → (l : List A) → Each P l → Each Q l
-each-map f [] h = tt
-each-map f (a ∷ more) h = (f a (h .0), each-map f more (h .1))
+each-at test (a ∷ more) d (each-more p ps) zero l = p
+each-at test (a ∷ more) d (each-more p ps) (suc i) l = each-at test more d ps i (omega arith)
 
 -- ---- 40 to 43 passed
 
@@ -87,7 +83,7 @@ none-judged {o = o} r e =
       dos = each-right (rightLoop o) (o .dos) 0 (entry-none _ _ _ (d .0));
       lines = each-right (rightLine o) (o .lines) 0 (entry-none _ _ _ (s .0));
       names = each-right (rightNamed o) (o .names) 0 (entry-none _ _ _ (s .1));
-      code = each-map (right-word o) (o .code) (each-right (right43 o) (o .code) 0 (entry-none _ _ _ (n₂ .1)));
+      code = each-map (right-word o) (each-right (right43 o) (o .code) 0 (entry-none _ _ _ (n₂ .1)));
     }
 
 -- ---- the check passed
@@ -134,7 +130,7 @@ check-passed bytes o table e =
       constants = each-at (rightConstant o) (o .constants) 0 (j .constants);
       elements = each-at (rightElement o) (o .elements) noElement (j .elements);
       dos = each-at (rightLoop o) (o .dos) noLoop (j .dos);
-      words = each-at (right43 o) (o .code) 0 (each-map (λ w r. r .operand) (o .code) (j .code));
+      words = each-at (right43 o) (o .code) 0 (each-map (λ w r. r .operand) (j .code));
       least = h .0;
       sized = h .1;
     }

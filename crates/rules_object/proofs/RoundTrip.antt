@@ -13,8 +13,8 @@ use borrow.Author.Tests.{leb-true, eqb-true, eqb-false, le-leb, eq-eqb, ne-eqb}
 use Rattle.rules_object.specs.Object.{Element, Loop, Line, Named, Object}
 use Rattle.rules_object.specs.Bytes.{bytesOf, wordsOf, concat, entrySizes, elementWords, loopWords, lineWords, nameWords, bodies, word, elementOf, loopOf, lineOf, namedOf, entries, bodyTable, contentsLength, objectWords, objectBytes, consBody, readBodies, body, objectOf, readWords, readObject}
 use Rattle.rules_object.specs.Writable.{IsByte, IsWord, WritableElement, WritableLoop, WritableLine, WritableNamed, bodyWords, Writable}
-use Rattle.rules_object.specs.Each.{Each, each-none, each-more}
-use Rattle.rules_object.proofs.EachLaws.{each-one, each-of, each-map, each-append, each-left, each-right, each-take, each-drop}
+use Rattle.rules_shared.specs.Lists.{Each, each-none, each-more}
+use Rattle.rules_shared.proofs.EachLaws.{each-one, each-of, each-map, each-append, each-left, each-right, each-take, each-drop}
 use Rattle.rules_object.proofs.Words.{digits-of, words-bytes, length-bytes, each-byte, bytes-words, each-word, length-words, signed-word, word-signed, signed-is, signed-is-word}
 
 -- ---- a test that a whole answer waits on

@@ -11,6 +11,7 @@ use native.Mathlib.Omega.{arith}
 use lib.ListN.{length}
 use lib.IntN.{ℤ}
 use Rattle.rules_shared.specs.Limits.{limits}
+use Rattle.rules_shared.specs.Lists.{each-none}
 use Rattle.rules_object.specs.Object.{Object}
 use Rattle.rules_object.specs.Bytes.{readObject}
 use Rattle.rules_object.specs.Machine.{fresh, step}
@@ -79,7 +80,7 @@ benches-exactly bytes store l a = (there (bench-answer bytes store), back)
 -- ---- from the start, and again
 
 pub fresh-runnable : (bytes : List ℕ) (store : List ℤ) → checking bytes ≡ accepted → rightStore bytes store ≡ true → Runnable bytes store freshLent
-fresh-runnable bytes store e s = record { passes = e; stored = s; stands = λ o r. record { reached = first; stack = tt; mark = omega arith }; forty = refl }
+fresh-runnable bytes store e s = record { passes = e; stored = s; stands = λ o r. record { reached = first; stack = each-none; mark = omega arith }; forty = refl }
 
 pub leaves-runnable : (bytes : List ℕ) (store : List ℤ) (l : Lent) → Runnable bytes store l → (a : ℕ) → Runnable bytes (running bytes store l a .store) (running bytes store l a .lent)
 leaves-runnable bytes store l r a =

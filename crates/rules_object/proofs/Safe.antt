@@ -18,8 +18,8 @@ use Rattle.rules_object.specs.Object.{Element, Loop, Object}
 use Rattle.rules_object.specs.Machine.{Instr, HLT, CON, LOD, STO, LDE, STE, OP, NEG, JMP, BR3, BRC, DOI, DOE, State, state, cell, top, under, operated, placeOf, elementLoaded, elementStored, branched, begun, turned, ended, halts, act, ruleOf, step}
 use Rattle.rules_object.specs.Check.{pops, pushes, instruction}
 use Rattle.rules_object.specs.Safe.{elementCell, elementCells, touchedBy, touches, Right, Within, Stands}
-use Rattle.rules_object.specs.Each.{Each, each-none, each-more}
-use Rattle.rules_object.proofs.EachLaws.{each-one}
+use Rattle.rules_shared.specs.Lists.{Each, each-none, each-more}
+use Rattle.rules_shared.proofs.EachLaws.{each-one}
 use Rattle.rules_shared.proofs.RunLaws.{run-keeps, halted}
 use Rattle.rules_shared.proofs.Places.{place-below}
 use Rattle.rules_object.proofs.HaltsThere.{step-there}

@@ -13,7 +13,7 @@ use lib.IntN.{ℤ, pos, negsuc}
 use borrow.Author.Tests.{ltb-true, ltb-false, lt-ltb, le-ltb}
 use Rattle.rules_object.specs.Bytes.{wordBytes, bytesOf, wordsOf, signedOf, signedWord}
 use Rattle.rules_object.specs.Writable.{IsByte, IsWord, IsSigned}
-use Rattle.rules_object.specs.Each.{Each, each-none, each-more}
+use Rattle.rules_shared.specs.Lists.{Each, each-none, each-more}
 
 -- ---- bytes of words
 

@@ -6,8 +6,7 @@ use mathlib.Core.List.{List, [], _∷_}
 use lib.Dec.{ltb, leb, eqb}
 use lib.ListN.{length, getD, take, drop}
 use lib.IntN.{ℤ, pos}
-use Rattle.number.specs.Number.{fits}
-use Rattle.number.specs.Number.{add, sub, mul, div}
+use Rattle.number.specs.Number.{fits, add, sub, mul, div}
 use Rattle.rules_shared.specs.Limits.{limits}
 use Rattle.rules_shared.specs.Runs.{halt}
 use Rattle.rules_object.specs.Halts.{badStack, badInstruction, Out}

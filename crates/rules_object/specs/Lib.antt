@@ -1,7 +1,6 @@
 pub mod Halts
 pub mod Object
 pub mod Bytes
-pub mod Each
 pub mod Writable
 pub mod Machine
 pub mod Flow

@@ -19,7 +19,7 @@ use Rattle.rules_object.specs.Flow.{heightAt}
 use Rattle.rules_shared.specs.Refusals.{accepted}
 use Rattle.rules_shared.specs.Output.{Written}
 use Rattle.rules_object.specs.Calls.{Lent, Ran, mapOf}
-use Rattle.rules_object.specs.Each.{Each}
+use Rattle.rules_shared.specs.Lists.{Each}
 
 -- ---- every cell that an instruction reads or writes
 

@@ -5,7 +5,6 @@ use Prim.Native.Nat.{ℕ, _+_, _*_, _^_, _<_}
 use lib.ListN.{length}
 use lib.IntN.{ℤ, pos, negsuc}
 use Rattle.rules_object.specs.Object.{SubscriptEntry, Element, Loop, Line, Named, Object}
-use Rattle.rules_object.specs.Each.{Each}
 use Rattle.rules_shared.specs.Lists.{Each}
 
 abbrev pub IsByte : ℕ → Type 0

@@ -2,7 +2,7 @@
 use mathlib.Core.Path.{_≡_, refl}
 use Prim.Native.Nat.{ℕ}
 use Prim.Native.String.{String}
-use mathlib.Core.List.{List, [], _∷_}
+use mathlib.Core.List.{List, [], _∷_, _++_}
 use Rattle.rules_deck.specs.Punch.{bytes, deck}
 use Rattle.number.specs.Number.{ceiling, fits, keep, drops, kept, divided, apply}
 use Rattle.rules_object.specs.Halts.{haltNumber}
@@ -27,7 +27,6 @@ use Rattle.rules_object.specs.Promised.{rightStore}
 use Rattle.rules_deck.specs.Seen.{meaningOf, deckNames, deckDims, deckLevels, objectIn, namedCell, namedValues, series}
 use Rattle.rules_program.specs.Text.{numeral, signed as signedNumeral, stated, haltLine, refusedLine, subscripts as subscriptsText, valueLine}
 use Rattle.rules_program.specs.Program.{controlDigits, printedObject, printed}
-use mathlib.Core.List.{_++_}
 
 pub record Example : Type 0 where
   pub input : List String

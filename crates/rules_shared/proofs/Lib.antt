@@ -1,3 +1,4 @@
+pub mod EachLaws
 pub mod RunLaws
 pub mod ChooseLaws
 pub mod Places

@@ -13,3 +13,7 @@ firstBad test (a ∷ more) n = cond (test a) (firstBad test more (suc n)) (some 
 abbrev pub all : {A : Type 0} → (A → Bool) → List A → Bool
 all test [] = true
 all test (a ∷ more) = test a && all test more
+
+pub data Each {A : Type 0} (P : A → Type 0) : List A → Type 0 where
+  each-none : Each P []
+  each-more : {x : A} {xs : List A} → P x → Each P xs → Each P (x ∷ xs)

@@ -8,8 +8,7 @@ use mathlib.Core.List.{List, [], _∷_, _++_, map, append-nil}
 use lib.Dec.{eqb, leb}
 use lib.ListN.{length, take, length-map}
 use borrow.Author.Tests.{eqb-true, eqb-false, leb-true}
-use Rattle.rules_shared.specs.Lists.{all}
-use Rattle.rules_object.specs.Each.{Each, each-none, each-more}
+use Rattle.rules_shared.specs.Lists.{all, Each, each-none, each-more}
 use Rattle.rules_deck.specs.Trees.{Target, cell, element, Form, assign, goTo, computed, ifs, loop, continue, stop, end, dimension, formExits, formLast}
 use Rattle.rules_deck.specs.Judge.{right13}
 use Rattle.rules_deck.proofs.Readers.{both-true}

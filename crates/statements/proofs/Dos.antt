@@ -10,7 +10,7 @@ use lib.ListN.{take}
 use Rattle.rules_shared.specs.Limits.{limits}
 use Rattle.rules_object.specs.Bytes.{concat}
 use Rattle.rules_object.specs.Bytes as object
-use Rattle.rules_object.proofs.EachLaws.{each-head}
+use Rattle.rules_shared.proofs.EachLaws.{each-head}
 use Rattle.rules_deck.specs.Trees.{Name, Digits, Expr, Form, assign, goTo, computed, ifs, loop, continue, stop, end, dimension}
 use Rattle.rules_deck.specs.Translation.{Held, hidden, cellCount, isName, isHidden, holds, cellOf, limitOf, appear, formPlain, brings}
 use Rattle.tokens.specs.Words.{nameWord}

@@ -5,7 +5,7 @@ use mathlib.Core.Bool.{true, false}
 use mathlib.Core.Option.{none, some}
 use Prim.Native.Nat.{ℕ}
 use mathlib.Core.List.{List}
-use Rattle.rules_object.specs.Each.{Each}
+use Rattle.rules_shared.specs.Lists.{Each}
 use Rattle.rules_deck.specs.Trees.{Form, formNames}
 use Rattle.rules_deck.specs.Translation.{Held}
 use Rattle.rules_deck.specs.Judge.{Taken, takes, right15, right16, right18, judgeForm}

@@ -11,7 +11,7 @@ use Rattle.rules_deck.specs.Trees.{Form, formNames, formLast}
 use Rattle.rules_deck.specs.Translation.{Held, Tables, isHidden, holds, brings, emit, tablesOf}
 use Rattle.rules_object.specs.Bytes.{concat}
 use Rattle.rules_object.specs.Bytes as object
-use Rattle.rules_object.specs.Each.{Each}
+use Rattle.rules_shared.specs.Lists.{Each}
 use Rattle.rules_deck.specs.Cards.{rightDigits}
 use Rattle.rules_deck.specs.Grammar.{formOf}
 use Rattle.rules_deck.specs.Judge.{right11, right12, right13, right14, right15}

@@ -6,8 +6,8 @@ use native.Mathlib.Omega.{arith}
 use mathlib.Core.Bool.{false}
 use mathlib.Core.List.{List}
 use lib.ListN.{length, getD, take, drop, length-drop}
-use Rattle.rules_object.specs.Each.{Each}
-use Rattle.rules_object.proofs.EachLaws.{each-both}
+use Rattle.rules_shared.specs.Lists.{Each}
+use Rattle.rules_shared.proofs.EachLaws.{each-both}
 use Rattle.rules_deck.specs.Translation.{Held, appear}
 use Rattle.draft.specs.Parts.{Item, itemsWords, itemNames, itemsNames, itemPlain, itemsPlain, Worded}
 use Rattle.draft.specs.Names.{Told, Lists, namesFit}

@@ -6,8 +6,8 @@ use native.Mathlib.Omega.{arith}
 use mathlib.Core.Bool.{Bool, true, false, cond}
 use mathlib.Core.List.{List, [], _∷_, _++_}
 use lib.ListN.{getD, take}
-use Rattle.rules_object.specs.Each.{Each, each-none, each-more}
-use Rattle.rules_object.proofs.EachLaws.{each-one, each-both}
+use Rattle.rules_shared.specs.Lists.{Each, each-none, each-more}
+use Rattle.rules_shared.proofs.EachLaws.{each-one, each-both}
 use Rattle.rules_deck.specs.Trees.{Name, Subscript, constant, linear, Subscripts, one, two, subscriptNames, subscriptsNames}
 use Rattle.rules_deck.specs.Translation.{Held, name, appear}
 use Rattle.tokens.specs.Words.{nameWord}

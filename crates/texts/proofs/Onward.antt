@@ -8,8 +8,8 @@ use native.Mathlib.Omega.{arith}
 use native.Mathlib.Numerals.{add-one}
 use lib.ListN.{length, take, drop, length-drop}
 use lib.Seq.{drop-drop}
-use Rattle.rules_object.specs.Each.{Each}
-use Rattle.rules_object.proofs.EachLaws.{each-head}
+use Rattle.rules_shared.specs.Lists.{Each}
+use Rattle.rules_shared.proofs.EachLaws.{each-head}
 use Rattle.rules_deck.specs.Cards.{cardsOf, textColumns, textOf, Punched, numberOf, following, grouped}
 use Rattle.rules_deck.proofs.CardsLaws.{RightStatement}
 use Rattle.rules_deck.proofs.CardsGroups.{statements-grouped}

@@ -10,8 +10,8 @@ use lib.ListN.{length, drop, length-append}
 use lib.Seq.{drop-nil, drop-drop}
 use borrow.Author.Tests.{eqb-true}
 use Rattle.rules_shared.specs.Limits.{limits}
-use Rattle.rules_object.specs.Each.{Each}
-use Rattle.rules_object.proofs.EachLaws.{each-head, each-tail}
+use Rattle.rules_shared.specs.Lists.{Each}
+use Rattle.rules_shared.proofs.EachLaws.{each-head, each-tail}
 use Rattle.rules_deck.specs.Cards.{cardsOf, textColumns, comment, firstCard, textOf, Punched, numberOf, rightNumber, Reading, nothingRead, wrongCard, afterCard, Carded, cardsRefused, statements, cardByCard, rightDigits, rightLength, counted, carded, following, grouped}
 use Rattle.rules_deck.proofs.CardsLaws.{RightStatement, Stands, as-comment, as-first, as-continuation, stands, statements-right}
 use Rattle.rules_deck.proofs.CardsGroups.{statements-grouped}

@@ -13,8 +13,8 @@ use Rattle.rules_shared.specs.Refusals.{accepted}
 use Rattle.rules_shared.specs.Output.{write}
 use Rattle.rules_object.specs.Calls.{mapOf}
 use Rattle.rules_object.specs.Calls as book
-use Rattle.rules_object.specs.Each.{Each, each-none, each-more}
-use Rattle.rules_object.proofs.EachLaws.{each-drop}
+use Rattle.rules_shared.specs.Lists.{Each, each-none, each-more}
+use Rattle.rules_shared.proofs.EachLaws.{each-drop}
 use Rattle.rules_object.proofs.Words.{each-word, length-words, bytes-words}
 use Rattle.rules_object.proofs.RoundTrip.{flat-entries, name-forth}
 use Rattle.word.proofs.Laws.{word-at, word-drop}

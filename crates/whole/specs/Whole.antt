@@ -7,7 +7,7 @@ use mathlib.Core.Option.{Option, none, some}
 use lib.ListN.{length, take}
 use Rattle.rules_shared.specs.Limits.{limits}
 use Rattle.rules_shared.specs.Refusals.{Refusal, refusal}
-use Rattle.rules_object.specs.Each.{Each}
+use Rattle.rules_shared.specs.Lists.{Each}
 use Rattle.rules_deck.specs.Trees.{Statement}
 use Rattle.rules_deck.specs.Deck.{positionOf}
 use Rattle.rules_deck.specs.Whole.{formSets, judgeDeck}

@@ -1,16 +1,13 @@
 -- `operations::perform` meets its contract. Assumes nothing.
 use mathlib.Core.Path.{_≡_, sym, ap, _∙_, subst}
-use Prim.Native.Nat.{_-_}
+use Prim.Native.Nat.{_-_, ℕ}
 use native.Mathlib.Omega.{arith}
 use lib.IntN.{pos, _+ℤ_, _-ℤ_, _*ℤ_}
 use mir.Syntax.{w64}
-use mir.Facts.{toZ-ofZ}
-use Rattle.rules_object.specs.Machine.{cell}
-use Prim.Native.Nat.{ℕ}
-use mir.Facts.{toZ-pos}
+use mir.Facts.{toZ-ofZ, toZ-pos}
+use Rattle.rules_object.specs.Machine.{cell, meant, ruleOf, placeOf}
 use Rattle.number.specs.Number.{value, keep, drops, apply, kept}
 use Rattle.rules_shared.specs.Choose.{positive, allPositive}
-use Rattle.rules_object.specs.Machine.{meant, ruleOf, placeOf}
 use Rattle.object.specs.Layout.{elementAt, loopAt, objectAt}
 use Rattle.operations.proofs.Known.{is-ceiling, two, small, con-in, con-is, con-whole, con-small, lod-in, sto-in, element-is, lde-in, ste-in, loop-is, doi-in, doe-in, br3-in, br3-whole, br3-is, brc-in, brc-whole, brc-is, rest-halts}
 use Rattle.arithmetic.specs.Performed.{performed, pushed, popped, joined, loaded, put, branched, begun, ended}

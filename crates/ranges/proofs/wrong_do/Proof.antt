@@ -1,10 +1,9 @@
 -- `ranges::wrong_do` meets its contract. Assumes nothing.
 use mathlib.Core.Path.{_≡_, sym, ap, _∙_}
-use Prim.Native.Nat.{ℕ, suc, _-_, _≤_}
+use Prim.Native.Nat.{ℕ, suc, _-_, _≤_, _+_}
 use native.Mathlib.Omega.{arith}
 use native.Mathlib.Numerals.{add-one}
 use borrow.Author.Tests.{not-true, not-false}
-use Prim.Native.Nat.{_+_}
 use mathlib.Core.Option.{some}
 use Rattle.numbers.specs.Rows.{firstFrom, foundOf}
 use Rattle.numbers.proofs.Tests.{first-starts, first-more, first-stops, first-ends}
