@@ -40,7 +40,7 @@ meaningRead k (read deck) env n = some (meaning (record { digits = k }) deck env
 unfoldable pub meaningOf : ℕ → List ℕ → Values → ℕ → Option (Outcome Cause Standing)
 meaningOf k bytes env n = meaningRead k (deckOf k bytes) env n
 
--- by which halt a run tells it
+-- the halt by which a run tells a cause
 abbrev pub haltOf : Cause → Halt
 haltOf stopReached = atStop
 haltOf endReached = atEnd
@@ -49,7 +49,7 @@ haltOf wrongSubscript = badSubscript
 haltOf wrongExit = badExit
 haltOf wrongParameter = badParameter
 
--- how many steps of a run these statements take
+-- how many steps of a run the statements that the meaning goes through take
 unfoldable pub deckSteps : ℕ → List ℕ → Values → ℕ → ℕ
 deckSteps k bytes env n = meaningSteps (record { digits = k }) (statementsOf (deckOf k bytes)) n (begin env)
 
