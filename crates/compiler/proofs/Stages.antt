@@ -35,7 +35,8 @@ use Rattle.draft.proofs.DeckKept.{kept-deck}
 use Rattle.drafting.specs.declared.Drafted.{Drafted}
 use Rattle.drafting.specs.Drafted.{Drafts, refused, kept}
 use Rattle.whole.specs.declared.Verdict.{Verdict}
-use Rattle.whole.specs.Whole.{SetsTold, refusalOf}
+use Rattle.whole.specs.Whole.{SetsTold, refusalOf, Numbered}
+use Rattle.whole.proofs.Punched.{numbered}
 use Rattle.writer.specs.declared.Wrote.{Wrote}
 use Rattle.finish.specs.Finishing.{Finished}
 use Rattle.compiler.specs.declared.Compiled.the-variants.{Refused, Object, Short}
@@ -72,6 +73,9 @@ sets-told deck h =
 module _ {k : ℕ} {deck : List Statement} {n : Counts} {names constants elements dos loops code rows jumps : List ℕ} (h : Holds k deck n names constants elements dos loops code rows jumps) where
   pub told : Each SetsTold deck
   told = sets-told deck (subst (λ l. Each Told (namesHeld l)) (draft-held deck) (h .kept .held .told))
+
+  pub low : All Numbered deck
+  low = numbered k (h .bytes) deck (h .is)
 
   pub whole-refused : {after : List ℕ} {number : ℕ} {place : Sequence} (output : List ℕ) (v : Verdict) → whole.Judged deck after (n .jumps) v → v ≡ verdict.Refused number place
       → answer (Refused number (place .0)) output ≡ writeRead k output (judgeRead (read deck))

@@ -1,4 +1,5 @@
 pub mod Tests
 pub mod Ends
-pub mod Placing
-pub mod Settling
+pub mod Own
+pub mod Starts
+pub mod Resolving

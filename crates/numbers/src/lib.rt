@@ -1,51 +1,36 @@
-// 20 to 22 on the rows of a deck's statements; numbers that are jumped to become positions.
+// 20 to 22 on what was kept of a deck's statements; the numbers that are jumped to become places.
 ghost use mathlib.Core.Path.{_≡_};
-ghost use Prim.Native.Nat.{_+_, _*_, suc, _≤_, _<_};
+ghost use Prim.Native.Nat.{suc, _*_, _≤_, _<_};
 ghost use lib.ListN.{length};
-ghost use Rattle.numbers.specs.Rows.{firstFrom, foundOf, startOf, positionIn, endRight, lastEnds, misplacedEnd, numberRight, Placed, Settled};
+ghost use Rattle.tables.specs.Rows.{startOf};
+ghost use Rattle.numbers.specs.Numbers.{firstFrom, foundOf, placeOf, endRight, lastEnds, misplacedEnd, ownRight, numberRight, past, Resolves};
+use cards::Number;
+use cards::Sequence;
 
-// A place, from 1 on; 0 for a deck of no statement.
 pub enum Found {
     Nothing,
-    At(usize),
+    // A statement; 0 for a deck of no statement.
+    At(Sequence),
 }
 
 const END: u64 = 7;
 
 const DIMENSION: u64 = 8;
 
-pub fn wide(w: u32) -> u64
-    ensures { λ r. ⌜ r ≡ w ⌝ }
-{
-    w as u64
-}
-
-pub fn size(w: u64) -> usize
-    ensures { λ r. ⌜ r ≡ w ⌝ }
-{
-    w as usize
-}
-
-fn narrow(position: usize) -> u32
-    requires { ⌜ position < 400 ⌝ }
-    ensures { λ r. ⌜ r ≡ position ⌝ }
-{
-    position as u32
-}
-
-// The first statement with this number, or `count`.
-fn position_of(rows: &[u64], count: usize, number: u64) -> usize
-    requires { ⌜ 5 * count ≤ length (now rows) ⌝ }
-    ensures { λ r. ⌜ (r ≡ positionIn (now (rows .entry)) count number) × (r ≤ count) ⌝ }
+// The first statement with this number.
+fn place_of(numbers: [Number; 400], count: usize, number: Number) -> Found
+    requires { ⌜ count ≤ 400 ⌝ }
+    ensures { λ r. ⌜ foundOf r ≡ placeOf numbers count (number .0) ⌝ }
 {
     let mut q: usize = 0;
     while q < count {
-        if rows[5 * q] == number {
-            return q;
+        let here = numbers[q];
+        if here.0 == number.0 {
+            return Found::At(tables::sequence_of(q));
         }
         q += 1;
     }
-    count
+    Found::Nothing
 }
 
 // ---- 20
@@ -54,17 +39,17 @@ fn end_right(rows: &[u64], count: usize, q: usize) -> bool
     requires { ⌜ (5 * count ≤ length (now rows)) × (q < count) ⌝ }
     ensures { λ r. ⌜ r ≡ endRight (now (rows .entry)) count q ⌝ }
 {
-    !(rows[5 * q + 1] == END) | (q + 1 == count)
+    !(tables::kind_of(rows, q) == END) | (q + 1 == count)
 }
 
 fn first_early_end(rows: &[u64], count: usize) -> Found
-    requires { ⌜ 5 * count ≤ length (now rows) ⌝ }
+    requires { ⌜ (5 * count ≤ length (now rows)) × (count ≤ 400) ⌝ }
     ensures { λ r. ⌜ foundOf r ≡ firstFrom (endRight (now (rows .entry)) count) suc count 0 ⌝ }
 {
     let mut q: usize = 0;
     while q < count {
         if !end_right(rows, count, q) {
-            return Found::At(q + 1);
+            return Found::At(tables::sequence_of(q));
         }
         q += 1;
     }
@@ -78,12 +63,12 @@ fn last_ends(rows: &[u64], count: usize) -> bool
     if count == 0 {
         return false;
     }
-    rows[5 * (count - 1) + 1] == END
+    tables::kind_of(rows, count - 1) == END
 }
 
 // The first early END, else the last statement.
 pub fn misplaced_end(rows: &[u64], count: usize) -> Found
-    requires { ⌜ 5 * count ≤ length (now rows) ⌝ }
+    requires { ⌜ (5 * count ≤ length (now rows)) × (count ≤ 400) ⌝ }
     ensures { λ r. ⌜ foundOf r ≡ misplacedEnd (now (rows .entry)) count ⌝ }
 {
     let early = first_early_end(rows, count);
@@ -93,32 +78,36 @@ pub fn misplaced_end(rows: &[u64], count: usize) -> Found
             if last_ends(rows, count) {
                 return Found::Nothing;
             }
-            Found::At(count)
+            Found::At(Sequence(count as u32))
         }
     }
 }
 
 // ---- 21
 
-// Its own is the first with its number.
-fn number_right(rows: &[u64], count: usize, q: usize) -> bool
-    requires { ⌜ (5 * count ≤ length (now rows)) × (q < count) ⌝ }
-    ensures { λ r. ⌜ r ≡ numberRight (now (rows .entry)) count q ⌝ }
+// Of a numbered statement: it is the first with its number, and of a kind that may have one.
+fn own_right(first: Found, here: Sequence, kind: u64) -> bool
+    ensures { λ r. ⌜ r ≡ ownRight (foundOf first) (here .0) kind ⌝ }
 {
-    let number = rows[5 * q];
-    let kind = rows[5 * q + 1];
-    let first = position_of(rows, count, number);
-    (number == 0) | ((first == q) & (!(kind == DIMENSION) & !(kind == END)))
+    match first {
+        Found::Nothing => false,
+        Found::At(place) => (place.0 == here.0) & (!(kind == DIMENSION) & !(kind == END)),
+    }
 }
 
-pub fn misnumbered(rows: &[u64], count: usize) -> Found
-    requires { ⌜ 5 * count ≤ length (now rows) ⌝ }
-    ensures { λ r. ⌜ foundOf r ≡ firstFrom (numberRight (now (rows .entry)) count) suc count 0 ⌝ }
+pub fn misnumbered(rows: &[u64], numbers: [Number; 400], count: usize) -> Found
+    requires { ⌜ (5 * count ≤ length (now rows)) × (count ≤ 400) ⌝ }
+    ensures { λ r. ⌜ foundOf r ≡ firstFrom (numberRight (now (rows .entry)) numbers count) suc count 0 ⌝ }
 {
     let mut q: usize = 0;
     while q < count {
-        if !number_right(rows, count, q) {
-            return Found::At(q + 1);
+        let number = numbers[q];
+        if number.0 != 0 {
+            let here = tables::sequence_of(q);
+            let first = place_of(numbers, count, number);
+            if !own_right(first, here, tables::kind_of(rows, q)) {
+                return Found::At(here);
+            }
         }
         q += 1;
     }
@@ -127,38 +116,54 @@ pub fn misnumbered(rows: &[u64], count: usize) -> Found
 
 // ---- 22
 
-// Turns the numbers from `from` up to `end` into positions, as far as they are known.
-fn place_jumps(rows: &[u64], count: usize, jumps: &mut [u32], from: usize, end: usize) -> bool
-    requires { ⌜ (5 * count ≤ length (now rows)) × (count ≤ 400) ⌝ }
-    requires { ⌜ (from ≤ end) × (end ≤ length (now jumps)) ⌝ }
-    ensures { λ r. ⌜ Placed (now (rows .entry)) count (now (jumps .entry)) (now (jumps .exit)) from end r ⌝ }
-{
-    let mut k = from;
-    while k < end {
-        let position = position_of(rows, count, wide(jumps[k]));
-        if position == count {
-            return false;
-        }
-        jumps[k] = narrow(position);
-        k += 1;
-    }
-    true
+// The statement of each number that is jumped to, up to the first that no statement has.
+pub struct Resolved {
+    pub places: [Sequence; 1424],
+    pub known: usize,
 }
 
-// The first statement that uses a number which no statement has.
-pub fn place_all(rows: &[u64], count: usize, jumps: &mut [u32]) -> Found
-    requires { ⌜ (5 * count ≤ length (now rows)) × (count ≤ 400) ⌝ }
-    requires { ⌜ startOf (now rows) count ≤ length (now jumps) ⌝ }
-    ensures { λ r. ⌜ Settled (now (rows .entry)) count (now (jumps .entry)) (now (jumps .exit)) r ⌝ }
+// The only way from a number to a place.
+pub fn resolve(numbers: [Number; 400], count: usize, jumps: [Number; 1424], many: usize) -> Resolved
+    requires { ⌜ (count ≤ 400) × (many ≤ 1424) ⌝ }
+    ensures { λ r. ⌜ Resolves numbers count jumps many r ⌝ }
 {
-    let mut q: usize = 0;
-    let mut at: usize = 0;
-    while q < count {
-        let end = at + size(rows[5 * q + 4]);
-        if !place_jumps(rows, count, jumps, at, end) {
-            return Found::At(q + 1);
+    let mut places = [Sequence(0); 1424];
+    let mut k: usize = 0;
+    while k < many {
+        let number = jumps[k];
+        let found = place_of(numbers, count, number);
+        match found {
+            Found::Nothing => {
+                return Resolved {
+                    places: places,
+                    known: k,
+                };
+            }
+            Found::At(place) => {
+                places[k] = place;
+            }
         }
-        at = end;
+        k += 1;
+    }
+    Resolved {
+        places: places,
+        known: many,
+    }
+}
+
+// The statement that has the jump at this index.
+pub fn user_of(rows: &[u64], count: usize, k: usize) -> Found
+    requires { ⌜ (5 * count ≤ length (now rows)) × (count ≤ 400) ⌝ }
+    requires { ⌜ startOf (now rows) count ≤ 1424 ⌝ }
+    ensures { λ r. ⌜ foundOf r ≡ firstFrom (past (now (rows .entry)) k) suc count 0 ⌝ }
+{
+    let mut end: usize = 0;
+    let mut q: usize = 0;
+    while q < count {
+        end += tables::jumps_of(rows, q);
+        if k < end {
+            return Found::At(tables::sequence_of(q));
+        }
         q += 1;
     }
     Found::Nothing

@@ -4,7 +4,7 @@ use mathlib.Core.Path.{_≡_, refl}
 use Prim.Native.Nat.{ℕ, _+_, _-_, _<_, _≤_}
 use native.Mathlib.Omega.{arith}
 use mathlib.Core.Bool.{Bool, true, false, cond}
-use Rattle.numbers.specs.Rows.{countFrom}
+use Rattle.numbers.specs.Numbers.{countFrom}
 use Rattle.numbers.proofs.Tests.{all-left, count-more, count-skips, count-ends}
 
 module _ (test : ℕ → Bool) (n : ℕ) where

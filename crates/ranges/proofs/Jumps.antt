@@ -1,22 +1,29 @@
 -- A statement's jumps from where they start.
 -- Assumes nothing.
 use mathlib.Core.Path.{_≡_}
-use Prim.Native.Nat.{ℕ, _+_, _-_}
-use native.Mathlib.Numerals.{add-one}
+use Prim.Native.Nat.{ℕ, suc, _+_, _-_, _≤_}
 use native.Mathlib.Omega.{arith}
-use mathlib.Core.Bool.{Bool, _||_}
+use mathlib.Core.Bool.{Bool, true, false, cond}
 use mathlib.Core.List.{List}
 use lib.Dec.{eqb}
-use Rattle.numbers.specs.Rows.{allFrom, kindAt, jumpsAt, startOf}
-use Rattle.ranges.specs.Ranges.{jumpStays, jumpsRight}
+use Rattle.cards.specs.declared.Sequence.{Sequence}
+use Rattle.tables.specs.declared.Loops.{Loops}
+use Rattle.tables.specs.Rows.{kindAt, jumpsAt, startOf}
+use Rattle.numbers.specs.Numbers.{allFrom}
+use Rattle.ranges.specs.Ranges.{jumpStays, exitsAt, jumpsRight}
 
-pub start-on : (rows : List ℕ) (q at size : ℕ) → at ≡ startOf rows q → size ≡ jumpsAt rows q → at + size ≡ startOf rows (q + 1)
-start-on rows q at size a s = rw (add-one q, a, s)
+pub exits-few : (rows : List ℕ) (q : ℕ) → exitsAt rows q ≤ jumpsAt rows q
+unfolding exitsAt
+exits-few rows q = by (eqb (kindAt rows q) 4)
+  where
+    by : (b : Bool) → cond b 0 (jumpsAt rows q) ≤ jumpsAt rows q
+    by true = omega arith
+    by false = omega arith
 
-module _ (rows loops : List ℕ) (dos : ℕ) (jumps : List ℕ) (q : ℕ) where
-  pub jumps-told : (at size : ℕ) (stay : Bool) → at ≡ startOf rows q → size ≡ jumpsAt rows q → stay ≡ allFrom (jumpStays loops dos jumps q) ((at + size) - at) at
-      → (eqb (kindAt rows q) 4 || stay) ≡ jumpsRight rows loops dos jumps q
+module _ (rows : List ℕ) (loops : Loops) (places : List Sequence) (q : ℕ) where
+  pub jumps-told : (at size here : ℕ) → at ≡ startOf rows q → size ≡ exitsAt rows q → here ≡ suc q
+      → allFrom (jumpStays loops places here) ((at + size) - at) at ≡ jumpsRight rows loops places q
   unfolding jumpsRight
-  jumps-told at size stay a s e =
-      let m : (at + size) - at ≡ jumpsAt rows q = omega arith in
-      rw (e, m, a)
+  jumps-told at size here a s h =
+      let m : (at + size) - at ≡ exitsAt rows q = omega arith in
+      rw (m, a, h)

@@ -1,38 +1,38 @@
--- DOs and their ranges in the tables: two words a DO, its position and where the position of its last statement stands in the jumps.
+-- DOs and their ranges, by sequence numbers.
 -- Assumes nothing.
-use Prim.Native.Nat.{ℕ, suc, _+_, _*_, _≤_, _<_}
-use mathlib.Core.Bool.{Bool, _&&_, _||_, not}
+use Prim.Native.Nat.{ℕ, suc, _-_, _*_, _≤_, _<_}
+use mathlib.Core.Bool.{Bool, _&&_, _||_, not, cond}
 use mathlib.Core.List.{List}
 use lib.Dec.{eqb, ltb, leb}
-use lib.ListN.{length, getD}
+use lib.ListN.{length}
 use Rattle.rules_shared.specs.Limits.{limits}
-use Rattle.numbers.specs.Rows.{allFrom, countFrom, kindAt, setAt, jumpsAt, startOf}
+use Rattle.cards.specs.declared.Sequence.{Sequence}
+use Rattle.tables.specs.declared.Loops.{Loops}
+use Rattle.tables.specs.Rows.{kindAt, setAt, jumpsAt, startOf}
+use Rattle.tables.specs.Tables.{placeIn}
+use Rattle.numbers.specs.Numbers.{allFrom, countFrom}
 
-abbrev pub doAt : List ℕ → ℕ → ℕ
-doAt loops i = getD loops (2 * i) 0
+abbrev pub doAt : Loops → ℕ → ℕ
+doAt loops i = placeIn (loops .at) i
 
--- where its last statement's position stands
-abbrev pub lastIndex : List ℕ → ℕ → ℕ
-lastIndex loops i = getD loops (2 * i + 1) 0
-
-abbrev pub lastAt : List ℕ → List ℕ → ℕ → ℕ
-lastAt loops jumps i = getD jumps (lastIndex loops i) 0
+abbrev pub lastAt : Loops → ℕ → ℕ
+lastAt loops i = placeIn (loops .last) i
 
 -- reading stays inside the tables
-pub record Inside (loops : List ℕ) (dos : ℕ) (jumps : List ℕ) : Type 0 where
-  pub long : 2 * dos ≤ length loops
-  pub last : (i : ℕ) → i < dos → lastIndex loops i < length jumps
-
-pub record Ranged (rows : List ℕ) (count : ℕ) (loops : List ℕ) (dos : ℕ) (jumps : List ℕ) : Type 0 where
-  pub inside : Inside loops dos jumps
+pub record Ranged (rows : List ℕ) (count : ℕ) (loops : Loops) : Type 0 where
+  pub few : count ≤ limits .statements
+  pub few-dos : loops .count ≤ limits .dos
   pub rows-long : 5 * count ≤ length rows
-  pub starts : (i : ℕ) → i < dos → doAt loops i < count
-  pub ends : (i : ℕ) → i < dos → lastAt loops jumps i < count
-  pub jumps-long : startOf rows count ≤ length jumps
+  pub from-one : (i : ℕ) → i < loops .count → (1 ≤ doAt loops i) × (1 ≤ lastAt loops i)
+  pub to-last : (i : ℕ) → i < loops .count → (doAt loops i ≤ count) × (lastAt loops i ≤ count)
+  pub few-jumps : startOf rows count ≤ 1424
 
--- the range of DO i holds position j
-unfoldable pub covers : List ℕ → List ℕ → ℕ → ℕ → Bool
-covers loops jumps j i = ltb (doAt loops i) j && leb j (lastAt loops jumps i)
+-- the range of a DO at `first` holds the statement at `at`
+unfoldable pub covering : ℕ → ℕ → ℕ → Bool
+covering first last at = ltb first at && leb at last
+
+unfoldable pub covers : Loops → ℕ → ℕ → Bool
+covers loops at i = covering (doAt loops i) (lastAt loops i) at
 
 -- ---- 23
 
@@ -40,37 +40,43 @@ covers loops jumps j i = ltb (doAt loops i) j && leb j (lastAt loops jumps i)
 unfoldable pub mayEndKind : ℕ → Bool
 mayEndKind kind = eqb kind 0 || (eqb kind 5 || (eqb kind 7 || eqb kind 8))
 
--- DO i does not cross the outer one
-unfoldable pub apart : List ℕ → List ℕ → ℕ → ℕ → Bool
-apart loops jumps i outer = not (covers loops jumps (doAt loops i) outer && ltb (lastAt loops jumps outer) (lastAt loops jumps i))
+-- a DO does not cross an outer one
+unfoldable pub uncrossed : ℕ → ℕ → ℕ → ℕ → Bool
+uncrossed first last outer end = not (covering outer end first && ltb end last)
 
-unfoldable pub doRight : List ℕ → List ℕ → ℕ → List ℕ → ℕ → Bool
-doRight rows loops dos jumps i =
-    ltb (doAt loops i) (lastAt loops jumps i) && (mayEndKind (kindAt rows (lastAt loops jumps i)) &&
-    (allFrom (apart loops jumps i) dos 0 && ltb (countFrom (covers loops jumps (doAt loops i)) dos 0) (limits .nesting)))
+unfoldable pub apart : Loops → ℕ → ℕ → ℕ → Bool
+apart loops first last i = uncrossed first last (doAt loops i) (lastAt loops i)
 
-abbrev pub doPlace : List ℕ → ℕ → ℕ
-doPlace loops i = suc (doAt loops i)
+unfoldable pub doRight : List ℕ → Loops → ℕ → Bool
+doRight rows loops i =
+    ltb (doAt loops i) (lastAt loops i) && (mayEndKind (kindAt rows (lastAt loops i - 1)) &&
+    (allFrom (apart loops (doAt loops i) (lastAt loops i)) (loops .count) 0 && ltb (countFrom (covers loops (doAt loops i)) (loops .count) 0) (limits .nesting)))
 
 -- ---- 24
 
--- a jump from q to the target does not go into the range of DO i from outside
-unfoldable pub staysOut : List ℕ → List ℕ → ℕ → ℕ → ℕ → Bool
-staysOut loops jumps q target i = not (covers loops jumps target i) || covers loops jumps q i
+-- a jump does not go into a DO's range from outside
+unfoldable pub outside : ℕ → ℕ → ℕ → ℕ → Bool
+outside first last from target = not (covering first last target) || covering first last from
+
+unfoldable pub staysOut : Loops → ℕ → ℕ → ℕ → Bool
+staysOut loops from target i = outside (doAt loops i) (lastAt loops i) from target
 
 -- of the jump at k
-unfoldable pub jumpStays : List ℕ → ℕ → List ℕ → ℕ → ℕ → Bool
-jumpStays loops dos jumps q k = allFrom (staysOut loops jumps q (getD jumps k 0)) dos 0
+unfoldable pub jumpStays : Loops → List Sequence → ℕ → ℕ → Bool
+jumpStays loops places from k = allFrom (staysOut loops from (placeIn places k)) (loops .count) 0
 
 -- a DO, kind 4, has its last statement there and no jump
-unfoldable pub jumpsRight : List ℕ → List ℕ → ℕ → List ℕ → ℕ → Bool
-jumpsRight rows loops dos jumps q = eqb (kindAt rows q) 4 || allFrom (jumpStays loops dos jumps q) (jumpsAt rows q) (startOf rows q)
+unfoldable pub exitsAt : List ℕ → ℕ → ℕ
+exitsAt rows q = cond (eqb (kindAt rows q) 4) 0 (jumpsAt rows q)
+
+unfoldable pub jumpsRight : List ℕ → Loops → List Sequence → ℕ → Bool
+jumpsRight rows loops places q = allFrom (jumpStays loops places (suc q)) (exitsAt rows q) (startOf rows q)
 
 -- ---- 25
 
--- what q sets is not the variable of a DO i around it
-unfoldable pub leaves : List ℕ → List ℕ → List ℕ → ℕ → ℕ → Bool
-leaves rows loops jumps q i = not (covers loops jumps q i && eqb (setAt rows (doAt loops i)) (setAt rows q))
+-- what is set at a place is not the variable of a DO around it
+unfoldable pub leaves : List ℕ → ℕ → ℕ → ℕ → Bool
+leaves rows first last at = not (covering first last at && eqb (setAt rows (first - 1)) (setAt rows (at - 1)))
 
-unfoldable pub setRight : List ℕ → List ℕ → ℕ → List ℕ → ℕ → Bool
-setRight rows loops dos jumps q = allFrom (leaves rows loops jumps q) dos 0
+unfoldable pub setRight : List ℕ → Loops → ℕ → Bool
+setRight rows loops at = allFrom (λ i. leaves rows (doAt loops i) (lastAt loops i) at) (loops .count) 0

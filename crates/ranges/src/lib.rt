@@ -1,43 +1,23 @@
-// 23 to 25 on what was kept of a deck's statements; jumps are positions by now.
+// 23 to 25 on what was kept of a deck's statements, by places.
 ghost use mathlib.Core.Path.{_≡_};
 ghost use mathlib.Core.Bool.{cond};
-ghost use Prim.Native.Nat.{suc, _+_, _-_, _*_, _≤_, _<_};
+ghost use Prim.Native.Nat.{suc, _+_, _*_, _≤_, _<_};
 ghost use lib.ListN.{length};
-ghost use Rattle.numbers.specs.Rows.{allFrom, countFrom, firstFrom, foundOf};
-ghost use Rattle.ranges.specs.Ranges.{doAt, lastAt, Inside, Ranged, covers, mayEndKind, apart, doRight, doPlace, staysOut, jumpStays, jumpsRight, leaves, setRight};
+ghost use Rattle.numbers.specs.Numbers.{allFrom, countFrom, firstFrom, foundOf};
+ghost use Rattle.ranges.specs.Ranges.{doAt, lastAt, Ranged, covering, covers, mayEndKind, uncrossed, apart, doRight, exitsAt, outside, staysOut, jumpsRight, leaves, setRight};
+use cards::Sequence;
 use numbers::Found;
+use tables::Loops;
 
 const NESTING: usize = 8;
 
 const DO: u64 = 4;
 
-fn index(w: u32) -> usize
-    ensures { λ r. ⌜ r ≡ w ⌝ }
+// Whether a DO's range holds a statement: after the DO, through its last statement.
+fn in_range(first: Sequence, last: Sequence, at: Sequence) -> bool
+    ensures { λ r. ⌜ r ≡ covering (first .0) (last .0) (at .0) ⌝ }
 {
-    w as usize
-}
-
-fn do_at(loops: &[u32], i: usize) -> usize
-    requires { ⌜ 2 * i < length (now loops) ⌝ }
-    ensures { λ r. ⌜ r ≡ doAt (now (loops .entry)) i ⌝ }
-{
-    index(loops[2 * i])
-}
-
-fn last_at(loops: &[u32], dos: usize, jumps: &[u32], i: usize) -> usize
-    requires { ⌜ Inside (now loops) dos (now jumps) × (i < dos) ⌝ }
-    ensures { λ r. ⌜ r ≡ lastAt (now (loops .entry)) (now (jumps .entry)) i ⌝ }
-{
-    let at = index(loops[2 * i + 1]);
-    index(jumps[at])
-}
-
-// Whether the range of DO `i` holds position `j`: after the DO, through its last statement.
-fn in_range(loops: &[u32], dos: usize, jumps: &[u32], j: usize, i: usize) -> bool
-    requires { ⌜ Inside (now loops) dos (now jumps) × (i < dos) ⌝ }
-    ensures { λ r. ⌜ r ≡ covers (now (loops .entry)) (now (jumps .entry)) j i ⌝ }
-{
-    (do_at(loops, i) < j) & (j <= last_at(loops, dos, jumps, i))
+    (first.0 < at.0) & (at.0 <= last.0)
 }
 
 // ---- 23
@@ -48,22 +28,23 @@ fn may_end(kind: u64) -> bool
     (kind == 0) | ((kind == 5) | ((kind == 7) | (kind == 8)))
 }
 
-// An outer DO around DO `i` does not end before it.
-fn is_apart(loops: &[u32], dos: usize, jumps: &[u32], i: usize, outer: usize) -> bool
-    requires { ⌜ Inside (now loops) dos (now jumps) × ((i < dos) × (outer < dos)) ⌝ }
-    ensures { λ r. ⌜ r ≡ apart (now (loops .entry)) (now (jumps .entry)) i outer ⌝ }
+// An outer DO around a DO does not end before it.
+fn is_apart(first: Sequence, last: Sequence, outer: Sequence, end: Sequence) -> bool
+    ensures { λ r. ⌜ r ≡ uncrossed (first .0) (last .0) (outer .0) (end .0) ⌝ }
 {
-    let around = in_range(loops, dos, jumps, do_at(loops, i), outer);
-    !(around & (last_at(loops, dos, jumps, outer) < last_at(loops, dos, jumps, i)))
+    !(in_range(outer, end, first) & (end.0 < last.0))
 }
 
-fn crosses_none(loops: &[u32], dos: usize, jumps: &[u32], i: usize) -> bool
-    requires { ⌜ Inside (now loops) dos (now jumps) × (i < dos) ⌝ }
-    ensures { λ r. ⌜ r ≡ allFrom (apart (now (loops .entry)) (now (jumps .entry)) i) dos 0 ⌝ }
+fn crosses_none(loops: Loops, first: Sequence, last: Sequence) -> bool
+    requires { ⌜ loops .count ≤ 64 ⌝ }
+    ensures { λ r. ⌜ r ≡ allFrom (apart loops (first .0) (last .0)) (loops .count) 0 ⌝ }
 {
+    let dos = loops.count;
     let mut k: usize = 0;
     while k < dos {
-        if !is_apart(loops, dos, jumps, i, k) {
+        let outer = loops.at[k];
+        let end = loops.last[k];
+        if !is_apart(first, last, outer, end) {
             return false;
         }
         k += 1;
@@ -80,41 +61,46 @@ fn one_if(b: bool) -> usize
     0
 }
 
-// In how many ranges position `j` stands.
-fn depth_at(loops: &[u32], dos: usize, jumps: &[u32], j: usize) -> usize
-    requires { ⌜ Inside (now loops) dos (now jumps) ⌝ }
-    ensures { λ r. ⌜ r ≡ countFrom (covers (now (loops .entry)) (now (jumps .entry)) j) dos 0 ⌝ }
+// In how many ranges a statement stands.
+fn depth_at(loops: Loops, at: Sequence) -> usize
+    requires { ⌜ loops .count ≤ 64 ⌝ }
+    ensures { λ r. ⌜ r ≡ countFrom (covers loops (at .0)) (loops .count) 0 ⌝ }
 {
+    let dos = loops.count;
     let mut deep: usize = 0;
     let mut k: usize = 0;
     while k < dos {
-        deep += one_if(in_range(loops, dos, jumps, j, k));
+        let first = loops.at[k];
+        let last = loops.last[k];
+        deep += one_if(in_range(first, last, at));
         k += 1;
     }
     deep
 }
 
-fn do_right(rows: &[u64], count: usize, loops: &[u32], dos: usize, jumps: &[u32], i: usize) -> bool
-    requires { ⌜ Ranged (now rows) count (now loops) dos (now jumps) × (i < dos) ⌝ }
-    ensures { λ r. ⌜ r ≡ doRight (now (rows .entry)) (now (loops .entry)) dos (now (jumps .entry)) i ⌝ }
+fn do_right(rows: &[u64], count: usize, loops: Loops, i: usize) -> bool
+    requires { ⌜ Ranged (now rows) count loops × (i < loops .count) ⌝ }
+    ensures { λ r. ⌜ r ≡ doRight (now (rows .entry)) loops i ⌝ }
 {
-    let position = do_at(loops, i);
-    let last = last_at(loops, dos, jumps, i);
-    let ends = may_end(rows[5 * last + 1]);
-    let apart = crosses_none(loops, dos, jumps, i);
-    let deep = depth_at(loops, dos, jumps, position);
-    (position < last) & (ends & (apart & (deep < NESTING)))
+    let first = loops.at[i];
+    let last = loops.last[i];
+    let ends = may_end(tables::kind_of(rows, tables::position_of(last)));
+    let apart = crosses_none(loops, first, last);
+    let deep = depth_at(loops, first);
+    (first.0 < last.0) & (ends & (apart & (deep < NESTING)))
 }
 
 // The place is the DO.
-pub fn wrong_do(rows: &[u64], count: usize, loops: &[u32], dos: usize, jumps: &[u32]) -> Found
-    requires { ⌜ Ranged (now rows) count (now loops) dos (now jumps) ⌝ }
-    ensures { λ r. ⌜ foundOf r ≡ firstFrom (doRight (now (rows .entry)) (now (loops .entry)) dos (now (jumps .entry))) (doPlace (now (loops .entry))) dos 0 ⌝ }
+pub fn wrong_do(rows: &[u64], count: usize, loops: Loops) -> Found
+    requires { ⌜ Ranged (now rows) count loops ⌝ }
+    ensures { λ r. ⌜ foundOf r ≡ firstFrom (doRight (now (rows .entry)) loops) (doAt loops) (loops .count) 0 ⌝ }
 {
+    let dos = loops.count;
     let mut i: usize = 0;
     while i < dos {
-        if !do_right(rows, count, loops, dos, jumps, i) {
-            return Found::At(do_at(loops, i) + 1);
+        if !do_right(rows, count, loops, i) {
+            let first = loops.at[i];
+            return Found::At(first);
         }
         i += 1;
     }
@@ -123,21 +109,23 @@ pub fn wrong_do(rows: &[u64], count: usize, loops: &[u32], dos: usize, jumps: &[
 
 // ---- 24
 
-fn stays_out(loops: &[u32], dos: usize, jumps: &[u32], q: usize, target: usize, i: usize) -> bool
-    requires { ⌜ Inside (now loops) dos (now jumps) × (i < dos) ⌝ }
-    ensures { λ r. ⌜ r ≡ staysOut (now (loops .entry)) (now (jumps .entry)) q target i ⌝ }
+fn stays_out(first: Sequence, last: Sequence, from: Sequence, target: Sequence) -> bool
+    ensures { λ r. ⌜ r ≡ outside (first .0) (last .0) (from .0) (target .0) ⌝ }
 {
-    !in_range(loops, dos, jumps, target, i) | in_range(loops, dos, jumps, q, i)
+    !in_range(first, last, target) | in_range(first, last, from)
 }
 
-// A jump from `q` to the target goes into no range from outside.
-fn stays_out_of_all(loops: &[u32], dos: usize, jumps: &[u32], q: usize, target: usize) -> bool
-    requires { ⌜ Inside (now loops) dos (now jumps) ⌝ }
-    ensures { λ r. ⌜ r ≡ allFrom (staysOut (now (loops .entry)) (now (jumps .entry)) q target) dos 0 ⌝ }
+// A jump goes into no range from outside.
+fn stays_out_of_all(loops: Loops, from: Sequence, target: Sequence) -> bool
+    requires { ⌜ loops .count ≤ 64 ⌝ }
+    ensures { λ r. ⌜ r ≡ allFrom (staysOut loops (from .0) (target .0)) (loops .count) 0 ⌝ }
 {
+    let dos = loops.count;
     let mut i: usize = 0;
     while i < dos {
-        if !stays_out(loops, dos, jumps, q, target, i) {
+        let first = loops.at[i];
+        let last = loops.last[i];
+        if !stays_out(first, last, from, target) {
             return false;
         }
         i += 1;
@@ -145,35 +133,35 @@ fn stays_out_of_all(loops: &[u32], dos: usize, jumps: &[u32], q: usize, target: 
     true
 }
 
-fn jumps_stay(loops: &[u32], dos: usize, jumps: &[u32], q: usize, from: usize, end: usize) -> bool
-    requires { ⌜ Inside (now loops) dos (now jumps) ⌝ }
-    requires { ⌜ (from ≤ end) × (end ≤ length (now jumps)) ⌝ }
-    ensures { λ r. ⌜ r ≡ allFrom (jumpStays (now (loops .entry)) dos (now (jumps .entry)) q) (end - from) from ⌝ }
+// How many jumps a statement has to test: a DO has its last statement there and no jump.
+fn exits_of(rows: &[u64], q: usize) -> usize
+    requires { ⌜ 5 * q + 5 ≤ length (now rows) ⌝ }
+    ensures { λ r. ⌜ r ≡ exitsAt (now (rows .entry)) q ⌝ }
 {
-    let mut k = from;
-    while k < end {
-        let target = index(jumps[k]);
-        if !stays_out_of_all(loops, dos, jumps, q, target) {
-            return false;
-        }
-        k += 1;
+    if tables::kind_of(rows, q) == DO {
+        return 0;
     }
-    true
+    tables::jumps_of(rows, q)
 }
 
-pub fn wrong_jump(rows: &[u64], count: usize, loops: &[u32], dos: usize, jumps: &[u32]) -> Found
-    requires { ⌜ Ranged (now rows) count (now loops) dos (now jumps) ⌝ }
-    ensures { λ r. ⌜ foundOf r ≡ firstFrom (jumpsRight (now (rows .entry)) (now (loops .entry)) dos (now (jumps .entry))) suc count 0 ⌝ }
+pub fn wrong_jump(rows: &[u64], count: usize, loops: Loops, places: [Sequence; 1424]) -> Found
+    requires { ⌜ Ranged (now rows) count loops ⌝ }
+    ensures { λ r. ⌜ foundOf r ≡ firstFrom (jumpsRight (now (rows .entry)) loops places) suc count 0 ⌝ }
 {
-    let mut q: usize = 0;
     let mut at: usize = 0;
+    let mut q: usize = 0;
     while q < count {
-        let end = at + numbers::size(rows[5 * q + 4]);
-        let stay = jumps_stay(loops, dos, jumps, q, at, end);
-        if !((rows[5 * q + 1] == DO) | stay) {
-            return Found::At(q + 1);
+        let here = tables::sequence_of(q);
+        let end = at + exits_of(rows, q);
+        let mut k = at;
+        while k < end {
+            let target = places[k];
+            if !stays_out_of_all(loops, here, target) {
+                return Found::At(here);
+            }
+            k += 1;
         }
-        at = end;
+        at += tables::jumps_of(rows, q);
         q += 1;
     }
     Found::Nothing
@@ -181,31 +169,26 @@ pub fn wrong_jump(rows: &[u64], count: usize, loops: &[u32], dos: usize, jumps: 
 
 // ---- 25
 
-// What `q` sets is not the variable of DO `i` around it: its name is set in the DO's own row.
-fn leaves_be(
-    rows: &[u64],
-    count: usize,
-    loops: &[u32],
-    dos: usize,
-    jumps: &[u32],
-    q: usize,
-    i: usize,
-) -> bool
-    requires { ⌜ Ranged (now rows) count (now loops) dos (now jumps) × ((q < count) × (i < dos)) ⌝ }
-    ensures { λ r. ⌜ r ≡ leaves (now (rows .entry)) (now (loops .entry)) (now (jumps .entry)) q i ⌝ }
+// What is set at a place is not the variable of a DO around it: its name is set in the DO's own row.
+fn leaves_be(rows: &[u64], first: Sequence, last: Sequence, at: Sequence) -> bool
+    requires { ⌜ ((1 ≤ first .0) × (5 * first .0 ≤ length (now rows))) × ((1 ≤ at .0) × (5 * at .0 ≤ length (now rows))) ⌝ }
+    ensures { λ r. ⌜ r ≡ leaves (now (rows .entry)) (first .0) (last .0) (at .0) ⌝ }
 {
-    let position = do_at(loops, i);
-    let same = rows[5 * position + 2] == rows[5 * q + 2];
-    !(in_range(loops, dos, jumps, q, i) & same)
+    let own = tables::set_of(rows, tables::position_of(first));
+    let set = tables::set_of(rows, tables::position_of(at));
+    !(in_range(first, last, at) & (own == set))
 }
 
-fn set_right(rows: &[u64], count: usize, loops: &[u32], dos: usize, jumps: &[u32], q: usize) -> bool
-    requires { ⌜ Ranged (now rows) count (now loops) dos (now jumps) × (q < count) ⌝ }
-    ensures { λ r. ⌜ r ≡ setRight (now (rows .entry)) (now (loops .entry)) dos (now (jumps .entry)) q ⌝ }
+fn set_right(rows: &[u64], count: usize, loops: Loops, at: Sequence) -> bool
+    requires { ⌜ Ranged (now rows) count loops × ((1 ≤ at .0) × (at .0 ≤ count)) ⌝ }
+    ensures { λ r. ⌜ r ≡ setRight (now (rows .entry)) loops (at .0) ⌝ }
 {
+    let dos = loops.count;
     let mut i: usize = 0;
     while i < dos {
-        if !leaves_be(rows, count, loops, dos, jumps, q, i) {
+        let first = loops.at[i];
+        let last = loops.last[i];
+        if !leaves_be(rows, first, last, at) {
             return false;
         }
         i += 1;
@@ -213,14 +196,15 @@ fn set_right(rows: &[u64], count: usize, loops: &[u32], dos: usize, jumps: &[u32
     true
 }
 
-pub fn wrong_set(rows: &[u64], count: usize, loops: &[u32], dos: usize, jumps: &[u32]) -> Found
-    requires { ⌜ Ranged (now rows) count (now loops) dos (now jumps) ⌝ }
-    ensures { λ r. ⌜ foundOf r ≡ firstFrom (setRight (now (rows .entry)) (now (loops .entry)) dos (now (jumps .entry))) suc count 0 ⌝ }
+pub fn wrong_set(rows: &[u64], count: usize, loops: Loops) -> Found
+    requires { ⌜ Ranged (now rows) count loops ⌝ }
+    ensures { λ r. ⌜ foundOf r ≡ firstFrom (λ q. setRight (now (rows .entry)) loops (suc q)) suc count 0 ⌝ }
 {
     let mut q: usize = 0;
     while q < count {
-        if !set_right(rows, count, loops, dos, jumps, q) {
-            return Found::At(q + 1);
+        let here = tables::sequence_of(q);
+        if !set_right(rows, count, loops, here) {
+            return Found::At(here);
         }
         q += 1;
     }

@@ -1,22 +1,19 @@
 -- The book's tests of one statement or DO after the other, by index.
 -- Assumes nothing.
 use mathlib.Core.Path.{_≡_, refl, sym, ap, _∙_}
-use Prim.Native.Nat.{ℕ, zero, suc, _+_, _≤_, _<_}
-use native.Mathlib.Nat.{lt-of-not-le}
-use native.Mathlib.Decide.{decLe}
+use Prim.Native.Nat.{ℕ, suc, _+_, _<_}
 use native.Mathlib.Omega.{arith}
-use mathlib.Core.Bool.{Bool, true, false, cond}
+use mathlib.Core.Bool.{Bool, true, false, not, cond}
 use mathlib.Core.List.{List, [], _∷_, map}
-use mathlib.Core.Option.{none, some}
-use lib.Dec.{eqb}
+use mathlib.Core.Option.{Option, none, some}
+use lib.Dec.{eqb, ltb, leb·suc-suc}
 use lib.ListN.{length, getD}
+use borrow.Author.Tests.{lt-ltb}
 use Rattle.rules_shared.specs.Lists.{all}
 use Rattle.rules_deck.specs.Trees.{stop, Statement}
 use Rattle.rules_deck.specs.Deck.{positionOf, Do}
 use Rattle.rules_deck.specs.Whole.{firstWrong, inRange, depth, rightDo, firstWrongDo}
-use Rattle.rules_deck.proofs.CardsLaws.{and-both}
-use Rattle.rules_deck.proofs.TestLaws.{clash}
-use Rattle.numbers.specs.Rows.{allFrom, firstFrom, seek, countFrom}
+use Rattle.numbers.specs.Numbers.{allFrom, firstFrom, countFrom}
 
 -- what stands in for those outside a list
 abbrev pub noStatement : Statement
@@ -65,17 +62,26 @@ depth-by deck [] j whole i h = refl
 depth-by deck (d ∷ ds) j whole i h =
     rw (at-first (λ n e. whole n ≡ inRange deck e j) d ds noDo i h, depth-by deck ds j whole (suc i) (at-others (λ n e. whole n ≡ inRange deck e j) d ds noDo i h))
 
-pub position-by : (deck : List Statement) (n : ℕ) (whole : ℕ → Bool) (i : ℕ) → ((k : ℕ) → k < length deck → whole (i + k) ≡ eqb (getD deck k noStatement .number) n)
-    → seek whole (length deck) i ≡ i + positionOf deck n
-position-by [] n whole i h = let z : i ≡ i + 0 = omega arith in z
-position-by (s ∷ deck) n whole i h =
-    by (eqb (s .number) n) (at-first (λ m t. whole m ≡ eqb (t .number) n) s deck noStatement i h)
-    (position-by deck n whole (suc i) (at-others (λ m t. whole m ≡ eqb (t .number) n) s deck noStatement i h))
+-- the place of the first with number n
+abbrev pub placed : ℕ → ℕ → Option ℕ
+placed position count = cond (ltb position count) (some (suc position)) none
+
+pub place-by : (deck : List Statement) (n : ℕ) (whole : ℕ → Bool) (i : ℕ) → ((k : ℕ) → k < length deck → whole (i + k) ≡ not (eqb (getD deck k noStatement .number) n))
+    → firstFrom whole suc (length deck) i ≡ cond (ltb (positionOf deck n) (length deck)) (some (suc (i + positionOf deck n))) none
+place-by [] n whole i h = refl
+place-by (s ∷ deck) n whole i h =
+    by (eqb (s .number) n) (at-first (λ m t. whole m ≡ not (eqb (t .number) n)) s deck noStatement i h)
+    (place-by deck n whole (suc i) (at-others (λ m t. whole m ≡ not (eqb (t .number) n)) s deck noStatement i h))
   where
-    by : (b : Bool) → whole i ≡ b → seek whole (length deck) (suc i) ≡ suc i + positionOf deck n
-        → cond (whole i) i (seek whole (length deck) (suc i)) ≡ i + cond b 0 (suc (positionOf deck n))
-    by true e r = rw e (let z : i ≡ i + 0 = omega arith in z)
-    by false e r = rw e (let z : seek whole (length deck) (suc i) ≡ i + suc (positionOf deck n) = omega arith in z)
+    by : (b : Bool) → whole i ≡ not b → firstFrom whole suc (length deck) (suc i) ≡ cond (ltb (positionOf deck n) (length deck)) (some (suc (suc i + positionOf deck n))) none
+        → cond (whole i) (firstFrom whole suc (length deck) (suc i)) (some (suc i))
+        ≡ cond (ltb (cond b 0 (suc (positionOf deck n))) (suc (length deck))) (some (suc (i + cond b 0 (suc (positionOf deck n))))) none
+    by true e r =
+        let z : i + 0 ≡ i = omega arith in
+        rw (e, lt-ltb 0 (suc (length deck)) (omega arith), z)
+    by false e r =
+        let z : suc i + positionOf deck n ≡ i + suc (positionOf deck n) = omega arith in
+        rw e (r ∙ (rw (leb·suc-suc (suc (positionOf deck n)) (length deck), z)))
 
 pub all-map : {A B : Type 0} (test : B → Bool) (f : A → B) (l : List A) → all test (map f l) ≡ all (λ a. test (f a)) l
 all-map test f [] = refl
@@ -100,37 +106,7 @@ dos-zero deck ds whole place h p = dos-by deck ds whole place 0 (λ k g. ap whol
 pub depth-zero : (deck : List Statement) (ds : List Do) (j : ℕ) (whole : ℕ → Bool) → ((k : ℕ) → k < length ds → whole k ≡ inRange deck (getD ds k noDo) j) → depth deck ds j ≡ countFrom whole (length ds) 0
 depth-zero deck ds j whole h = depth-by deck ds j whole 0 (λ k g. ap whole (from-none k) ∙ h k g)
 
-pub position-zero : (deck : List Statement) (n : ℕ) (whole : ℕ → Bool) → ((k : ℕ) → k < length deck → whole k ≡ eqb (getD deck k noStatement .number) n) → seek whole (length deck) 0 ≡ positionOf deck n
-position-zero deck n whole h = position-by deck n whole 0 (λ k g. ap whole (from-none k) ∙ h k g) ∙ from-none (positionOf deck n)
-
--- ---- none fails: each passes
-
-pub each-passes : (test : ℕ → Bool) (place : ℕ → ℕ) (n i : ℕ) → firstFrom test place n i ≡ none → (k : ℕ) → i ≤ k → k < i + n → test k ≡ true
-each-passes test place zero i e k a b = absurd (omega arith)
-each-passes test place (suc n) i e k a b = by (test i) refl (each-passes test place n (suc i)) (decLe k i)
-  where
-    by : (t : Bool) → test i ≡ t → (firstFrom test place n (suc i) ≡ none → (j : ℕ) → suc i ≤ j → j < suc i + n → test j ≡ true) → Dec (k ≤ i) → test k ≡ true
-    by true q again (yes l) = let z : k ≡ i = omega arith in rw z q
-    by true q again (no l) = let g : i < k = lt-of-not-le l in again (rw q at e) k (omega arith) (omega arith)
-    by false q again l = absurd (clash (rw q at e))
-
-pub every-one : (test : ℕ → Bool) (n i : ℕ) → allFrom test n i ≡ true → (k : ℕ) → i ≤ k → k < i + n → test k ≡ true
-every-one test zero i e k a b = absurd (omega arith)
-every-one test (suc n) i e k a b = by (and-both (test i) (allFrom test n (suc i)) e) (every-one test n (suc i)) (decLe k i)
-  where
-    by : (test i ≡ true) × (allFrom test n (suc i) ≡ true) → (allFrom test n (suc i) ≡ true → (j : ℕ) → suc i ≤ j → j < suc i + n → test j ≡ true) → Dec (k ≤ i) → test k ≡ true
-    by h again (yes l) = let z : k ≡ i = omega arith in rw z (h .0)
-    by h again (no l) = let g : i < k = lt-of-not-le l in again (h .1) k (omega arith) (omega arith)
-
--- the place of the first of n from i on is at most the last's
-pub place-low : (test : ℕ → Bool) (place : ℕ → ℕ) (most n i : ℕ) → ((k : ℕ) → i ≤ k → k < i + n → place k ≤ most) → (p : ℕ) → firstFrom test place n i ≡ some p → p ≤ most
-place-low test place most zero i h p e = absurd (clash (sym e))
-place-low test place most (suc n) i h p e = by (test i) refl (place-low test place most n (suc i))
-  where
-    by : (t : Bool) → test i ≡ t → (((k : ℕ) → suc i ≤ k → k < suc i + n → place k ≤ most) → (r : ℕ) → firstFrom test place n (suc i) ≡ some r → r ≤ most) → p ≤ most
-    by true q again = again (λ k a b. h k (omega arith) (omega arith)) p (rw q at e)
-    by false q again =
-        let z : some (place i) ≡ some p = rw q at e in
-        let y : place i ≡ p = cc in
-        let l = h i (omega arith) (omega arith) in
-        omega arith
+pub place-zero : (deck : List Statement) (n : ℕ) (whole : ℕ → Bool) → ((k : ℕ) → k < length deck → whole k ≡ not (eqb (getD deck k noStatement .number) n))
+    → firstFrom whole suc (length deck) 0 ≡ placed (positionOf deck n) (length deck)
+place-zero deck n whole h =
+    place-by deck n whole 0 (λ k g. ap whole (from-none k) ∙ h k g) ∙ ap (λ (p : ℕ). cond (ltb (positionOf deck n) (length deck)) (some (suc p)) none) (from-none (positionOf deck n))

@@ -5,4 +5,5 @@ pub mod Numbers
 pub mod Ranges
 pub mod Answers
 pub mod Top
+pub mod Punched
 pub mod Drafted

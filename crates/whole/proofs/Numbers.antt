@@ -4,19 +4,23 @@ use mathlib.Core.Path.{_≡_, refl, sym, ap, _∙_}
 use Prim.Native.Nat.{ℕ, suc, _+_, _*_, _<_}
 use native.Mathlib.Numerals.{add-one}
 use native.Mathlib.Omega.{arith}
-use mathlib.Core.Bool.{Bool, _||_, not, cond}
+use mathlib.Core.Bool.{Bool, true, false, _&&_, _||_, not, cond}
 use mathlib.Core.List.{List, [], _∷_, _++_}
 use mathlib.Core.Option.{Option, none, some}
-use lib.Dec.{eqb, ltb}
+use lib.Dec.{eqb, ltb, eqb·suc-suc}
 use lib.ListN.{length, getD, take}
+use borrow.Author.Tests.{ltb-false, ne-eqb}
 use Rattle.rules_shared.specs.Refusals.{orElse}
 use Rattle.rules_deck.specs.Trees.{valueOf, Form, assign, goTo, computed, ifs, loop, continue, stop, end, dimension, Statement, formExits, formLast}
 use Rattle.rules_deck.specs.Deck.{positionOf}
 use Rattle.rules_deck.specs.Whole.{firstWrong, isEnd, endsWell, refused20, isDimension, right21, right22}
 use Rattle.draft.specs.Draft.{kindOf}
 use Rattle.draft.specs.Sketch.{deckRows, deckJumps}
-use Rattle.numbers.specs.Rows.{allFrom, firstFrom, numberAt, startOf, positionIn, endRight, lastEnds, misplacedEnd, numberRight, known, jumpsKnown}
-use Rattle.whole.proofs.ByIndex.{all-by, first-zero, position-zero, all-map}
+use Rattle.cards.specs.declared.Number.{Number}
+use Rattle.tables.specs.Rows.{startOf}
+use Rattle.tables.specs.Tables.{numberIn, Numbered}
+use Rattle.numbers.specs.Numbers.{allFrom, firstFrom, others, placeOf, endRight, lastEnds, misplacedEnd, ownRight, numberRight, found, known, jumpsKnown}
+use Rattle.whole.proofs.ByIndex.{placed, all-by, first-zero, place-zero, all-map}
 use Rattle.whole.proofs.Rows.{statementAt, jumpsOf, number-is, kind-is, many-is, jump-is, jump-inside}
 
 end-kind : (f : Form) → isEnd f ≡ eqb (kindOf f) 7
@@ -51,13 +55,26 @@ ends-is (s ∷ deck) rows count many are =
     let k = kind-is (s ∷ deck) rows count many are (length deck) (omega arith) in
     rw many (last-form s deck ∙ end-kind (statementAt (s ∷ deck) (length deck) .form) ∙ ap (λ (n : ℕ). eqb n 7) (sym k))
 
+-- the first with its number, by place and by position
+own-is : (position count q kind : ℕ) → q < count → ownRight (placed position count) (suc q) kind ≡ (eqb position q && (not (eqb kind 8) && not (eqb kind 7)))
+own-is position count q kind h = by (ltb position count) refl
+  where
+    by : (b : Bool) → ltb position count ≡ b → ownRight (cond b (some (suc position)) none) (suc q) kind ≡ (eqb position q && (not (eqb kind 8) && not (eqb kind 7)))
+    by true e = rw (eqb·suc-suc position q)
+    by false e =
+        let l = ltb-false position count e in
+        rw (ne-eqb position q (λ z. omega arith))
+
+found-is : (position count : ℕ) → found (placed position count) ≡ ltb position count
+found-is position count = by (ltb position count)
+  where
+    by : (b : Bool) → found (cond b (some (suc position)) none) ≡ b
+    by true = refl
+    by false = refl
+
 module _ (deck : List Statement) (rows : List ℕ) (count : ℕ) (many : count ≡ length deck) (are : take (5 * count) rows ≡ deckRows deck) where
   inside : (q : ℕ) → q < length deck → q < count
   inside q h = omega arith
-
-  pub position-is : (n : ℕ) → positionIn rows count n ≡ positionOf deck n
-  unfolding positionIn
-  position-is n = rw many (position-zero deck n (λ q. eqb (numberAt rows q) n) (λ q h. ap (λ (m : ℕ). eqb m n) (number-is deck rows count many are q (inside q h))))
 
   -- 20
   end-is : (q : ℕ) → q < length deck → endRight rows count q ≡ (not (isEnd (statementAt deck q .form)) || eqb (suc q) (length deck))
@@ -71,39 +88,48 @@ module _ (deck : List Statement) (rows : List ℕ) (count : ℕ) (many : count �
       let e = ends-is deck rows count many are in
       sym (ap (λ (o : Option ℕ). orElse o (cond (endsWell deck) none (some (length deck)))) f ∙ (rw (e, ← many)))
 
-  -- 21
-  right21-is : (q : ℕ) → q < length deck → numberRight rows count q ≡ right21 deck q (statementAt deck q)
-  unfolding numberRight right21
-  right21-is q h =
-      rw (
-        position-is (numberAt rows q),
-        kind-is deck rows count many are q (inside q h),
-        number-is deck rows count many are q (inside q h),
-        end-kind (statementAt deck q .form),
-        dimension-kind (statementAt deck q .form),
-      )
+  -- with the numbers in a table of their own
+  module _ (numbers : List Number) (table : Numbered rows count numbers) where
+    number-in : (q : ℕ) → q < length deck → numberIn numbers q ≡ statementAt deck q .number
+    number-in q h = table .are q (inside q h) ∙ number-is deck rows count many are q (inside q h)
 
-  pub first21-is : firstFrom (numberRight rows count) suc count 0 ≡ firstWrong (right21 deck) 0 deck
-  first21-is = sym (first-zero (right21 deck) deck (numberRight rows count) right21-is ∙ ap (λ (n : ℕ). firstFrom (numberRight rows count) suc n 0) (sym many))
+    pub place-is : (n : ℕ) → placeOf numbers count n ≡ placed (positionOf deck n) (length deck)
+    unfolding placeOf others
+    place-is n = rw many (place-zero deck n (λ q. not (eqb (numberIn numbers q) n)) (λ q h. ap (λ (m : ℕ). not (eqb m n)) (number-in q h)))
 
-  -- 22
-  module _ (jumps : List ℕ) (here : (k : ℕ) → k < length (deckJumps deck) → getD jumps k 0 ≡ getD (deckJumps deck) k 0) where
-    right22-is : (q : ℕ) → q < length deck → jumpsKnown rows count jumps q ≡ right22 deck q (statementAt deck q)
-    unfolding jumpsKnown known right22
-    right22-is q h =
-        let test : ℕ → Bool = λ n. ltb (positionOf deck n) (length deck) in
-        let l = formExits (statementAt deck q .form) ++ formLast (statementAt deck q .form) in
-        let a = all-by test (jumpsOf deck q) 0 (known rows count jumps) (startOf rows q) (λ k g. told k g) in
-        sym (sym (all-map test valueOf l) ∙ a ∙ ap (λ (n : ℕ). allFrom (known rows count jumps) n (startOf rows q)) (sym (many-is deck rows count many are q (inside q h))))
-      where
-        told : (k : ℕ) → k < length (jumpsOf deck q) → known rows count jumps (startOf rows q + k) ≡ ltb (positionOf deck (getD (jumpsOf deck q) k 0)) (length deck)
-        told k g =
-            rw (
-              here (startOf rows q + k) (jump-inside deck rows count many are q k (inside q h) g),
-              jump-is deck rows count many are q k (inside q h) g,
-              position-is (getD (jumpsOf deck q) k 0),
-              many,
-            )
+    -- 21
+    right21-is : (q : ℕ) → q < length deck → numberRight rows numbers count q ≡ right21 deck q (statementAt deck q)
+    unfolding numberRight right21
+    right21-is q h =
+        rw (
+          place-is (numberIn numbers q),
+          kind-is deck rows count many are q (inside q h),
+          number-in q h,
+          end-kind (statementAt deck q .form),
+          dimension-kind (statementAt deck q .form),
+          own-is (positionOf deck (statementAt deck q .number)) (length deck) q (kindOf (statementAt deck q .form)) h,
+        )
 
-    pub first22-is : firstFrom (jumpsKnown rows count jumps) suc count 0 ≡ firstWrong (right22 deck) 0 deck
-    first22-is = sym (first-zero (right22 deck) deck (jumpsKnown rows count jumps) right22-is ∙ ap (λ (n : ℕ). firstFrom (jumpsKnown rows count jumps) suc n 0) (sym many))
+    pub first21-is : firstFrom (numberRight rows numbers count) suc count 0 ≡ firstWrong (right21 deck) 0 deck
+    first21-is = sym (first-zero (right21 deck) deck (numberRight rows numbers count) right21-is ∙ ap (λ (n : ℕ). firstFrom (numberRight rows numbers count) suc n 0) (sym many))
+
+    -- 22
+    module _ (jumps : List Number) (here : (k : ℕ) → k < length (deckJumps deck) → numberIn jumps k ≡ getD (deckJumps deck) k 0) where
+      right22-is : (q : ℕ) → q < length deck → jumpsKnown rows numbers count jumps q ≡ right22 deck q (statementAt deck q)
+      unfolding jumpsKnown known right22
+      right22-is q h =
+          let test : ℕ → Bool = λ n. ltb (positionOf deck n) (length deck) in
+          let l = formExits (statementAt deck q .form) ++ formLast (statementAt deck q .form) in
+          let a = all-by test (jumpsOf deck q) 0 (known numbers count jumps) (startOf rows q) (λ k g. told k g) in
+          sym (sym (all-map test valueOf l) ∙ a ∙ ap (λ (n : ℕ). allFrom (known numbers count jumps) n (startOf rows q)) (sym (many-is deck rows count many are q (inside q h))))
+        where
+          told : (k : ℕ) → k < length (jumpsOf deck q) → known numbers count jumps (startOf rows q + k) ≡ ltb (positionOf deck (getD (jumpsOf deck q) k 0)) (length deck)
+          told k g =
+              rw (
+                here (startOf rows q + k) (jump-inside deck rows count many are q k (inside q h) g),
+                jump-is deck rows count many are q k (inside q h) g,
+                place-is (getD (jumpsOf deck q) k 0),
+              ) (found-is (positionOf deck (getD (jumpsOf deck q) k 0)) (length deck))
+
+      pub first22-is : firstFrom (jumpsKnown rows numbers count jumps) suc count 0 ≡ firstWrong (right22 deck) 0 deck
+      first22-is = sym (first-zero (right22 deck) deck (jumpsKnown rows numbers count jumps) right22-is ∙ ap (λ (n : ℕ). firstFrom (jumpsKnown rows numbers count jumps) suc n 0) (sym many))

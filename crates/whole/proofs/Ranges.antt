@@ -1,17 +1,16 @@
 -- 23 to 25 on the tables are the book's.
 -- Assumes nothing.
 use mathlib.Core.Path.{_≡_, refl, sym, ap, _∙_}
-use Prim.Native.Nat.{ℕ, zero, suc, _+_, _*_, _≤_, _<_}
+use Prim.Native.Nat.{ℕ, zero, suc, _+_, _-_, _*_, _≤_, _<_}
 use native.Mathlib.Omega.{arith}
-use mathlib.Core.Bool.{Bool, true, false, _&&_, _||_, not}
+use mathlib.Core.Bool.{Bool, true, false, _&&_, _||_, not, cond}
 use mathlib.Core.List.{List, [], _∷_, map, append-nil}
 use mathlib.Core.Option.{some}
-use lib.Dec.{eqb}
+use lib.Dec.{eqb, ltb, leb·suc-suc}
 use lib.ListN.{length, getD, take, getElem?}
 use lib.Seq.{getD-take, length-take-le}
 use borrow.Author.Tests.{ne-eqb}
 use Rattle.rules_shared.specs.Lists.{all, Each, each-more}
-use Rattle.rules_shared.proofs.EachLaws.{each-map}
 use Rattle.rules_deck.specs.Trees.{Name, Digits, valueOf, cell, element, Form, assign, goTo, computed, ifs, loop, continue, stop, end, dimension, Statement, formExits, formLast}
 use Rattle.rules_deck.specs.Deck.{sameName, positionOf, Do, dosOf}
 use Rattle.rules_deck.specs.Whole.{firstWrong, lastOf, inRange, mayEnd, mayEndAt, crosses, depth, rightDo, firstWrongDo, right24, formSets, right25}
@@ -19,12 +18,16 @@ use Rattle.tokens.specs.Words.{nameWord}
 use Rattle.draft.specs.Names.{Told}
 use Rattle.draft.specs.Draft.{kindOf, setWord, jumpWords}
 use Rattle.draft.specs.Sketch.{deckRows, deckJumps, loopsFrom}
-use Rattle.numbers.specs.Rows.{allFrom, firstFrom, countFrom, kindAt, setAt, startOf}
-use Rattle.numbers.proofs.Tests.{all-same}
-use Rattle.ranges.specs.Ranges.{doAt, lastIndex, lastAt, covers, mayEndKind, apart, doRight, doPlace, staysOut, jumpStays, jumpsRight, leaves, setRight}
+use Rattle.cards.specs.declared.Sequence.{Sequence}
+use Rattle.tables.specs.declared.Loops.{Loops}
+use Rattle.tables.specs.Rows.{kindAt, setAt, startOf, doIndex, lastIndex}
+use Rattle.tables.specs.Tables.{placeIn, Looped}
+use Rattle.numbers.specs.Numbers.{allFrom, firstFrom, countFrom}
+use Rattle.numbers.proofs.Tests.{all-same, all-true}
+use Rattle.ranges.specs.Ranges.{doAt, lastAt, covering, covers, mayEndKind, uncrossed, apart, doRight, outside, staysOut, jumpStays, exitsAt, jumpsRight, leaves, setRight}
 use Rattle.whole.specs.Whole.{SetsTold}
 use Rattle.draft.proofs.NameWords.{word-test, some-word}
-use Rattle.whole.proofs.ByIndex.{noDo, all-by, all-zero, first-zero, dos-zero, depth-zero, each-map}
+use Rattle.whole.proofs.ByIndex.{noDo, all-by, all-zero, first-zero, dos-zero, depth-zero, all-map}
 use Rattle.whole.proofs.Rows.{statementAt, jumpsOf, kind-is, set-is, many-is, jump-is, jump-inside}
 use Rattle.whole.proofs.Loops.{DoWords, do-words, loops-length}
 
@@ -46,17 +49,18 @@ elem-at (s ∷ deck) zero h = refl
 elem-at (s ∷ deck) (suc j) h = elem-at deck j (omega arith)
 
 -- a DO's last statement is no jump
-exits-only : (goes : ℕ → Bool) (f : Form) (stay : Bool) → stay ≡ all goes (jumpWords f) → (eqb (kindOf f) 4 || stay) ≡ all goes (map valueOf (formExits f))
+exits-only : (goes : ℕ → Bool) (f : Form) (stay : ℕ → Bool) → stay 0 ≡ true → stay (length (jumpWords f)) ≡ all goes (jumpWords f)
+    → stay (cond (eqb (kindOf f) 4) 0 (length (jumpWords f))) ≡ all goes (map valueOf (formExits f))
 unfolding formExits formLast
-exits-only goes (assign t x) stay e = e
-exits-only goes (goTo n) stay e = e
-exits-only goes (computed ns v) stay e = e ∙ ap (λ (l : List Digits). all goes (map valueOf l)) (append-nil ns)
-exits-only goes (ifs x a b c) stay e = e
-exits-only goes (loop n v x y z) stay e = refl
-exits-only goes continue stay e = e
-exits-only goes stop stay e = e
-exits-only goes end stay e = e
-exits-only goes (dimension arrays) stay e = e
+exits-only goes (assign t x) stay z e = e
+exits-only goes (goTo n) stay z e = e
+exits-only goes (computed ns v) stay z e = e ∙ ap (λ (l : List Digits). all goes (map valueOf l)) (append-nil ns)
+exits-only goes (ifs x a b c) stay z e = e
+exits-only goes (loop n v x y w) stay z e = z
+exits-only goes continue stay z e = e
+exits-only goes stop stay z e = e
+exits-only goes end stay z e = e
+exits-only goes (dimension arrays) stay z e = e
 
 and-true : (b : Bool) → (b && true) ≡ b
 and-true true = refl
@@ -65,10 +69,6 @@ and-true false = refl
 not-and-false : (b : Bool) → not (b && false) ≡ true
 not-and-false true = refl
 not-and-false false = refl
-
-all-true : (test : ℕ → Bool) (n i : ℕ) → ((k : ℕ) → i ≤ k → k < i + n → test k ≡ true) → allFrom test n i ≡ true
-all-true test zero i h = refl
-all-true test (suc n) i h = rw (h i (omega arith) (omega arith)) (all-true test n (suc i) (λ k a b. h k (omega arith) (omega arith)))
 
 all-at : (deck : List Statement) → Each SetsTold deck → (q : ℕ) → q < length deck → SetsTold (statementAt deck q)
 all-at [] a q h = absurd (omega arith)
@@ -92,7 +92,7 @@ module _ (deck : List Statement) (rows : List ℕ) (count : ℕ) (many : count �
   unfolding dosOf
   words i h = do-words 0 0 deck told i (let m = dos-many in omega arith)
 
-  pub do-is : (i : ℕ) → i < dos → doAt loops i ≡ doOfDeck i .position
+  pub do-is : (i : ℕ) → i < dos → doIndex loops i ≡ doOfDeck i .position
   do-is i h =
       let g : 2 * i < 2 * dos = omega arith in
       sym (getD-take (2 * dos) loops (2 * i) 0 g) ∙ ap (λ (l : List ℕ). getD l (2 * i) 0) dos-are ∙ words i h .begins
@@ -103,14 +103,14 @@ module _ (deck : List Statement) (rows : List ℕ) (count : ℕ) (many : count �
       let z : 0 + words i h .index ≡ words i h .index = omega arith in
       sym (getD-take (2 * dos) loops (2 * i + 1) 0 g) ∙ ap (λ (l : List ℕ). getD l (2 * i + 1) 0) dos-are ∙ words i h .indexed ∙ z
 
-  pub do-inside : (i : ℕ) → i < dos → doAt loops i < count
+  pub do-inside : (i : ℕ) → i < dos → doIndex loops i < count
   do-inside i h =
       let p = do-is i h in
       let r = words i h .row-is in
       let l = words i h .row-low in
       omega arith
 
-  own-set : (i : ℕ) → i < dos → setAt rows (doAt loops i) ≡ nameWord (doOfDeck i .variable)
+  own-set : (i : ℕ) → i < dos → setAt rows (doIndex loops i) ≡ nameWord (doOfDeck i .variable)
   own-set i h =
       let r = words i h .row-is in
       let l = words i h .row-low in
@@ -123,69 +123,94 @@ module _ (deck : List Statement) (rows : List ℕ) (count : ℕ) (many : count �
   below : (i : ℕ) → i < length (dosOf deck) → i < dos
   below i h = let m = dos-many in omega arith
 
-  -- jumps that are positions
-  module _ (jumps : List ℕ) (placed : (k : ℕ) → k < length (deckJumps deck) → getD jumps k 0 ≡ positionOf deck (getD (deckJumps deck) k 0)) where
-    pub last-is : (i : ℕ) → i < dos → lastAt loops jumps i ≡ lastOf deck (doOfDeck i)
+  -- once every number has its place
+  module _ (places : List Sequence) (placed : (k : ℕ) → k < length (deckJumps deck) → placeIn places k ≡ suc (positionOf deck (getD (deckJumps deck) k 0)))
+      (table : Loops) (looped : Looped loops dos places table) where
+    many-dos : length (dosOf deck) ≡ table .count
+    many-dos = dos-many ∙ sym (looped .counted)
+
+    pub starts-is : (i : ℕ) → i < dos → doAt table i ≡ suc (doOfDeck i .position)
+    starts-is i h = looped .starts i h ∙ ap suc (do-is i h)
+
+    pub last-is : (i : ℕ) → i < dos → lastAt table i ≡ suc (lastOf deck (doOfDeck i))
     last-is i h =
         let w = words i h in
-        ap (λ (k : ℕ). getD jumps k 0) (index-is i h) ∙ placed (w .index) (w .index-low) ∙ ap (positionOf deck) (w .last)
+        looped .lasts i h ∙ ap (placeIn places) (index-is i h) ∙ placed (w .index) (w .index-low) ∙ ap (λ (n : ℕ). suc (positionOf deck n)) (w .last)
 
-    covers-is : (j i : ℕ) → i < dos → covers loops jumps j i ≡ inRange deck (doOfDeck i) j
+    covers-is : (j i : ℕ) → i < dos → covers table (suc j) i ≡ inRange deck (doOfDeck i) j
+    unfolding covers covering
+    covers-is j i h = rw (starts-is i h, last-is i h, leb·suc-suc (suc (doOfDeck i .position)) j, leb·suc-suc j (lastOf deck (doOfDeck i)))
+
+    covered : (j i : ℕ) → i < dos → covering (doAt table i) (lastAt table i) (suc j) ≡ inRange deck (doOfDeck i) j
     unfolding covers
-    covers-is j i h = rw (do-is i h, last-is i h)
+    covered = covers-is
 
     -- 23
-    apart-is : (i k : ℕ) → i < dos → k < dos → apart loops jumps i k ≡ not (crosses deck (doOfDeck i) (doOfDeck k))
-    unfolding apart
-    apart-is i k h g = rw (covers-is (doAt loops i) k g, do-is i h, last-is i h, last-is k g)
+    apart-is : (i k : ℕ) → i < dos → k < dos → apart table (doAt table i) (lastAt table i) k ≡ not (crosses deck (doOfDeck i) (doOfDeck k))
+    unfolding apart uncrossed
+    apart-is i k h g =
+        let c : covering (doAt table k) (lastAt table k) (doAt table i) ≡ inRange deck (doOfDeck k) (doOfDeck i .position) = around k (doAt table i) (doOfDeck i .position) g (starts-is i h) in
+        rw (c, last-is i h, last-is k g, leb·suc-suc (suc (lastOf deck (doOfDeck k))) (lastOf deck (doOfDeck i)))
+      where
+        around : (d at j : ℕ) → d < dos → at ≡ suc j → covering (doAt table d) (lastAt table d) at ≡ inRange deck (doOfDeck d) j
+        around d at j l e = ap (covering (doAt table d) (lastAt table d)) e ∙ covered j d l
 
     module _ (known : (i : ℕ) → i < dos → lastOf deck (doOfDeck i) < length deck) where
-      may-is : (i : ℕ) → i < dos → mayEndKind (kindAt rows (lastAt loops jumps i)) ≡ mayEndAt (getElem? deck (lastOf deck (doOfDeck i)))
+      may-is : (i : ℕ) → i < dos → mayEndKind (kindAt rows (lastAt table i - 1)) ≡ mayEndAt (getElem? deck (lastOf deck (doOfDeck i)))
       may-is i h =
           let l = known i h in
-          rw (last-is i h, elem-at deck (lastOf deck (doOfDeck i)) l)
+          let one : suc (lastOf deck (doOfDeck i)) - 1 ≡ lastOf deck (doOfDeck i) = omega arith in
+          rw (last-is i h, one, elem-at deck (lastOf deck (doOfDeck i)) l)
           (ap mayEndKind (kind-is deck rows count many are (lastOf deck (doOfDeck i)) (omega arith)) ∙ sym (may-end-kind (statementAt deck (lastOf deck (doOfDeck i)) .form)))
 
-      do-right-is : (i : ℕ) → i < dos → doRight rows loops dos jumps i ≡ rightDo deck (doOfDeck i)
+      do-right-is : (i : ℕ) → i < dos → doRight rows table i ≡ rightDo deck (doOfDeck i)
       unfolding doRight
       do-right-is i h =
-          let a : all (λ outer. not (crosses deck (doOfDeck i) outer)) (dosOf deck) ≡ allFrom (apart loops jumps i) (length (dosOf deck)) 0 =
-          all-zero (λ outer. not (crosses deck (doOfDeck i) outer)) (dosOf deck) noDo (apart loops jumps i) (λ k g. apart-is i k h (below k g)) in
-          let b : depth deck (dosOf deck) (doOfDeck i .position) ≡ countFrom (covers loops jumps (doOfDeck i .position)) (length (dosOf deck)) 0 =
-          depth-zero deck (dosOf deck) (doOfDeck i .position) (covers loops jumps (doOfDeck i .position)) (λ k g. covers-is (doOfDeck i .position) k (below k g)) in
-          rw (may-is i h, do-is i h, last-is i h, a, b, dos-many)
+          let a : all (λ outer. not (crosses deck (doOfDeck i) outer)) (dosOf deck) ≡ allFrom (apart table (doAt table i) (lastAt table i)) (length (dosOf deck)) 0 =
+          all-zero (λ outer. not (crosses deck (doOfDeck i) outer)) (dosOf deck) noDo (apart table (doAt table i) (lastAt table i)) (λ k g. apart-is i k h (below k g)) in
+          let b : depth deck (dosOf deck) (doOfDeck i .position) ≡ countFrom (covers table (suc (doOfDeck i .position))) (length (dosOf deck)) 0 =
+          depth-zero deck (dosOf deck) (doOfDeck i .position) (covers table (suc (doOfDeck i .position))) (λ k g. covers-is (doOfDeck i .position) k (below k g)) in
+          let c : ltb (doAt table i) (lastAt table i) ≡ ltb (doOfDeck i .position) (lastOf deck (doOfDeck i)) = rw (starts-is i h, last-is i h, leb·suc-suc (suc (doOfDeck i .position)) (lastOf deck (doOfDeck i))) in
+          let d : countFrom (covers table (doAt table i)) (table .count) 0 ≡ depth deck (dosOf deck) (doOfDeck i .position) =
+          ap (λ (s : ℕ). countFrom (covers table s) (table .count) 0) (starts-is i h) ∙ ap (λ (n : ℕ). countFrom (covers table (suc (doOfDeck i .position))) n 0) (sym many-dos) ∙ sym b in
+          let e : allFrom (apart table (doAt table i) (lastAt table i)) (table .count) 0 ≡ all (λ outer. not (crosses deck (doOfDeck i) outer)) (dosOf deck) =
+          ap (λ (n : ℕ). allFrom (apart table (doAt table i) (lastAt table i)) n 0) (sym many-dos) ∙ sym a in
+          rw (c, may-is i h, e, d)
 
-      pub first23-is : firstFrom (doRight rows loops dos jumps) (doPlace loops) dos 0 ≡ firstWrongDo deck (dosOf deck)
+      pub first23-is : firstFrom (doRight rows table) (doAt table) (table .count) 0 ≡ firstWrongDo deck (dosOf deck)
       first23-is =
-          sym (dos-zero deck (dosOf deck) (doRight rows loops dos jumps) (doPlace loops) (λ i h. do-right-is i (below i h)) (λ i h. ap suc (do-is i (below i h)))
-          ∙ ap (λ (n : ℕ). firstFrom (doRight rows loops dos jumps) (doPlace loops) n 0) dos-many)
+          sym (dos-zero deck (dosOf deck) (doRight rows table) (doAt table) (λ i h. do-right-is i (below i h)) (λ i h. starts-is i (below i h))
+          ∙ ap (λ (n : ℕ). firstFrom (doRight rows table) (doAt table) n 0) many-dos)
 
     -- 24
     module _ (q : ℕ) (h : q < length deck) where
       goes : ℕ → Bool
       goes n = all (λ d. not (inRange deck d (positionOf deck n)) || inRange deck d q) (dosOf deck)
 
-      stays-is : (k : ℕ) → k < length (jumpsOf deck q) → jumpStays loops dos jumps q (startOf rows q + k) ≡ goes (getD (jumpsOf deck q) k 0)
-      unfolding jumpStays staysOut goes
+      stays-is : (k : ℕ) → k < length (jumpsOf deck q) → jumpStays table places (suc q) (startOf rows q + k) ≡ goes (getD (jumpsOf deck q) k 0)
+      unfolding jumpStays staysOut outside goes
       stays-is k g =
           let n = getD (jumpsOf deck q) k 0 in
-          let target : getD jumps (startOf rows q + k) 0 ≡ positionOf deck n =
-          placed (startOf rows q + k) (jump-inside deck rows count many are q k (inside q h) g) ∙ ap (positionOf deck) (jump-is deck rows count many are q k (inside q h) g) in
-          let a : all (λ d. not (inRange deck d (positionOf deck n)) || inRange deck d q) (dosOf deck) ≡ allFrom (staysOut loops jumps q (positionOf deck n)) (length (dosOf deck)) 0 =
-          all-zero (λ d. not (inRange deck d (positionOf deck n)) || inRange deck d q) (dosOf deck) noDo (staysOut loops jumps q (positionOf deck n))
-          (λ i b. rw (covers-is (positionOf deck n) i (below i b), covers-is q i (below i b))) in
-          rw (target, a, dos-many)
+          let target : placeIn places (startOf rows q + k) ≡ suc (positionOf deck n) =
+          placed (startOf rows q + k) (jump-inside deck rows count many are q k (inside q h) g) ∙ ap (λ (m : ℕ). suc (positionOf deck m)) (jump-is deck rows count many are q k (inside q h) g) in
+          let a : all (λ d. not (inRange deck d (positionOf deck n)) || inRange deck d q) (dosOf deck) ≡ allFrom (staysOut table (suc q) (suc (positionOf deck n))) (length (dosOf deck)) 0 =
+          all-zero (λ d. not (inRange deck d (positionOf deck n)) || inRange deck d q) (dosOf deck) noDo (staysOut table (suc q) (suc (positionOf deck n)))
+          (λ i b. out-is n i (below i b)) in
+          ap (λ (t : ℕ). allFrom (staysOut table (suc q) t) (table .count) 0) target ∙ ap (λ (m : ℕ). allFrom (staysOut table (suc q) (suc (positionOf deck n))) m 0) (sym many-dos) ∙ sym a
+        where
+          out-is : (n i : ℕ) → i < dos → staysOut table (suc q) (suc (positionOf deck n)) i ≡ (not (inRange deck (doOfDeck i) (positionOf deck n)) || inRange deck (doOfDeck i) q)
+          out-is n i b = rw (covered (positionOf deck n) i b, covered q i b)
 
-      pub right24-is : jumpsRight rows loops dos jumps q ≡ right24 deck q (statementAt deck q)
-      unfolding jumpsRight right24 goes
+      pub right24-is : jumpsRight rows table places q ≡ right24 deck q (statementAt deck q)
+      unfolding jumpsRight exitsAt right24 goes
       right24-is =
           let f = statementAt deck q .form in
-          let a = all-by goes (jumpsOf deck q) 0 (jumpStays loops dos jumps q) (startOf rows q) stays-is in
+          let a = all-by goes (jumpsOf deck q) 0 (jumpStays table places (suc q)) (startOf rows q) stays-is in
           rw (kind-is deck rows count many are q (inside q h), many-is deck rows count many are q (inside q h))
-          (exits-only goes f (allFrom (jumpStays loops dos jumps q) (length (jumpsOf deck q)) (startOf rows q)) (sym a) ∙ each-map goes valueOf (formExits f))
+          (exits-only goes f (λ n. allFrom (jumpStays table places (suc q)) n (startOf rows q)) refl (sym a) ∙ all-map goes valueOf (formExits f))
 
-    pub first24-is : firstFrom (jumpsRight rows loops dos jumps) suc count 0 ≡ firstWrong (right24 deck) 0 deck
-    first24-is = sym (first-zero (right24 deck) deck (jumpsRight rows loops dos jumps) right24-is ∙ ap (λ (n : ℕ). firstFrom (jumpsRight rows loops dos jumps) suc n 0) (sym many))
+    pub first24-is : firstFrom (jumpsRight rows table places) suc count 0 ≡ firstWrong (right24 deck) 0 deck
+    first24-is = sym (first-zero (right24 deck) deck (jumpsRight rows table places) right24-is ∙ ap (λ (n : ℕ). firstFrom (jumpsRight rows table places) suc n 0) (sym many))
 
     -- 25
     module _ (q : ℕ) (h : q < length deck) where
@@ -193,11 +218,24 @@ module _ (deck : List Statement) (rows : List ℕ) (count : ℕ) (many : count �
       free : ℕ → Bool
       free m = allFrom (λ i. not (inRange deck (doOfDeck i) q && eqb (nameWord (doOfDeck i .variable)) m)) dos 0
 
-      free-is : setRight rows loops dos jumps q ≡ free (setWord (statementAt deck q .form))
+      free-is : setRight rows table (suc q) ≡ free (setWord (statementAt deck q .form))
       unfolding setRight leaves free
       free-is =
-          all-same (leaves rows loops jumps q) (λ i. not (inRange deck (doOfDeck i) q && eqb (nameWord (doOfDeck i .variable)) (setWord (statementAt deck q .form)))) dos 0
-          (λ i a b. let l : i < dos = omega arith in rw (covers-is q i l, own-set i l, set-is deck rows count many are q (inside q h)))
+          ap (λ (n : ℕ). allFrom (λ i. leaves rows (doAt table i) (lastAt table i) (suc q)) n 0) (looped .counted)
+          ∙ all-same (λ i. leaves rows (doAt table i) (lastAt table i) (suc q)) (λ i. not (inRange deck (doOfDeck i) q && eqb (nameWord (doOfDeck i .variable)) (setWord (statementAt deck q .form)))) dos 0
+          (λ i a b. leave-is i (omega arith))
+        where
+          -- what a DO's own row sets, by its place
+          own-place : (i : ℕ) → i < dos → setAt rows (doAt table i - 1) ≡ nameWord (doOfDeck i .variable)
+          own-place i l =
+              let s = looped .starts i l in
+              let e : doAt table i - 1 ≡ doIndex loops i = omega arith in
+              ap (setAt rows) e ∙ own-set i l
+
+          leave-is : (i : ℕ) → i < dos → leaves rows (doAt table i) (lastAt table i) (suc q) ≡ not (inRange deck (doOfDeck i) q && eqb (nameWord (doOfDeck i .variable)) (setWord (statementAt deck q .form)))
+          leave-is i l =
+              let one : suc q - 1 ≡ q = omega arith in
+              rw (own-place i l, one, set-is deck rows count many are q (inside q h)) (ap (λ (b : Bool). not (b && eqb (nameWord (doOfDeck i .variable)) (setWord (statementAt deck q .form)))) (covered q i l))
 
       none-set : free 0 ≡ true
       unfolding free
@@ -227,9 +265,9 @@ module _ (deck : List Statement) (rows : List ℕ) (count : ℕ) (many : count �
       sets-is end a = none-set
       sets-is (dimension arrays) a = none-set
 
-      right25-is : setRight rows loops dos jumps q ≡ right25 deck q (statementAt deck q)
+      right25-is : setRight rows table (suc q) ≡ right25 deck q (statementAt deck q)
       unfolding right25
       right25-is = free-is ∙ sets-is (statementAt deck q .form) (all-at deck told q h)
 
-    pub first25-is : firstFrom (setRight rows loops dos jumps) suc count 0 ≡ firstWrong (right25 deck) 0 deck
-    first25-is = sym (first-zero (right25 deck) deck (setRight rows loops dos jumps) right25-is ∙ ap (λ (n : ℕ). firstFrom (setRight rows loops dos jumps) suc n 0) (sym many))
+    pub first25-is : firstFrom (λ q. setRight rows table (suc q)) suc count 0 ≡ firstWrong (right25 deck) 0 deck
+    first25-is = sym (first-zero (right25 deck) deck (λ q. setRight rows table (suc q)) right25-is ∙ ap (λ (n : ℕ). firstFrom (λ q. setRight rows table (suc q)) suc n 0) (sym many))

@@ -9,8 +9,8 @@ use lib.Seq.{getD-take, getD-append-add}
 use Rattle.rules_deck.specs.Trees.{Statement}
 use Rattle.draft.specs.Draft.{kindOf, setWord, jumpWords, rowWords}
 use Rattle.draft.specs.Sketch.{deckRows, deckJumps}
-use Rattle.numbers.specs.Rows.{numberAt, kindAt, setAt, jumpsAt, startOf}
-use Rattle.numbers.proofs.Settling.{jumps-inside}
+use Rattle.tables.specs.Rows.{numberAt, kindAt, setAt, jumpsAt, startOf}
+use Rattle.numbers.proofs.Starts.{jumps-inside}
 use Rattle.whole.proofs.ByIndex.{noStatement}
 
 abbrev pub statementAt : List Statement → ℕ → Statement

@@ -2,40 +2,37 @@
 -- Assumes nothing.
 use mathlib.Core.Path.{_≡_, refl, sym, ap, _∙_}
 use Prim.Native.Nat.{ℕ, zero, suc, _*_, _≤_, _<_}
-use native.Mathlib.Nat.{lt-of-not-le}
-use native.Mathlib.Decide.{decLe}
 use native.Mathlib.Omega.{arith}
-use mathlib.Core.Bool.{true}
+use mathlib.Core.Bool.{Bool, true, false}
 use mathlib.Core.List.{List, [], _∷_, map}
 use mathlib.Core.Option.{Option, none, some}
+use lib.Dec.{ltb}
 use lib.ListN.{length, getD, take, length-map}
 use lib.Seq.{getD-take, length-take-le, ext-getD}
 use borrow.Author.Tests.{ltb-true}
+use Rattle.rules_shared.specs.Limits.{limits}
 use Rattle.rules_shared.specs.Refusals.{Refusal, orElse}
 use Rattle.rules_deck.specs.Trees.{Statement}
 use Rattle.rules_deck.specs.Deck.{positionOf, dosOf}
 use Rattle.rules_deck.specs.Whole.{firstWrong, refused20, right21, right22, lastOf, firstWrongDo, right24, right25, refusedAt, judgeDeck}
-use Rattle.rules_deck.proofs.TestLaws.{clash, else-both, not-refused}
+use Rattle.rules_shared.specs.Lists.{Each, each-more}
+use Rattle.rules_deck.proofs.TestLaws.{clash}
+use Rattle.cards.specs.declared.Number.{Number}
 use Rattle.draft.specs.Sketch.{deckJumps}
-use Rattle.numbers.specs.Rows.{firstFrom, jumpsAt, startOf, positionIn, misplacedEnd, numberRight, known, jumpsKnown}
-use Rattle.ranges.specs.Ranges.{lastIndex, Ranged}
+use Rattle.tables.specs.declared.Loops.{Loops}
+use Rattle.tables.specs.Rows.{startOf, lastIndex}
+use Rattle.tables.specs.Tables.{numberIn, placeIn, Punched, Wanted, Kept, Looped}
+use Rattle.tables.specs.Tables as tables
+use Rattle.numbers.specs.Numbers.{placeOf}
+use Rattle.ranges.specs.Ranges.{doAt, lastAt, Ranged}
 use Rattle.whole.specs.declared.Verdict.{Verdict}
-use Rattle.whole.specs.Whole.{Sketched, Whole, refusalOf, Judged}
-use Rattle.whole.specs.Parts.{numbersRefused, Numbered, rangesRefused}
-use Rattle.whole.proofs.ByIndex.{each-passes, every-one}
-use Rattle.whole.proofs.Rows.{start-is}
-use Rattle.whole.proofs.Numbers.{position-is, refused20-is, first21-is, first22-is}
-use Rattle.whole.proofs.Ranges.{doOfDeck, words, index-is, do-inside, last-is, first23-is, first24-is, first25-is}
-
--- every statement's numbers are known: every number is
-each-known : (rows : List ℕ) (count : ℕ) (jumps : List ℕ) (m : ℕ) → ((q : ℕ) → q < m → jumpsKnown rows count jumps q ≡ true) → (k : ℕ) → k < startOf rows m → known rows count jumps k ≡ true
-unfolding jumpsKnown
-each-known rows count jumps zero h k g = absurd (omega arith)
-each-known rows count jumps (suc m) h k g = by (decLe (startOf rows m) k) (each-known rows count jumps m (λ q l. h q (omega arith)) k)
-  where
-    by : Dec (startOf rows m ≤ k) → (k < startOf rows m → known rows count jumps k ≡ true) → known rows count jumps k ≡ true
-    by (yes l) again = every-one (known rows count jumps) (jumpsAt rows m) (startOf rows m) (h m (omega arith)) k l g
-    by (no l) again = again (lt-of-not-le l)
+use Rattle.whole.specs.declared.Placed.{Placed}
+use Rattle.whole.specs.Whole.{Numbered, Sketched, Whole, refusalOf, Judged}
+use Rattle.whole.specs.Parts.{numbersRefused, ByNumber, rangesRefused, Inside, Positioned}
+use Rattle.whole.proofs.ByIndex.{placed}
+use Rattle.whole.proofs.Rows.{statementAt, number-is, start-is}
+use Rattle.whole.proofs.Numbers.{place-is, refused20-is, first21-is, first22-is}
+use Rattle.whole.proofs.Ranges.{doOfDeck, words, index-is, do-inside, starts-is, last-is, first23-is, first24-is, first25-is}
 
 map-at : (f : ℕ → ℕ) (l : List ℕ) (i : ℕ) → i < length l → getD (map f l) i 0 ≡ f (getD l i 0)
 map-at f [] i h = absurd (omega arith)
@@ -47,6 +44,23 @@ six (some x) b c d e f = refl
 six none (some x) c d e f = refl
 six none none c d e f = refl
 
+-- a number that has a place is a statement's
+placed-some : (position count place : ℕ) → placed position count ≡ some place → (place ≡ suc position) × (position < count)
+placed-some position count place e = by (ltb position count) refl
+  where
+    by : (b : Bool) → ltb position count ≡ b → (place ≡ suc position) × (position < count)
+    by true l =
+        let s : some (suc position) ≡ some place = rw l at e in
+        (let y : suc position ≡ place = cc in sym y, ltb-true position count l)
+    by false l =
+        let n : none ≡ some place = rw l at e in
+        absurd (clash (sym n))
+
+low-at : (deck : List Statement) → Each Numbered deck → (q : ℕ) → q < length deck → statementAt deck q .number ≤ limits .statementNumber
+low-at [] a q h = absurd (omega arith)
+low-at (s ∷ deck) (each-more l a) zero h = l
+low-at (s ∷ deck) (each-more l a) (suc q) h = low-at deck a q (omega arith)
+
 module _ (rows : List ℕ) (count : ℕ) (loops : List ℕ) (dos : ℕ) (before : List ℕ) (many : ℕ) (w : Whole rows count loops dos before many)
     (deck : List Statement) (s : Sketched deck rows count loops dos before many) where
   jumps-many : length (deckJumps deck) ≡ many
@@ -54,11 +68,6 @@ module _ (rows : List ℕ) (count : ℕ) (loops : List ℕ) (dos : ℕ) (before 
       let l = w .jumps-long in
       let f = w .few-jumps in
       sym (ap length (s .jumps-are)) ∙ length-take-le many before (omega arith)
-
-  at-entry : (k : ℕ) → k < length (deckJumps deck) → getD before k 0 ≡ getD (deckJumps deck) k 0
-  at-entry k h =
-      let m = jumps-many in
-      sym (getD-take many before k 0 (omega arith)) ∙ ap (λ (l : List ℕ). getD l k 0) (s .jumps-are)
 
   loops-long : 2 * dos ≤ length loops
   loops-long =
@@ -69,116 +78,164 @@ module _ (rows : List ℕ) (count : ℕ) (loops : List ℕ) (dos : ℕ) (before 
   pub all-starts : startOf rows count ≡ many
   all-starts = start-is deck rows count (s .statements) (s .rows-are) ∙ jumps-many
 
-  pub numbers-are : numbersRefused rows count before
-      ≡ orElse (refusedAt 20 (refused20 deck)) (orElse (refusedAt 21 (firstWrong (right21 deck) 0 deck)) (refusedAt 22 (firstWrong (right22 deck) 0 deck)))
-  unfolding numbersRefused
-  numbers-are =
-      let a = refused20-is deck rows count (s .statements) (s .rows-are) in
-      let b = first21-is deck rows count (s .statements) (s .rows-are) in
-      let c = first22-is deck rows count (s .statements) (s .rows-are) before at-entry in
-      rw (a, b, c)
+  pub punched : Punched rows count
+  punched =
+      let l = w .rows-long in
+      let f = w .few in
+      record {
+        few = f;
+        long = omega arith;
+        low = λ q h.
+            let e = number-is deck rows count (s .statements) (s .rows-are) q h in
+            let c = s .statements in
+            let b = low-at deck (s .numbered) q (omega arith) in
+            omega arith;
+      }
 
-  -- once 22 has passed
-  module _ (after : List ℕ) (r : Verdict) (n : Numbered rows count before after r) (passed : refusalOf r ≡ none) where
-    pub at-exit : (k : ℕ) → k < length (deckJumps deck) → getD after k 0 ≡ positionOf deck (getD (deckJumps deck) k 0)
-    at-exit k h =
+  module _ (numbers : List Number) (ns : tables.Numbered rows count numbers) (wanted : List Number) (ws : Wanted before many wanted) where
+    at-entry : (k : ℕ) → k < length (deckJumps deck) → numberIn wanted k ≡ getD (deckJumps deck) k 0
+    at-entry k h =
         let m = jumps-many in
-        let a = all-starts in
-        n .done passed k (omega arith) ∙ position-is deck rows count (s .statements) (s .rows-are) (getD before k 0) ∙ ap (positionOf deck) (at-entry k h)
+        ws .are k (omega arith) ∙ sym (getD-take many before k 0 (omega arith)) ∙ ap (λ (l : List ℕ). getD l k 0) (s .jumps-are)
 
-    all-known : firstFrom (jumpsKnown rows count before) suc count 0 ≡ none
+    pub numbers-are : numbersRefused rows numbers count wanted
+        ≡ orElse (refusedAt 20 (refused20 deck)) (orElse (refusedAt 21 (firstWrong (right21 deck) 0 deck)) (refusedAt 22 (firstWrong (right22 deck) 0 deck)))
     unfolding numbersRefused
-    all-known =
-        let e = sym (n .says) ∙ passed in
-        let h = else-both (refusedAt 20 (misplacedEnd rows count)) (orElse (refusedAt 21 (firstFrom (numberRight rows count) suc count 0)) (refusedAt 22 (firstFrom (jumpsKnown rows count before) suc count 0))) e in
-        let g = else-both (refusedAt 21 (firstFrom (numberRight rows count) suc count 0)) (refusedAt 22 (firstFrom (jumpsKnown rows count before) suc count 0)) (h .1) in
-        not-refused 22 (firstFrom (jumpsKnown rows count before) suc count 0) (g .1)
-
-    position-low : (k : ℕ) → k < length (deckJumps deck) → positionOf deck (getD (deckJumps deck) k 0) < length deck
-    unfolding known
-    position-low k h =
-        let m = jumps-many in
-        let a = all-starts in
-        let t = each-known rows count before count (λ q l. each-passes (jumpsKnown rows count before) suc count 0 all-known q (omega arith) (omega arith)) k (omega arith) in
-        let l = ltb-true (positionIn rows count (getD before k 0)) count t in
-        let e = position-is deck rows count (s .statements) (s .rows-are) (getD before k 0) ∙ ap (positionOf deck) (at-entry k h) in
-        let c = s .statements in
-        omega arith
-
-    last-low : (i : ℕ) → i < dos → lastOf deck (doOfDeck deck rows count (s .statements) (s .rows-are) loops dos loops-long (s .loops-are) (s .told) i) < length deck
-    last-low i h =
-        let d = words deck rows count (s .statements) (s .rows-are) loops dos loops-long (s .loops-are) (s .told) i h in
-        rw (d .last) at (position-low (d .index) (d .index-low))
-
-    pub ranged : Ranged rows count loops dos after
-    ranged =
-        let m = jumps-many in
-        let a = all-starts in
-        let l = w .jumps-long in
-        let f = w .few-jumps in
-        let g = w .rows-long in
-        let c = w .few in
-        let t = n .long in
-        record {
-          inside = record { long = loops-long; last = index-low };
-          rows-long = omega arith;
-          starts = do-inside deck rows count (s .statements) (s .rows-are) loops dos loops-long (s .loops-are) (s .told);
-          ends = λ i h.
-              let e = last-is deck rows count (s .statements) (s .rows-are) loops dos loops-long (s .loops-are) (s .told) after at-exit i h in
-              let b = last-low i h in
-              let z = s .statements in
-              omega arith;
-          jumps-long = omega arith;
-        }
-      where
-        index-low : (i : ℕ) → i < dos → lastIndex loops i < length after
-        index-low i h =
-            let d = words deck rows count (s .statements) (s .rows-are) loops dos loops-long (s .loops-are) (s .told) i h in
-            let e = index-is deck rows count (s .statements) (s .rows-are) loops dos loops-long (s .loops-are) (s .told) i h in
-            let x = d .index-low in
-            let m = jumps-many in
-            let l = w .jumps-long in
-            let f = w .few-jumps in
-            let t = n .long in
-            omega arith
-
-    ranges-are : rangesRefused rows count loops dos after
-        ≡ orElse (refusedAt 23 (firstWrongDo deck (dosOf deck))) (orElse (refusedAt 24 (firstWrong (right24 deck) 0 deck)) (refusedAt 25 (firstWrong (right25 deck) 0 deck)))
-    unfolding rangesRefused
-    ranges-are =
-        let a = first23-is deck rows count (s .statements) (s .rows-are) loops dos loops-long (s .loops-are) (s .told) after at-exit last-low in
-        let b = first24-is deck rows count (s .statements) (s .rows-are) loops dos loops-long (s .loops-are) (s .told) after at-exit in
-        let c = first25-is deck rows count (s .statements) (s .rows-are) loops dos loops-long (s .loops-are) (s .told) after at-exit in
+    numbers-are =
+        let a = refused20-is deck rows count (s .statements) (s .rows-are) in
+        let b = first21-is deck rows count (s .statements) (s .rows-are) numbers ns in
+        let c = first22-is deck rows count (s .statements) (s .rows-are) numbers ns wanted at-entry in
         rw (a, b, c)
 
-    all-placed : take many after ≡ map (positionOf deck) (deckJumps deck)
-    all-placed =
-        let m = jumps-many in
-        let l = w .jumps-long in
-        let f = w .few-jumps in
-        let t = n .long in
-        let e = length-take-le many after (omega arith) in
-        let g = length-map (deckJumps deck) (positionOf deck) in
-        ext-getD 0 (take many after) (map (positionOf deck) (deckJumps deck)) (omega arith)
-        (λ i h. getD-take many after i 0 (omega arith) ∙ at-exit i (omega arith) ∙ sym (map-at (positionOf deck) (deckJumps deck) i (omega arith)))
+    -- once 22 has passed
+    module _ (r : Placed) (n : ByNumber rows numbers count wanted r) (passed : refusalOf (r .verdict) ≡ none) where
+      has-place : (k : ℕ) → k < length (deckJumps deck)
+          → (placeIn (r .places) k ≡ suc (positionOf deck (getD (deckJumps deck) k 0))) × (positionOf deck (getD (deckJumps deck) k 0) < length deck)
+      has-place k h =
+          let m = jumps-many in
+          let a = all-starts in
+          placed-some (positionOf deck (getD (deckJumps deck) k 0)) (length deck) (placeIn (r .places) k)
+          (sym (place-is deck rows count (s .statements) (s .rows-are) numbers ns (getD (deckJumps deck) k 0)) ∙ ap (placeOf numbers count) (sym (at-entry k h)) ∙ n .done passed k (omega arith))
 
-    pub judged-ranges : (v : Verdict) → refusalOf v ≡ rangesRefused rows count loops dos after → Judged deck after many v
+      at-exit : (k : ℕ) → k < length (deckJumps deck) → placeIn (r .places) k ≡ suc (positionOf deck (getD (deckJumps deck) k 0))
+      at-exit k h = has-place k h .0
+
+      pub inside : Inside (r .places) many
+      inside =
+          record {
+            few = w .few-jumps;
+            from-one = λ k h. let m = jumps-many in let p = has-place k (omega arith) .0 in omega arith;
+            to-last = λ k h.
+                let m = jumps-many in
+                let p = has-place k (omega arith) in
+                let a = p .0 in
+                let b = p .1 in
+                let c = s .statements in
+                let f = w .few in
+                omega arith;
+          }
+
+      last-low : (i : ℕ) → i < dos → lastOf deck (doOfDeck deck rows count (s .statements) (s .rows-are) loops dos loops-long (s .loops-are) (s .told) i) < length deck
+      last-low i h =
+          let d = words deck rows count (s .statements) (s .rows-are) loops dos loops-long (s .loops-are) (s .told) i h in
+          rw (d .last) at (has-place (d .index) (d .index-low) .1)
+
+      pub kept : Kept loops dos
+      kept =
+          record {
+            few = w .few-dos;
+            long = loops-long;
+            starts = λ i h.
+                let d = do-inside deck rows count (s .statements) (s .rows-are) loops dos loops-long (s .loops-are) (s .told) i h in
+                let f = w .few in
+                omega arith;
+            lasts = index-low;
+          }
+        where
+          index-low : (i : ℕ) → i < dos → lastIndex loops i < 1424
+          index-low i h =
+              let d = words deck rows count (s .statements) (s .rows-are) loops dos loops-long (s .loops-are) (s .told) i h in
+              let e = index-is deck rows count (s .statements) (s .rows-are) loops dos loops-long (s .loops-are) (s .told) i h in
+              let x = d .index-low in
+              let m = jumps-many in
+              let f = w .few-jumps in
+              omega arith
+
+      module _ (table : Loops) (looped : Looped loops dos (r .places) table) where
+        pub ranged : Ranged rows count table
+        ranged =
+            let a = all-starts in
+            let f = w .few-jumps in
+            let g = w .rows-long in
+            let c = w .few in
+            let x = w .few-dos in
+            let y = looped .counted in
+            record {
+              few = c;
+              few-dos = omega arith;
+              rows-long = omega arith;
+              from-one = λ i h. let l : i < dos = omega arith in (let p = starts-at i l in omega arith, let p = ends-at i l .0 in omega arith);
+              to-last = λ i h. let l : i < dos = omega arith in (within i l, let p = ends-at i l .0 in let b = ends-at i l .1 in let z = s .statements in omega arith);
+              few-jumps = omega arith;
+            }
+          where
+            starts-at : (i : ℕ) → i < dos → doAt table i ≡ suc (doOfDeck deck rows count (s .statements) (s .rows-are) loops dos loops-long (s .loops-are) (s .told) i .position)
+            starts-at i h = starts-is deck rows count (s .statements) (s .rows-are) loops dos loops-long (s .loops-are) (s .told) (r .places) at-exit table looped i h
+
+            within : (i : ℕ) → i < dos → doAt table i ≤ count
+            within i h =
+                let e = looped .starts i h in
+                let d = do-inside deck rows count (s .statements) (s .rows-are) loops dos loops-long (s .loops-are) (s .told) i h in
+                omega arith
+
+            ends-at : (i : ℕ) → i < dos
+                → (lastAt table i ≡ suc (lastOf deck (doOfDeck deck rows count (s .statements) (s .rows-are) loops dos loops-long (s .loops-are) (s .told) i)))
+                × (lastOf deck (doOfDeck deck rows count (s .statements) (s .rows-are) loops dos loops-long (s .loops-are) (s .told) i) < length deck)
+            ends-at i h = (last-is deck rows count (s .statements) (s .rows-are) loops dos loops-long (s .loops-are) (s .told) (r .places) at-exit table looped i h, last-low i h)
+
+        ranges-are : rangesRefused rows count table (r .places)
+            ≡ orElse (refusedAt 23 (firstWrongDo deck (dosOf deck))) (orElse (refusedAt 24 (firstWrong (right24 deck) 0 deck)) (refusedAt 25 (firstWrong (right25 deck) 0 deck)))
+        unfolding rangesRefused
+        ranges-are =
+            let a = first23-is deck rows count (s .statements) (s .rows-are) loops dos loops-long (s .loops-are) (s .told) (r .places) at-exit table looped last-low in
+            let b = first24-is deck rows count (s .statements) (s .rows-are) loops dos loops-long (s .loops-are) (s .told) (r .places) at-exit table looped in
+            let c = first25-is deck rows count (s .statements) (s .rows-are) loops dos loops-long (s .loops-are) (s .told) (r .places) at-exit table looped in
+            rw (a, b, c)
+
+        pub judged-ranges : (after : List ℕ) → Positioned (r .places) many after → (v : Verdict) → refusalOf v ≡ rangesRefused rows count table (r .places) → Judged deck after many v
+        unfolding judgeDeck
+        judged-ranges after p v e =
+            let a : orElse (refusedAt 20 (refused20 deck)) (orElse (refusedAt 21 (firstWrong (right21 deck) 0 deck)) (refusedAt 22 (firstWrong (right22 deck) 0 deck))) ≡ none = sym numbers-are ∙ sym (n .says) ∙ passed in
+            let whole = six (refusedAt 20 (refused20 deck)) (refusedAt 21 (firstWrong (right21 deck) 0 deck)) (refusedAt 22 (firstWrong (right22 deck) 0 deck)) (refusedAt 23 (firstWrongDo deck (dosOf deck))) (refusedAt 24 (firstWrong (right24 deck) 0 deck)) (refusedAt 25 (firstWrong (right25 deck) 0 deck)) in
+            record {
+              long = p .long;
+              says = e ∙ ranges-are ∙ ap (λ (o : Option Refusal). orElse o (orElse (refusedAt 23 (firstWrongDo deck (dosOf deck))) (orElse (refusedAt 24 (firstWrong (right24 deck) 0 deck)) (refusedAt 25 (firstWrong (right25 deck) 0 deck))))) (sym a) ∙ whole;
+              placed = λ o. all-placed;
+            }
+          where
+            position-at : (i : ℕ) → i < length (deckJumps deck) → getD after i 0 ≡ positionOf deck (getD (deckJumps deck) i 0)
+            position-at i h =
+                let m = jumps-many in
+                let x = p .are i (omega arith) in
+                let y = at-exit i h in
+                omega arith
+
+            all-placed : take many after ≡ map (positionOf deck) (deckJumps deck)
+            all-placed =
+                let m = jumps-many in
+                let f = w .few-jumps in
+                let t = p .long in
+                let l = length-take-le many after (omega arith) in
+                let g = length-map (deckJumps deck) (positionOf deck) in
+                ext-getD 0 (take many after) (map (positionOf deck) (deckJumps deck)) (omega arith)
+                (λ i h. getD-take many after i 0 (omega arith) ∙ position-at i (omega arith) ∙ sym (map-at (positionOf deck) (deckJumps deck) i (omega arith)))
+
+    -- refused by 20 to 22
+    pub judged-numbers : (r : Placed) (v : Verdict) (x : Refusal) → ByNumber rows numbers count wanted r → r .verdict ≡ v → refusalOf v ≡ some x → Judged deck before many v
     unfolding judgeDeck
-    judged-ranges v e =
-        let a : orElse (refusedAt 20 (refused20 deck)) (orElse (refusedAt 21 (firstWrong (right21 deck) 0 deck)) (refusedAt 22 (firstWrong (right22 deck) 0 deck))) ≡ none = sym numbers-are ∙ sym (n .says) ∙ passed in
+    judged-numbers r v x n same e =
+        let a : orElse (refusedAt 20 (refused20 deck)) (orElse (refusedAt 21 (firstWrong (right21 deck) 0 deck)) (refusedAt 22 (firstWrong (right22 deck) 0 deck))) ≡ some x = sym numbers-are ∙ sym (n .says) ∙ ap refusalOf same ∙ e in
+        let rest = orElse (refusedAt 23 (firstWrongDo deck (dosOf deck))) (orElse (refusedAt 24 (firstWrong (right24 deck) 0 deck)) (refusedAt 25 (firstWrong (right25 deck) 0 deck))) in
         let whole = six (refusedAt 20 (refused20 deck)) (refusedAt 21 (firstWrong (right21 deck) 0 deck)) (refusedAt 22 (firstWrong (right22 deck) 0 deck)) (refusedAt 23 (firstWrongDo deck (dosOf deck))) (refusedAt 24 (firstWrong (right24 deck) 0 deck)) (refusedAt 25 (firstWrong (right25 deck) 0 deck)) in
-        record {
-          long = n .long ∙ w .jumps-long;
-          says = e ∙ ranges-are ∙ ap (λ (o : Option Refusal). orElse o (orElse (refusedAt 23 (firstWrongDo deck (dosOf deck))) (orElse (refusedAt 24 (firstWrong (right24 deck) 0 deck)) (refusedAt 25 (firstWrong (right25 deck) 0 deck))))) (sym a) ∙ whole;
-          placed = λ o. all-placed;
-        }
-
-  -- refused by 20 to 22
-  pub judged-numbers : (after : List ℕ) (r v : Verdict) (x : Refusal) → Numbered rows count before after r → r ≡ v → refusalOf v ≡ some x → Judged deck after many v
-  unfolding judgeDeck
-  judged-numbers after r v x n same e =
-      let a : orElse (refusedAt 20 (refused20 deck)) (orElse (refusedAt 21 (firstWrong (right21 deck) 0 deck)) (refusedAt 22 (firstWrong (right22 deck) 0 deck))) ≡ some x = sym numbers-are ∙ sym (n .says) ∙ ap refusalOf same ∙ e in
-      let rest = orElse (refusedAt 23 (firstWrongDo deck (dosOf deck))) (orElse (refusedAt 24 (firstWrong (right24 deck) 0 deck)) (refusedAt 25 (firstWrong (right25 deck) 0 deck))) in
-      let whole = six (refusedAt 20 (refused20 deck)) (refusedAt 21 (firstWrong (right21 deck) 0 deck)) (refusedAt 22 (firstWrong (right22 deck) 0 deck)) (refusedAt 23 (firstWrongDo deck (dosOf deck))) (refusedAt 24 (firstWrong (right24 deck) 0 deck)) (refusedAt 25 (firstWrong (right25 deck) 0 deck)) in
-      let says : some x ≡ judgeDeck deck = ap (λ (o : Option Refusal). orElse o rest) (sym a) ∙ whole in
-      record { long = n .long ∙ w .jumps-long; says = e ∙ says; placed = λ o. absurd (clash (says ∙ o)) }
+        let says : some x ≡ judgeDeck deck = ap (λ (o : Option Refusal). orElse o rest) (sym a) ∙ whole in
+        record { long = w .jumps-long; says = e ∙ says; placed = λ o. absurd (clash (says ∙ o)) }

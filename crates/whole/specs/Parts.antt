@@ -8,27 +8,37 @@ use lib.ListN.{length, getD}
 use Rattle.rules_shared.specs.Limits.{limits}
 use Rattle.rules_shared.specs.Refusals.{Refusal, orElse}
 use Rattle.rules_deck.specs.Whole.{refusedAt}
-use Rattle.numbers.specs.declared.Found.{Found}
-use Rattle.numbers.specs.Rows.{firstFrom, foundOf, startOf, positionIn, misplacedEnd, numberRight, jumpsKnown}
-use Rattle.ranges.specs.Ranges.{doRight, doPlace, jumpsRight, setRight}
-use Rattle.whole.specs.declared.Verdict.{Verdict}
+use Rattle.cards.specs.declared.Number.{Number}
+use Rattle.cards.specs.declared.Sequence.{Sequence}
+use Rattle.tables.specs.declared.Loops.{Loops}
+use Rattle.tables.specs.Rows.{startOf}
+use Rattle.tables.specs.Tables.{numberIn, placeIn}
+use Rattle.numbers.specs.Numbers.{firstFrom, placeOf, misplacedEnd, numberRight, jumpsKnown}
+use Rattle.ranges.specs.Ranges.{doAt, doRight, jumpsRight, setRight}
+use Rattle.whole.specs.declared.Placed.{Placed}
 use Rattle.whole.specs.Whole.{refusalOf}
 
--- a place of a deck
-unfoldable pub Near : Found → Type 0
-Near found = (place : ℕ) → foundOf found ≡ some place → place ≤ limits .statements
+unfoldable pub numbersRefused : List ℕ → List Number → ℕ → List Number → Option Refusal
+numbersRefused rows numbers count jumps =
+    orElse (refusedAt 20 (misplacedEnd rows count)) (orElse (refusedAt 21 (firstFrom (numberRight rows numbers count) suc count 0))
+    (refusedAt 22 (firstFrom (jumpsKnown rows numbers count jumps) suc count 0)))
 
-unfoldable pub numbersRefused : List ℕ → ℕ → List ℕ → Option Refusal
-numbersRefused rows count jumps =
-    orElse (refusedAt 20 (misplacedEnd rows count)) (orElse (refusedAt 21 (firstFrom (numberRight rows count) suc count 0))
-    (refusedAt 22 (firstFrom (jumpsKnown rows count jumps) suc count 0)))
+pub record ByNumber (rows : List ℕ) (numbers : List Number) (count : ℕ) (jumps : List Number) (r : Placed) : Type 0 where
+  pub says : refusalOf (r .verdict) ≡ numbersRefused rows numbers count jumps
+  pub done : refusalOf (r .verdict) ≡ none → (k : ℕ) → k < startOf rows count → placeOf numbers count (numberIn jumps k) ≡ some (placeIn (r .places) k)
 
-pub record Numbered (rows : List ℕ) (count : ℕ) (before after : List ℕ) (r : Verdict) : Type 0 where
-  pub long : length after ≡ length before
-  pub says : refusalOf r ≡ numbersRefused rows count before
-  pub done : refusalOf r ≡ none → (k : ℕ) → k < startOf rows count → getD after k 0 ≡ positionIn rows count (getD before k 0)
+unfoldable pub rangesRefused : List ℕ → ℕ → Loops → List Sequence → Option Refusal
+rangesRefused rows count loops places =
+    orElse (refusedAt 23 (firstFrom (doRight rows loops) (doAt loops) (loops .count) 0)) (orElse (refusedAt 24 (firstFrom (jumpsRight rows loops places) suc count 0))
+    (refusedAt 25 (firstFrom (λ q. setRight rows loops (suc q)) suc count 0)))
 
-unfoldable pub rangesRefused : List ℕ → ℕ → List ℕ → ℕ → List ℕ → Option Refusal
-rangesRefused rows count loops dos jumps =
-    orElse (refusedAt 23 (firstFrom (doRight rows loops dos jumps) (doPlace loops) dos 0)) (orElse (refusedAt 24 (firstFrom (jumpsRight rows loops dos jumps) suc count 0))
-    (refusedAt 25 (firstFrom (setRight rows loops dos jumps) suc count 0)))
+-- places of a deck
+pub record Inside (places : List Sequence) (many : ℕ) : Type 0 where
+  pub few : many ≤ 1424
+  pub from-one : (k : ℕ) → k < many → 1 ≤ placeIn places k
+  pub to-last : (k : ℕ) → k < many → placeIn places k ≤ limits .statements
+
+-- the words are their positions
+pub record Positioned (places : List Sequence) (many : ℕ) (words : List ℕ) : Type 0 where
+  pub long : length words ≡ 1424
+  pub are : (k : ℕ) → k < many → suc (getD words k 0) ≡ placeIn places k

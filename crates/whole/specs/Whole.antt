@@ -20,6 +20,10 @@ use Rattle.whole.specs.declared.Verdict.the-variants.{Right, Refused}
 abbrev pub SetsTold : Statement → Type 0
 SetsTold s = Each Told (formSets (s .form))
 
+-- a statement number has five digits at most
+abbrev pub Numbered : Statement → Type 0
+Numbered s = s .number ≤ limits .statementNumber
+
 -- the tables hold the deck
 pub record Sketched (deck : List Statement) (rows : List ℕ) (count : ℕ) (loops : List ℕ) (dos : ℕ) (jumps : List ℕ) (many : ℕ) : Type 0 where
   pub statements : count ≡ length deck
@@ -27,6 +31,7 @@ pub record Sketched (deck : List Statement) (rows : List ℕ) (count : ℕ) (loo
   pub loops-are : take (2 * dos) loops ≡ loopsFrom 0 0 deck
   pub jumps-are : take many jumps ≡ deckJumps deck
   pub told : Each SetsTold deck
+  pub numbered : All Numbered deck
 
 -- the tables hold some deck: what keeps reading inside them
 pub record Whole (rows : List ℕ) (count : ℕ) (loops : List ℕ) (dos : ℕ) (jumps : List ℕ) (many : ℕ) : Type 0 where

@@ -1,17 +1,21 @@
 // A deck as a whole, 20 to 25, judged on what was kept of its statements.
 ghost use mathlib.Core.Path.{_≡_};
 ghost use mathlib.Core.List.{List};
-ghost use Prim.Native.Nat.{_*_, _≤_};
+ghost use Prim.Native.Nat.{_≤_};
 ghost use lib.ListN.{length};
 ghost use Rattle.rules_shared.specs.Refusals.{orElse};
 ghost use Rattle.rules_deck.specs.Trees.{Statement};
 ghost use Rattle.rules_deck.specs.Whole.{refusedAt};
-ghost use Rattle.numbers.specs.Rows.{startOf, foundOf};
+ghost use Rattle.tables.specs.Rows.{startOf};
+ghost use Rattle.tables.specs.Tables.{Punched};
+ghost use Rattle.numbers.specs.Numbers.{foundOf};
 ghost use Rattle.ranges.specs.Ranges.{Ranged};
 ghost use Rattle.whole.specs.Whole.{Sketched, Whole, refusalOf, Judged};
-ghost use Rattle.whole.specs.Parts.{Near, Numbered, rangesRefused};
+ghost use Rattle.whole.specs.Parts.{ByNumber, rangesRefused, Inside, Positioned};
+use cards::Number;
 use cards::Sequence;
 use numbers::Found;
+use tables::Loops;
 
 pub enum Verdict {
     Right,
@@ -19,26 +23,15 @@ pub enum Verdict {
     Refused { number: u32, place: Sequence },
 }
 
-fn sequence(place: usize) -> u32
-    requires { ⌜ place ≤ 400 ⌝ }
-    ensures { λ r. ⌜ r ≡ place ⌝ }
-{
-    place as u32
-}
-
 fn refused_at(number: u32, found: Found) -> Verdict
-    requires { ⌜ Near found ⌝ }
     ensures { λ r. ⌜ refusalOf r ≡ refusedAt number (foundOf found) ⌝ }
 {
     match found {
         Found::Nothing => Verdict::Right,
-        Found::At(place) => {
-            let place = sequence(place);
-            Verdict::Refused {
-                number: number,
-                place: Sequence(place),
-            }
-        }
+        Found::At(place) => Verdict::Refused {
+            number: number,
+            place: place,
+        },
     }
 }
 
@@ -54,30 +47,59 @@ fn or_else(a: Verdict, b: Verdict) -> Verdict
     }
 }
 
+// The answer to 20 to 22, and where it is right the place of every number that is jumped to.
+struct Placed {
+    verdict: Verdict,
+    places: [Sequence; 1424],
+}
+
 // 20 to 22, the lowest first.
-fn judge_numbers(rows: &[u64], count: usize, jumps: &mut [u32]) -> Verdict
-    requires { ⌜ (5 * count ≤ length (now rows)) × (count ≤ 400) ⌝ }
-    requires { ⌜ startOf (now rows) count ≤ length (now jumps) ⌝ }
-    ensures { λ r. ⌜ Numbered (now (rows .entry)) count (now (jumps .entry)) (now (jumps .exit)) r ⌝ }
+fn judge_numbers(
+    rows: &[u64],
+    numbers: [Number; 400],
+    count: usize,
+    jumps: [Number; 1424],
+    many: usize,
+) -> Placed
+    requires { ⌜ Punched (now rows) count × ((many ≡ startOf (now rows) count) × (many ≤ 1424)) ⌝ }
+    ensures { λ r. ⌜ ByNumber (now (rows .entry)) numbers count jumps r ⌝ }
 {
     let ends = refused_at(20, numbers::misplaced_end(rows, count));
-    let own = refused_at(21, numbers::misnumbered(rows, count));
-    let used = refused_at(22, numbers::place_all(rows, count, jumps));
-    or_else(ends, or_else(own, used))
+    let own = refused_at(21, numbers::misnumbered(rows, numbers, count));
+    let resolved = numbers::resolve(numbers, count, jumps, many);
+    let used = refused_at(22, numbers::user_of(rows, count, resolved.known));
+    let places = resolved.places;
+    Placed {
+        verdict: or_else(ends, or_else(own, used)),
+        places: places,
+    }
 }
 
 // 23 to 25.
-fn judge_ranges(rows: &[u64], count: usize, loops: &[u32], dos: usize, jumps: &[u32]) -> Verdict
-    requires { ⌜ Ranged (now rows) count (now loops) dos (now jumps) × (count ≤ 400) ⌝ }
-    ensures { λ r. ⌜ refusalOf r ≡ rangesRefused (now (rows .entry)) count (now (loops .entry)) dos (now (jumps .entry)) ⌝ }
+fn judge_ranges(rows: &[u64], count: usize, loops: Loops, places: [Sequence; 1424]) -> Verdict
+    requires { ⌜ Ranged (now rows) count loops ⌝ }
+    ensures { λ r. ⌜ refusalOf r ≡ rangesRefused (now (rows .entry)) count loops places ⌝ }
 {
-    let dos_right = refused_at(23, ranges::wrong_do(rows, count, loops, dos, jumps));
-    let jumps_right = refused_at(24, ranges::wrong_jump(rows, count, loops, dos, jumps));
-    let sets_right = refused_at(25, ranges::wrong_set(rows, count, loops, dos, jumps));
+    let dos_right = refused_at(23, ranges::wrong_do(rows, count, loops));
+    let jumps_right = refused_at(24, ranges::wrong_jump(rows, count, loops, places));
+    let sets_right = refused_at(25, ranges::wrong_set(rows, count, loops));
     or_else(dos_right, or_else(jumps_right, sets_right))
 }
 
-// Ranges are judged by positions, which the jumps have once 22 has passed.
+// The places as words, from 0 on.
+fn put_positions(places: [Sequence; 1424], many: usize, words: &mut [u32])
+    requires { ⌜ Inside places many × (length (now words) ≡ 1424) ⌝ }
+    ensures { λ _. ⌜ Positioned places many (now (words .exit)) ⌝ }
+{
+    let mut k: usize = 0;
+    while k < many {
+        let place = places[k];
+        words[k] = tables::position_of(place) as u32;
+        k += 1;
+    }
+}
+
+// Ranges are judged by places, which there are once 22 has passed.
 pub fn judge(
     rows: &[u64],
     count: usize,
@@ -89,12 +111,20 @@ pub fn judge(
     requires { ⌜ Whole (now rows) count (now loops) dos (now jumps) many ⌝ }
     ensures { λ r. ⌜ ((deck : List Statement) → Sketched deck (now (rows .entry)) count (now (loops .entry)) dos (now (jumps .entry)) many → Judged deck (now (jumps .exit)) many r) ⌝ }
 {
-    let by_number = judge_numbers(rows, count, jumps);
-    match by_number {
+    let numbers = tables::numbers(rows, count);
+    let wanted = tables::wanted(jumps, many);
+    let by_number = judge_numbers(rows, numbers, count, wanted, many);
+    let verdict = by_number.verdict;
+    match verdict {
         Verdict::Refused { number, place } => Verdict::Refused {
             number: number,
             place: place,
         },
-        Verdict::Right => judge_ranges(rows, count, loops, dos, jumps),
+        Verdict::Right => {
+            let places = by_number.places;
+            put_positions(places, many, jumps);
+            let ranges = tables::loops_of(loops, dos, places);
+            judge_ranges(rows, count, ranges, places)
+        }
     }
 }

@@ -1,7 +1,7 @@
 -- `compiler::judge_whole` meets its contract. Assumes nothing.
 use native.Mathlib.Omega.{arith}
 use Rattle.whole.proofs.Drafted.{sketched, whole}
-use Rattle.compiler.proofs.Stages.{told, whole-refused, finished, whole-object, whole-short, low-word}
+use Rattle.compiler.proofs.Stages.{told, low, whole-refused, finished, whole-object, whole-short, low-word}
 use borrow.Author.Needs.{needs}
 use Rattle.compiler.proofs.judge_whole.Statement.{statement}
 use Rattle.compiler.proofs.judge_whole.Tie as tie
@@ -15,7 +15,7 @@ judge-requires c κs =
     let st = c .before .before .before .before .before .before .before .before .before .before in
     let d = st .pre .deck in
     let h = st .pre .held in
-    whole d _ _ _ _ _ _ _ _ _ (h .room) (h .fit) (h .kept) (told h)
+    whole d _ _ _ _ _ _ _ _ _ (h .room) (h .fit) (h .kept) (told h) (low h)
 
 enum-known-number : tie.Need-enum-known-number
 enum-known-number c = search needs
@@ -28,7 +28,7 @@ finish-requires c κs =
     let st = c .before .before .before .before .before .before .before .before .before .before .before .before .before .before .before .before .before .before in
     let d = st .pre .deck in
     let h = st .pre .held in
-    record { deck = d; are = finished h _ (c .before .before .before .before .before .before .before .judge .ensures d (sketched d _ _ _ _ _ _ _ _ _ (h .room) (h .fit) (h .kept) (told h))) (c .before .before .before .enum-told .given .1) }
+    record { deck = d; are = finished h _ (c .before .before .before .before .before .before .before .judge .ensures d (sketched d _ _ _ _ _ _ _ _ _ (h .room) (h .fit) (h .kept) (told h) (low h))) (c .before .before .before .enum-told .given .1) }
 
 enum-known-length : tie.Need-enum-known-length
 enum-known-length c = search needs
@@ -47,7 +47,7 @@ returns : tie.Need-returns
 returns c =
     let st = c .before .before .before .before .before .before .before .before .before .before .before .before .before .before .before .before in
     λ d h.
-    whole-refused h (st .args .output .now) _ (c .before .before .before .before .before .judge .ensures d (sketched d _ _ _ _ _ _ _ _ _ (h .room) (h .fit) (h .kept) (told h))) (c .before .number .given .1)
+    whole-refused h (st .args .output .now) _ (c .before .before .before .before .before .judge .ensures d (sketched d _ _ _ _ _ _ _ _ _ (h .room) (h .fit) (h .kept) (told h) (low h))) (c .before .number .given .1)
 
 same-length-2 : tie.Need-same-length-2
 same-length-2 c = search needs
@@ -62,7 +62,7 @@ returns-2 : tie.Need-returns-2
 returns-2 c =
     let st = c .before .before .before .before .before .before .before .before .before .before .before .before .before .before .before .before .before .before .before .before .before .before .before .before .before .before in
     λ d h.
-    whole-object h (st .args .output .now) _ _ (c .before .before .before .before .before .before .before .before .before .before .before .before .before .before .before .judge .ensures d (sketched d _ _ _ _ _ _ _ _ _ (h .room) (h .fit) (h .kept) (told h))) (c .before .before .before .before .before .before .before .before .before .before .before .enum-told .given .1) _ (c .before .before .before .before .before .before .before .finish .ensures .0 d (finished h _ (c .before .before .before .before .before .before .before .before .before .before .before .before .before .before .before .judge .ensures d (sketched d _ _ _ _ _ _ _ _ _ (h .room) (h .fit) (h .kept) (told h))) (c .before .before .before .before .before .before .before .before .before .before .before .enum-told .given .1))) (c .before .length .given .1)
+    whole-object h (st .args .output .now) _ _ (c .before .before .before .before .before .before .before .before .before .before .before .before .before .before .before .judge .ensures d (sketched d _ _ _ _ _ _ _ _ _ (h .room) (h .fit) (h .kept) (told h) (low h))) (c .before .before .before .before .before .before .before .before .before .before .before .enum-told .given .1) _ (c .before .before .before .before .before .before .before .finish .ensures .0 d (finished h _ (c .before .before .before .before .before .before .before .before .before .before .before .before .before .before .before .judge .ensures d (sketched d _ _ _ _ _ _ _ _ _ (h .room) (h .fit) (h .kept) (told h) (low h))) (c .before .before .before .before .before .before .before .before .before .before .before .enum-told .given .1))) (c .before .length .given .1)
 
 same-length-5 : tie.Need-same-length-5
 same-length-5 c = search needs
@@ -77,7 +77,7 @@ returns-3 : tie.Need-returns-3
 returns-3 c =
     let st = c .before .before .before .before .before .before .before .before .before .before .before .before .before .before .before .before .before .before .before .before .before .before .before .before .before in
     λ d h.
-    whole-short h (st .args .output .now) _ _ (c .before .before .before .before .before .before .before .before .before .before .before .before .before .before .judge .ensures d (sketched d _ _ _ _ _ _ _ _ _ (h .room) (h .fit) (h .kept) (told h))) (c .before .before .before .before .before .before .before .before .before .before .enum-told .given .1) _ (c .before .before .before .before .before .before .finish .ensures .0 d (finished h _ (c .before .before .before .before .before .before .before .before .before .before .before .before .before .before .judge .ensures d (sketched d _ _ _ _ _ _ _ _ _ (h .room) (h .fit) (h .kept) (told h))) (c .before .before .before .before .before .before .before .before .before .before .enum-told .given .1))) (c .enum-told2 .given .1)
+    whole-short h (st .args .output .now) _ _ (c .before .before .before .before .before .before .before .before .before .before .before .before .before .before .judge .ensures d (sketched d _ _ _ _ _ _ _ _ _ (h .room) (h .fit) (h .kept) (told h) (low h))) (c .before .before .before .before .before .before .before .before .before .before .enum-told .given .1) _ (c .before .before .before .before .before .before .finish .ensures .0 d (finished h _ (c .before .before .before .before .before .before .before .before .before .before .before .before .before .before .judge .ensures d (sketched d _ _ _ _ _ _ _ _ _ (h .room) (h .fit) (h .kept) (told h) (low h))) (c .before .before .before .before .before .before .before .before .before .before .enum-told .given .1))) (c .enum-told2 .given .1)
 
 pub judge-whole-spec : {M : Type 1} → statement M
 judge-whole-spec =

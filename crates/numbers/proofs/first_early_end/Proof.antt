@@ -2,10 +2,9 @@
 use mathlib.Core.Path.{_≡_, sym, ap, _∙_}
 use Prim.Native.Nat.{suc, _-_, _≤_}
 use native.Mathlib.Omega.{arith}
-use native.Mathlib.Numerals.{add-one}
-use borrow.Author.Tests.{not-true, not-false}
 use mathlib.Core.Option.{some}
-use Rattle.numbers.specs.Rows.{firstFrom, foundOf, endRight}
+use borrow.Author.Tests.{not-true, not-false}
+use Rattle.numbers.specs.Numbers.{firstFrom, foundOf, endRight}
 use Rattle.numbers.proofs.Tests.{first-starts, first-more, first-stops, first-ends}
 use borrow.Author.Needs.{needs}
 use Rattle.numbers.proofs.first_early_end.Statement.{statement}
@@ -19,24 +18,24 @@ abbrev μ-loop : tie.MeasureT-loop
 
 loop-holds : tie.Need-loop-holds Inv-loop μ-loop
 loop-holds c =
-    let R = c .before .args .rows .now in
     let n = c .before .args .count in
-    (omega arith, first-starts (endRight R n) suc n)
+    let test = endRight (c .before .args .rows .now) n in
+    (omega arith, first-starts test suc n)
 
 end-right-requires : tie.Need-end-right-requires Inv-loop μ-loop
 end-right-requires c κs = search needs
 
-add-t6 : tie.Need-add-t6 Inv-loop μ-loop
-add-t6 c = search needs
+sequence-of-requires : tie.Need-sequence-of-requires Inv-loop μ-loop
+sequence-of-requires c κs = search needs
 
 returns : tie.Need-returns Inv-loop μ-loop
 unfolding foundOf
 returns c =
-    let R = c .before .before .before .before .before .args .rows .now in
-    let n = c .before .before .before .before .before .args .count in
-    let i = c .before .before .before .loop .q in
-    let inv = c .before .before .before .loop .inv in
-    sym (inv .1 ∙ first-stops (endRight R n) suc n i (c .before .before .loop-test .taken) (sym (c .before .end-right .ensures) ∙ not-true _ (c .if1 .taken)) ∙ ap some (sym (add-one i)))
+    let n = c .before .before .before .before .before .before .args .count in
+    let test = endRight (c .before .before .before .before .before .before .args .rows .now) n in
+    let q = c .before .before .before .before .loop .q in
+    let inv = c .before .before .before .before .loop .inv in
+    ap some (c .sequence-of .ensures) ∙ sym (inv .1 ∙ first-stops test suc n q (c .before .before .before .loop-test .taken) (sym (c .before .before .end-right .ensures) ∙ not-true _ (c .before .if1 .taken)))
 
 add-q : tie.Need-add-q Inv-loop μ-loop
 add-q c = search needs
@@ -46,20 +45,20 @@ loop-less c = search needs
 
 loop-again : tie.Need-loop-again Inv-loop μ-loop
 loop-again c =
-    let R = c .before .before .before .before .before .args .rows .now in
     let n = c .before .before .before .before .before .args .count in
-    let i = c .before .before .before .loop .q in
+    let test = endRight (c .before .before .before .before .before .args .rows .now) n in
+    let q = c .before .before .before .loop .q in
     let inv = c .before .before .before .loop .inv in
-    (omega arith, inv .1 ∙ first-more (endRight R n) suc n i (c .before .before .loop-test .taken) (sym (c .before .end-right .ensures) ∙ not-false _ (c .if1 .left)))
+    (omega arith, inv .1 ∙ first-more test suc n q (c .before .before .loop-test .taken) (sym (c .before .end-right .ensures) ∙ not-false _ (c .if1 .left)))
 
 returns-2 : tie.Need-returns-2 Inv-loop μ-loop
 unfolding foundOf
 returns-2 c =
-    let R = c .before .before .before .args .rows .now in
     let n = c .before .before .before .args .count in
-    let i = c .before .loop .q in
+    let test = endRight (c .before .before .before .args .rows .now) n in
+    let q = c .before .loop .q in
     let inv = c .before .loop .inv in
-    sym (inv .1 ∙ first-ends (endRight R n) suc n i (c .loop-test .left))
+    sym (inv .1 ∙ first-ends test suc n q (c .loop-test .left))
 
 pub first-early-end-spec : {M : Type 1} → statement M
 first-early-end-spec =
@@ -69,7 +68,7 @@ first-early-end-spec =
     μ-loop
     loop-holds
     end-right-requires
-    add-t6
+    sequence-of-requires
     returns
     add-q
     loop-less

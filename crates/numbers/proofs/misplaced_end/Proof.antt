@@ -1,6 +1,6 @@
 -- `numbers::misplaced_end` meets its contract. Assumes nothing.
 use mathlib.Core.Path.{sym, _∙_}
-use Rattle.numbers.specs.Rows.{foundOf}
+use Rattle.numbers.specs.Numbers.{foundOf}
 use Rattle.numbers.proofs.Ends.{early, well}
 use borrow.Author.Needs.{needs}
 use Rattle.numbers.proofs.misplaced_end.Statement.{statement}
@@ -23,6 +23,9 @@ unfolding foundOf
 returns c =
     well (c .before .before .before .before .before .before .args .rows .now) (c .before .before .before .before .before .before .args .count) (c .before .before .before .before .first-early-end .result) (c .before .before .before .before .first-early-end .ensures) _ (c .before .before .enum-told .given .1) (sym (c .if1 .taken) ∙ c .before .last-ends .ensures)
 
+cast-t7 : tie.Need-cast-t7
+cast-t7 c = search needs
+
 returns-2 : tie.Need-returns-2
 returns-2 c =
     early (c .before .before .before .before .before .args .rows .now) (c .before .before .before .before .before .args .count) (c .before .before .before .first-early-end .result) (c .before .before .before .first-early-end .ensures) _ (c .before .early .given .1)
@@ -41,5 +44,6 @@ misplaced-end-spec =
     enum-told
     last-ends-requires
     returns
+    cast-t7
     returns-2
     returns-3)

@@ -3,7 +3,7 @@ use mathlib.Core.Path.{_≡_, ap, _∙_}
 use Prim.Native.Nat.{_+_, _-_, _≤_}
 use native.Mathlib.Omega.{arith}
 use mathlib.Core.Bool.{Bool, cond}
-use Rattle.numbers.specs.Rows.{countFrom}
+use Rattle.numbers.specs.Numbers.{countFrom}
 use Rattle.ranges.specs.Ranges.{covers}
 use Rattle.ranges.proofs.Counts.{count-starts, count-on, count-done}
 use borrow.Author.Needs.{needs}
@@ -11,18 +11,29 @@ use Rattle.ranges.proofs.depth_at.Statement.{statement}
 use Rattle.ranges.proofs.depth_at.Tie as tie
 
 abbrev Inv-loop : tie.InvT-loop
-Inv-loop loops dos jumps j deep₀ k₀ deep k = (k ≤ dos) × ((deep ≤ k) × (countFrom (covers loops jumps j) dos 0 ≡ deep + countFrom (covers loops jumps j) (dos - k) k))
+Inv-loop at loops dos deep₀ k₀ deep k = (k ≤ loops .count) × ((deep ≤ k) × (countFrom (covers loops (at .0)) (loops .count) 0 ≡ deep + countFrom (covers loops (at .0)) (loops .count - k) k))
 
 abbrev μ-loop : tie.MeasureT-loop
-μ-loop loops dos jumps j deep₀ k₀ deep k = dos - k
+μ-loop at loops dos deep₀ k₀ deep k = loops .count - k
 
 loop-holds : tie.Need-loop-holds Inv-loop μ-loop
 loop-holds c =
-    let L = c .before .before .args .loops .now in
-    let J = c .before .before .args .jumps .now in
-    let test = covers L J (c .before .before .args .j) in
-    let n = c .before .before .args .dos in
+    let D = c .args .t1 in
+    let test = covers D (c .args .at .0) in
+    let n = D .count in
     (omega arith, (omega arith, count-starts test n))
+
+mul-first : tie.Need-mul-first Inv-loop μ-loop
+mul-first c = search needs
+
+element-copy-out-first : tie.Need-element-copy-out-first Inv-loop μ-loop
+element-copy-out-first c = search needs
+
+mul-last : tie.Need-mul-last Inv-loop μ-loop
+mul-last c = search needs
+
+element-copy-out-last : tie.Need-element-copy-out-last Inv-loop μ-loop
+element-copy-out-last c = search needs
 
 in-range-requires : tie.Need-in-range-requires Inv-loop μ-loop
 in-range-requires c κs = search needs
@@ -40,22 +51,21 @@ loop-less : tie.Need-loop-less Inv-loop μ-loop
 loop-less c = search needs
 
 loop-again : tie.Need-loop-again Inv-loop μ-loop
+unfolding covers
 loop-again c =
-    let L = c .before .before .before .before .before .before .args .loops .now in
-    let J = c .before .before .before .before .before .before .args .jumps .now in
-    let test = covers L J (c .before .before .before .before .before .before .args .j) in
-    let n = c .before .before .before .before .before .before .args .dos in
-    let inv = c .before .before .before .loop .inv in
-    let k = c .before .before .before .loop .k in
-    let deep = c .before .before .before .loop .deep in
-    (omega arith, (omega (arith, c .one-if .ensures .1, inv .1 .0), count-on test n k deep (c .one-if .result) (c .before .before .loop-test .taken) (inv .1 .1) (c .one-if .ensures .0 ∙ ap (λ (b : Bool). cond b 1 0) (c .before .in-range .ensures))))
+    let D = c .before .before .before .before .before .before .args .t1 in
+    let test = covers D (c .before .before .before .before .before .before .args .at .0) in
+    let n = D .count in
+    let inv = c .before .before .before .before .before .loop .inv in
+    let k = c .before .before .before .before .before .loop .k in
+    let deep = c .before .before .before .before .before .loop .deep in
+    (omega arith, (omega (arith, c .one-if .ensures .1, inv .1 .0), count-on test n k deep (c .one-if .result) (c .before .before .before .before .loop-test .taken) (inv .1 .1) (c .one-if .ensures .0 ∙ ap (λ (b : Bool). cond b 1 0) (c .before .in-range .ensures))))
 
 returns : tie.Need-returns Inv-loop μ-loop
 returns c =
-    let L = c .before .before .before .before .args .loops .now in
-    let J = c .before .before .before .before .args .jumps .now in
-    let test = covers L J (c .before .before .before .before .args .j) in
-    let n = c .before .before .before .before .args .dos in
+    let D = c .before .before .args .t1 in
+    let test = covers D (c .before .before .args .at .0) in
+    let n = D .count in
     let inv = c .before .loop .inv in
     let k = c .before .loop .k in
     let deep = c .before .loop .deep in
@@ -68,6 +78,10 @@ depth-at-spec =
     Inv-loop
     μ-loop
     loop-holds
+    mul-first
+    element-copy-out-first
+    mul-last
+    element-copy-out-last
     in-range-requires
     one-if-requires
     add-deep

@@ -1,39 +1,35 @@
 -- `ranges::do_right` meets its contract. Assumes nothing.
+use mathlib.Core.Path.{_≡_}
+use Prim.Native.Nat.{_-_}
 use native.Mathlib.Omega.{arith}
-use Rattle.ranges.specs.Ranges.{doRight}
+use Rattle.ranges.specs.Ranges.{doRight, lastAt}
 use borrow.Author.Needs.{needs}
 use Rattle.ranges.proofs.do_right.Statement.{statement}
 use Rattle.ranges.proofs.do_right.Tie as tie
 
-do-at-requires : tie.Need-do-at-requires
-do-at-requires c κs = search needs
+mul-first : tie.Need-mul-first
+mul-first c = search needs
 
-last-at-requires : tie.Need-last-at-requires
-last-at-requires c κs = search needs
+element-copy-out-first : tie.Need-element-copy-out-first
+element-copy-out-first c = search needs
 
-mul-may-end : tie.Need-mul-may-end
-mul-may-end c =
-    let p = c .before .before .before .before .before .pre in
-    let h = p .0 .ends (c .before .before .before .before .before .args .i) (p .1) in
-    omega (arith, h, p .0 .rows-long, c .last-at .ensures)
+mul-last : tie.Need-mul-last
+mul-last c = search needs
 
-add-may-end : tie.Need-add-may-end
-add-may-end c =
-    let p = c .before .before .before .before .before .pre in
-    let h = p .0 .ends (c .before .before .before .before .before .args .i) (p .1) in
-    omega (arith, h, p .0 .rows-long, c .last-at .ensures)
+element-copy-out-last : tie.Need-element-copy-out-last
+element-copy-out-last c = search needs
 
-mul-may-end-2 : tie.Need-mul-may-end-2
-mul-may-end-2 c =
-    let p = c .before .before .before .before .before .pre in
-    let h = p .0 .ends (c .before .before .before .before .before .args .i) (p .1) in
-    omega (arith, h, p .0 .rows-long, c .last-at .ensures)
+position-of-requires : tie.Need-position-of-requires
+position-of-requires c κs =
+    let p = c .before .before .before .pre in
+    let i = c .before .before .before .args .i in
+    p .0 .from-one i (p .1) .1
 
-shared-slice-read-may-end : tie.Need-shared-slice-read-may-end
-shared-slice-read-may-end c =
-    let p = c .before .before .before .before .before .before .pre in
-    let h = p .0 .ends (c .before .before .before .before .before .before .args .i) (p .1) in
-    omega (arith, h, p .0 .rows-long, c .before .last-at .ensures)
+kind-of-requires : tie.Need-kind-of-requires
+kind-of-requires c κs =
+    let p = c .before .before .before .before .pre in
+    let i = c .before .before .before .before .args .i in
+    omega (arith, p .0 .to-last i (p .1) .1, p .0 .rows-long, c .position-of .ensures)
 
 may-end-requires : tie.Need-may-end-requires
 may-end-requires c κs = search needs
@@ -47,18 +43,20 @@ depth-at-requires c κs = search needs
 returns : tie.Need-returns
 unfolding doRight
 returns c =
-    rw (c .before .before .may-end .ensures, c .before .crosses-none .ensures, c .depth-at .ensures, c .before .before .before .before .before .do-at .ensures, c .before .before .before .before .last-at .ensures)
+    let i = c .before .before .before .before .before .before .before .before .before .before .args .i in
+    let a : c .before .before .before .before .before .before .position-of .result ≡ lastAt (c .before .before .before .before .before .before .before .before .before .before .args .t3) i - 1 = omega (arith, c .before .before .before .before .before .before .position-of .ensures) in
+    rw (c .before .before .before .before .may-end .ensures, c .before .before .before .crosses-none .ensures, c .before .before .depth-at .ensures, c .before .before .before .before .before .kind-of .ensures, a)
 
 pub do-right-spec : {M : Type 1} → statement M
 do-right-spec =
     tie.close
     (tie.spec
-    do-at-requires
-    last-at-requires
-    mul-may-end
-    add-may-end
-    mul-may-end-2
-    shared-slice-read-may-end
+    mul-first
+    element-copy-out-first
+    mul-last
+    element-copy-out-last
+    position-of-requires
+    kind-of-requires
     may-end-requires
     crosses-none-requires
     depth-at-requires

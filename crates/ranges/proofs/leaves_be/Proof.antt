@@ -1,48 +1,27 @@
 -- `ranges::leaves_be` meets its contract. Assumes nothing.
+use mathlib.Core.Path.{_≡_}
+use Prim.Native.Nat.{_-_}
 use native.Mathlib.Omega.{arith}
 use Rattle.ranges.specs.Ranges.{leaves}
 use borrow.Author.Needs.{needs}
 use Rattle.ranges.proofs.leaves_be.Statement.{statement}
 use Rattle.ranges.proofs.leaves_be.Tie as tie
 
-do-at-requires : tie.Need-do-at-requires
-do-at-requires c κs = search needs
+position-of-requires : tie.Need-position-of-requires
+position-of-requires c κs =
+    c .before .pre .0 .0
 
-mul-same : tie.Need-mul-same
-mul-same c =
-    let p = c .before .before .before .before .pre in
-    let h = p .0 .starts (c .before .before .before .before .args .i) (p .1 .1) in
-    omega (arith, h, p .0 .rows-long, p .1 .0, c .do-at .ensures)
+set-of-requires : tie.Need-set-of-requires
+set-of-requires c κs =
+    omega (arith, c .position-of .ensures, c .before .before .pre .0 .1)
 
-add-same : tie.Need-add-same
-add-same c =
-    let p = c .before .before .before .before .pre in
-    let h = p .0 .starts (c .before .before .before .before .args .i) (p .1 .1) in
-    omega (arith, h, p .0 .rows-long, p .1 .0, c .do-at .ensures)
+position-of-requires-2 : tie.Need-position-of-requires-2
+position-of-requires-2 c κs =
+    c .before .before .before .pre .1 .0
 
-mul-same-2 : tie.Need-mul-same-2
-mul-same-2 c =
-    let p = c .before .before .before .before .pre in
-    let h = p .0 .starts (c .before .before .before .before .args .i) (p .1 .1) in
-    omega (arith, h, p .0 .rows-long, p .1 .0, c .do-at .ensures)
-
-shared-slice-read-same : tie.Need-shared-slice-read-same
-shared-slice-read-same c =
-    let p = c .before .before .before .before .before .pre in
-    let h = p .0 .starts (c .before .before .before .before .before .args .i) (p .1 .1) in
-    omega (arith, h, p .0 .rows-long, p .1 .0, c .before .do-at .ensures)
-
-mul-same-3 : tie.Need-mul-same-3
-mul-same-3 c = search needs
-
-add-same-2 : tie.Need-add-same-2
-add-same-2 c = search needs
-
-mul-same-4 : tie.Need-mul-same-4
-mul-same-4 c = search needs
-
-shared-slice-read-same-2 : tie.Need-shared-slice-read-same-2
-shared-slice-read-same-2 c = search needs
+set-of-requires-2 : tie.Need-set-of-requires-2
+set-of-requires-2 c κs =
+    omega (arith, c .position-of2 .ensures, c .before .before .before .before .pre .1 .1)
 
 in-range-requires : tie.Need-in-range-requires
 in-range-requires c κs = search needs
@@ -50,20 +29,17 @@ in-range-requires c κs = search needs
 returns : tie.Need-returns
 unfolding leaves
 returns c =
-    rw (c .in-range .ensures, c .before .before .before .do-at .ensures)
+    let a : c .before .before .before .before .position-of .result ≡ c .before .before .before .before .before .before .args .first .0 - 1 = omega (arith, c .before .before .before .before .position-of .ensures) in
+    let b : c .before .before .position-of2 .result ≡ c .before .before .before .before .before .before .args .at .0 - 1 = omega (arith, c .before .before .position-of2 .ensures) in
+    rw (c .in-range .ensures, c .before .before .before .set-of .ensures, c .before .set-of2 .ensures, a, b)
 
 pub leaves-be-spec : {M : Type 1} → statement M
 leaves-be-spec =
     tie.close
     (tie.spec
-    do-at-requires
-    mul-same
-    add-same
-    mul-same-2
-    shared-slice-read-same
-    mul-same-3
-    add-same-2
-    mul-same-4
-    shared-slice-read-same-2
+    position-of-requires
+    set-of-requires
+    position-of-requires-2
+    set-of-requires-2
     in-range-requires
     returns)

@@ -1,5 +1,5 @@
 -- `ranges::stays_out` meets its contract. Assumes nothing.
-use Rattle.ranges.specs.Ranges.{staysOut}
+use Rattle.ranges.specs.Ranges.{outside}
 use borrow.Author.Needs.{needs}
 use Rattle.ranges.proofs.stays_out.Statement.{statement}
 use Rattle.ranges.proofs.stays_out.Tie as tie
@@ -11,7 +11,7 @@ in-range-requires-2 : tie.Need-in-range-requires-2
 in-range-requires-2 c κs = search needs
 
 returns : tie.Need-returns
-unfolding staysOut
+unfolding outside
 returns c =
     rw (c .before .in-range .ensures, c .in-range2 .ensures)
 

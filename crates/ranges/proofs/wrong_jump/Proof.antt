@@ -2,150 +2,199 @@
 use mathlib.Core.Path.{_≡_, refl, sym, ap, _∙_}
 use Prim.Native.Nat.{suc, _-_, _≤_}
 use native.Mathlib.Omega.{arith}
-use native.Mathlib.Numerals.{add-one}
 use mathlib.Core.Option.{some}
 use borrow.Author.Tests.{not-true, not-false}
-use Rattle.numbers.specs.Rows.{firstFrom, foundOf, startOf}
-use Rattle.numbers.proofs.Tests.{first-starts, first-more, first-stops, first-ends}
-use Rattle.numbers.proofs.Settling.{jumps-inside}
-use Rattle.ranges.specs.Ranges.{jumpsRight}
-use Rattle.ranges.proofs.Jumps.{start-on, jumps-told}
+use Rattle.numbers.specs.Numbers.{allFrom, firstFrom, foundOf}
+use Rattle.numbers.proofs.Tests.{first-starts, first-more, first-stops, first-ends, all-more, all-stops, all-ends}
+use Rattle.numbers.proofs.Starts.{jumps-inside, start-on}
+use Rattle.tables.specs.Rows.{startOf}
+use Rattle.ranges.specs.Ranges.{jumpStays, jumpsRight}
+use Rattle.ranges.proofs.Jumps.{exits-few, jumps-told}
 use borrow.Author.Needs.{needs}
 use Rattle.ranges.proofs.wrong_jump.Statement.{statement}
 use Rattle.ranges.proofs.wrong_jump.Tie as tie
 
+abbrev Inv-loop2 : tie.InvT-loop2
+Inv-loop2 rows count loops places at q here end k₀ k = (at ≤ k) × ((k ≤ end) × (allFrom (jumpStays loops places (here .0)) (end - at) at ≡ allFrom (jumpStays loops places (here .0)) (end - k) k))
+
+abbrev μ-loop2 : tie.MeasureT-loop2
+μ-loop2 rows count loops places at q here end k₀ k = end - k
+
 abbrev Inv-loop : tie.InvT-loop
-Inv-loop rows count loops dos jumps q₀ at₀ q at = (q ≤ count) × ((at ≡ startOf rows q) × (firstFrom (jumpsRight rows loops dos jumps) suc count 0 ≡ firstFrom (jumpsRight rows loops dos jumps) suc (count - q) q))
+Inv-loop rows count loops places at₀ q₀ at q = (q ≤ count) × ((at ≡ startOf rows q) × (firstFrom (jumpsRight rows loops places) suc count 0 ≡ firstFrom (jumpsRight rows loops places) suc (count - q) q))
 
 abbrev μ-loop : tie.MeasureT-loop
-μ-loop rows count loops dos jumps q₀ at₀ q at = count - q
+μ-loop rows count loops places at₀ q₀ at q = count - q
 
-loop-holds : tie.Need-loop-holds Inv-loop μ-loop
+loop-holds : tie.Need-loop-holds Inv-loop2 μ-loop2 Inv-loop μ-loop
 loop-holds c =
-    let R = c .before .before .before .args .rows .now in
-    let L = c .before .before .before .args .loops .now in
-    let J = c .before .before .before .args .jumps .now in
-    let d = c .before .before .before .args .dos in
-    let n = c .before .before .before .args .count in
-    (omega arith, (refl, first-starts (jumpsRight R L d J) suc n))
+    let n = c .before .args .count in
+    let R = c .before .args .rows .now in
+    let D = c .before .args .loops in
+    let P = c .before .args .t4 in
+    let test = jumpsRight R D P in
+    (omega arith, (refl, first-starts test suc n))
 
-mul-size : tie.Need-mul-size Inv-loop μ-loop
-mul-size c = search needs
+sequence-of-requires : tie.Need-sequence-of-requires Inv-loop2 μ-loop2 Inv-loop μ-loop
+sequence-of-requires c κs = search needs
 
-add-size : tie.Need-add-size Inv-loop μ-loop
-add-size c = search needs
+exits-of-requires : tie.Need-exits-of-requires Inv-loop2 μ-loop2 Inv-loop μ-loop
+exits-of-requires c κs = search needs
 
-mul-size-2 : tie.Need-mul-size-2 Inv-loop μ-loop
-mul-size-2 c = search needs
-
-shared-slice-read-size : tie.Need-shared-slice-read-size Inv-loop μ-loop
-shared-slice-read-size c = search needs
-
-size-requires : tie.Need-size-requires Inv-loop μ-loop
-size-requires c κs = search needs
-
-add-end : tie.Need-add-end Inv-loop μ-loop
+add-end : tie.Need-add-end Inv-loop2 μ-loop2 Inv-loop μ-loop
 add-end c =
-    let R = c .before .before .before .before .before .before .before .args .rows .now in
-    let n = c .before .before .before .before .before .before .before .args .count in
+    let n = c .before .before .before .before .before .args .count in
+    let R = c .before .before .before .before .before .args .rows .now in
     let q = c .before .before .before .loop .q in
     let inv = c .before .before .before .loop .inv in
-    let h = jumps-inside R q n (c .before .before .loop-test .taken) in
-    let s = inv .1 .0 in
-    let w = c .before .before .before .before .before .before .before .pre .jumps-long in
-    omega (arith, h, s, w, c .size .ensures)
+    let p = c .before .before .before .before .before .pre in
+    let inside = jumps-inside R q n (c .before .before .loop-test .taken) in
+    let few = exits-few R q in
+    omega (arith, inside, few, inv .1 .0, p .few-jumps, c .exits-of .ensures)
 
-jumps-stay-requires : tie.Need-jumps-stay-requires Inv-loop μ-loop
-jumps-stay-requires c κs =
-    let R = c .before .before .before .before .before .before .before .args .rows .now in
+loop2-holds : tie.Need-loop2-holds Inv-loop2 μ-loop2 Inv-loop μ-loop
+loop2-holds c =
+    (omega arith, (omega arith, refl))
+
+mul-target : tie.Need-mul-target Inv-loop2 μ-loop2 Inv-loop μ-loop
+mul-target c =
     let n = c .before .before .before .before .before .before .before .args .count in
-    let q = c .before .before .before .loop .q in
-    let inv = c .before .before .before .loop .inv in
-    let h = jumps-inside R q n (c .before .before .loop-test .taken) in
-    let s = inv .1 .0 in
-    let w = c .before .before .before .before .before .before .before .pre .jumps-long in
-    (c .before .before .before .before .before .before .before .pre .inside, (omega arith, omega (arith, h, s, w, c .size .ensures)))
+    let R = c .before .before .before .before .before .before .before .args .rows .now in
+    let q = c .before .before .before .before .before .loop .q in
+    let inv = c .before .before .before .before .before .loop .inv in
+    let p = c .before .before .before .before .before .before .before .pre in
+    let inside = jumps-inside R q n (c .before .before .before .before .loop-test .taken) in
+    let few = exits-few R q in
+    omega (arith, inside, few, inv .1 .0, p .few-jumps, c .before .before .exits-of .ensures, c .loop2-test .taken)
 
-mul-if1 : tie.Need-mul-if1 Inv-loop μ-loop
-mul-if1 c = search needs
+array-copy-out-target : tie.Need-array-copy-out-target Inv-loop2 μ-loop2 Inv-loop μ-loop
+array-copy-out-target c =
+    let n = c .before .before .before .before .before .before .before .args .count in
+    let R = c .before .before .before .before .before .before .before .args .rows .now in
+    let q = c .before .before .before .before .before .loop .q in
+    let inv = c .before .before .before .before .before .loop .inv in
+    let p = c .before .before .before .before .before .before .before .pre in
+    let inside = jumps-inside R q n (c .before .before .before .before .loop-test .taken) in
+    let few = exits-few R q in
+    omega (arith, inside, few, inv .1 .0, p .few-jumps, c .before .before .exits-of .ensures, c .loop2-test .taken)
 
-add-if1 : tie.Need-add-if1 Inv-loop μ-loop
-add-if1 c = search needs
+stays-out-of-all-requires : tie.Need-stays-out-of-all-requires Inv-loop2 μ-loop2 Inv-loop μ-loop
+stays-out-of-all-requires c κs =
+    c .before .before .before .before .before .before .before .before .pre .few-dos
 
-mul-if1-2 : tie.Need-mul-if1-2 Inv-loop μ-loop
-mul-if1-2 c = search needs
-
-shared-slice-read-if1 : tie.Need-shared-slice-read-if1 Inv-loop μ-loop
-shared-slice-read-if1 c = search needs
-
-add-t20 : tie.Need-add-t20 Inv-loop μ-loop
-add-t20 c = search needs
-
-returns : tie.Need-returns Inv-loop μ-loop
-unfolding foundOf
+returns : tie.Need-returns Inv-loop2 μ-loop2 Inv-loop μ-loop
+unfolding foundOf jumpStays
 returns c =
-    let R = c .before .before .before .before .before .before .before .before .before .before .args .rows .now in
-    let L = c .before .before .before .before .before .before .before .before .before .before .args .loops .now in
-    let J = c .before .before .before .before .before .before .before .before .before .before .args .jumps .now in
-    let d = c .before .before .before .before .before .before .before .before .before .before .args .dos in
     let n = c .before .before .before .before .before .before .before .before .before .before .args .count in
-    let q = c .before .before .before .before .before .before .loop .q in
-    let at = c .before .before .before .before .before .before .loop .at in
-    let inv = c .before .before .before .before .before .before .loop .inv in
-    let told = jumps-told R L d J q at (c .before .before .before .size .result) (c .before .before .jumps-stay .result) (inv .1 .0) (c .before .before .before .size .ensures) (c .before .before .jumps-stay .ensures) in
-    sym (inv .1 .1 ∙ first-stops (jumpsRight R L d J) suc n q (c .before .before .before .before .before .loop-test .taken) (sym told ∙ not-true _ (c .if1 .taken)) ∙ ap some (sym (add-one q)))
+    let R = c .before .before .before .before .before .before .before .before .before .before .args .rows .now in
+    let D = c .before .before .before .before .before .before .before .before .before .before .args .loops in
+    let P = c .before .before .before .before .before .before .before .before .before .before .args .t4 in
+    let test = jumpsRight R D P in
+    let q = c .before .before .before .before .before .before .before .before .loop .q in
+    let at = c .before .before .before .before .before .before .before .before .loop .at in
+    let inv = c .before .before .before .before .before .before .before .before .loop .inv in
+    let stays = jumpStays D P (c .before .before .before .before .before .before .sequence-of .result .0) in
+    let told = jumps-told R D P q at (c .before .before .before .before .before .exits-of .result) (c .before .before .before .before .before .before .sequence-of .result .0) (inv .1 .0) (c .before .before .before .before .before .exits-of .ensures) (c .before .before .before .before .before .before .sequence-of .ensures) in
+    let k = c .before .before .before .before .loop2 .k in
+    let turn = c .before .before .before .before .loop2 .inv in
+    let wrong = sym told ∙ turn .1 .1 ∙ all-stops stays _ k (c .before .before .before .loop2-test .taken) (sym (c .before .stays-out-of-all .ensures) ∙ not-true _ (c .if1 .taken)) in
+    ap some (c .before .before .before .before .before .before .sequence-of .ensures) ∙ sym (inv .1 .1 ∙ first-stops test suc n q (c .before .before .before .before .before .before .before .loop-test .taken) wrong)
 
-add-q : tie.Need-add-q Inv-loop μ-loop
+add-k : tie.Need-add-k Inv-loop2 μ-loop2 Inv-loop μ-loop
+add-k c =
+    let n = c .before .before .before .before .before .before .before .before .before .before .args .count in
+    let R = c .before .before .before .before .before .before .before .before .before .before .args .rows .now in
+    let q = c .before .before .before .before .before .before .before .before .loop .q in
+    let inv = c .before .before .before .before .before .before .before .before .loop .inv in
+    let p = c .before .before .before .before .before .before .before .before .before .before .pre in
+    let inside = jumps-inside R q n (c .before .before .before .before .before .before .before .loop-test .taken) in
+    let few = exits-few R q in
+    omega (arith, inside, few, inv .1 .0, p .few-jumps, c .before .before .before .before .before .exits-of .ensures, c .before .before .before .loop2-test .taken)
+
+loop2-less : tie.Need-loop2-less Inv-loop2 μ-loop2 Inv-loop μ-loop
+loop2-less c = search needs
+
+loop2-again : tie.Need-loop2-again Inv-loop2 μ-loop2 Inv-loop μ-loop
+unfolding jumpStays
+loop2-again c =
+    let D = c .before .before .before .before .before .before .before .before .before .before .args .loops in
+    let P = c .before .before .before .before .before .before .before .before .before .before .args .t4 in
+    let inv = c .before .before .before .before .before .before .before .before .loop .inv in
+    let stays = jumpStays D P (c .before .before .before .before .before .before .sequence-of .result .0) in
+    let k = c .before .before .before .before .loop2 .k in
+    let turn = c .before .before .before .before .loop2 .inv in
+    (omega (arith, turn .0), (omega (arith, c .before .before .before .loop2-test .taken), turn .1 .1 ∙ all-more stays _ k (c .before .before .before .loop2-test .taken) (sym (c .before .stays-out-of-all .ensures) ∙ not-false _ (c .if1 .left))))
+
+jumps-of-requires : tie.Need-jumps-of-requires Inv-loop2 μ-loop2 Inv-loop μ-loop
+jumps-of-requires c κs = search needs
+
+add-at : tie.Need-add-at Inv-loop2 μ-loop2 Inv-loop μ-loop
+add-at c =
+    let n = c .before .before .before .before .before .before .before .before .args .count in
+    let R = c .before .before .before .before .before .before .before .before .args .rows .now in
+    let q = c .before .before .before .before .before .before .loop .q in
+    let inv = c .before .before .before .before .before .before .loop .inv in
+    let p = c .before .before .before .before .before .before .before .before .pre in
+    let inside = jumps-inside R q n (c .before .before .before .before .before .loop-test .taken) in
+    omega (arith, inside, inv .1 .0, p .few-jumps, c .jumps-of .ensures)
+
+add-q : tie.Need-add-q Inv-loop2 μ-loop2 Inv-loop μ-loop
 add-q c = search needs
 
-loop-less : tie.Need-loop-less Inv-loop μ-loop
+loop-less : tie.Need-loop-less Inv-loop2 μ-loop2 Inv-loop μ-loop
 loop-less c = search needs
 
-loop-again : tie.Need-loop-again Inv-loop μ-loop
+loop-again : tie.Need-loop-again Inv-loop2 μ-loop2 Inv-loop μ-loop
 loop-again c =
-    let R = c .before .before .before .before .before .before .before .before .before .before .args .rows .now in
-    let L = c .before .before .before .before .before .before .before .before .before .before .args .loops .now in
-    let J = c .before .before .before .before .before .before .before .before .before .before .args .jumps .now in
-    let d = c .before .before .before .before .before .before .before .before .before .before .args .dos in
-    let n = c .before .before .before .before .before .before .before .before .before .before .args .count in
+    let n = c .before .before .before .before .before .before .before .before .args .count in
+    let R = c .before .before .before .before .before .before .before .before .args .rows .now in
+    let D = c .before .before .before .before .before .before .before .before .args .loops in
+    let P = c .before .before .before .before .before .before .before .before .args .t4 in
+    let test = jumpsRight R D P in
     let q = c .before .before .before .before .before .before .loop .q in
     let at = c .before .before .before .before .before .before .loop .at in
     let inv = c .before .before .before .before .before .before .loop .inv in
-    let told = jumps-told R L d J q at (c .before .before .before .size .result) (c .before .before .jumps-stay .result) (inv .1 .0) (c .before .before .before .size .ensures) (c .before .before .jumps-stay .ensures) in
-    (omega arith, (start-on R q at (c .before .before .before .size .result) (inv .1 .0) (c .before .before .before .size .ensures), inv .1 .1 ∙ first-more (jumpsRight R L d J) suc n q (c .before .before .before .before .before .loop-test .taken) (sym told ∙ not-false _ (c .if1 .left))))
+    let stays = jumpStays D P (c .before .before .before .before .sequence-of .result .0) in
+    let told = jumps-told R D P q at (c .before .before .before .exits-of .result) (c .before .before .before .before .sequence-of .result .0) (inv .1 .0) (c .before .before .before .exits-of .ensures) (c .before .before .before .before .sequence-of .ensures) in
+    let k = c .before .before .loop2 .k in
+    let turn = c .before .before .loop2 .inv in
+    let right = sym told ∙ turn .1 .1 ∙ all-ends stays _ k (c .before .loop2-test .left) in
+    (omega (arith, c .before .before .before .before .before .loop-test .taken), (start-on R q at (c .jumps-of .result) (inv .1 .0) (c .jumps-of .ensures), inv .1 .1 ∙ first-more test suc n q (c .before .before .before .before .before .loop-test .taken) right))
 
-returns-2 : tie.Need-returns-2 Inv-loop μ-loop
+returns-2 : tie.Need-returns-2 Inv-loop2 μ-loop2 Inv-loop μ-loop
 unfolding foundOf
 returns-2 c =
-    let R = c .before .before .before .before .before .args .rows .now in
-    let L = c .before .before .before .before .before .args .loops .now in
-    let J = c .before .before .before .before .before .args .jumps .now in
-    let d = c .before .before .before .before .before .args .dos in
-    let n = c .before .before .before .before .before .args .count in
+    let n = c .before .before .before .args .count in
+    let R = c .before .before .before .args .rows .now in
+    let D = c .before .before .before .args .loops in
+    let P = c .before .before .before .args .t4 in
+    let test = jumpsRight R D P in
     let q = c .before .loop .q in
     let inv = c .before .loop .inv in
-    sym (inv .1 .1 ∙ first-ends (jumpsRight R L d J) suc n q (c .loop-test .left))
+    sym (inv .1 .1 ∙ first-ends test suc n q (c .loop-test .left))
 
 pub wrong-jump-spec : {M : Type 1} → statement M
 wrong-jump-spec =
     tie.close
     (tie.spec
+    Inv-loop2
+    μ-loop2
     Inv-loop
     μ-loop
     loop-holds
-    mul-size
-    add-size
-    mul-size-2
-    shared-slice-read-size
-    size-requires
+    sequence-of-requires
+    exits-of-requires
     add-end
-    jumps-stay-requires
-    mul-if1
-    add-if1
-    mul-if1-2
-    shared-slice-read-if1
-    add-t20
+    loop2-holds
+    mul-target
+    array-copy-out-target
+    stays-out-of-all-requires
     returns
+    add-k
+    loop2-less
+    loop2-again
+    jumps-of-requires
+    add-at
     add-q
     loop-less
     loop-again

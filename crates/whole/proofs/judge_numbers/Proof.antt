@@ -1,43 +1,44 @@
 -- `whole::judge_numbers` meets its contract. Assumes nothing.
-use mathlib.Core.Path.{ap, _∙_}
+use mathlib.Core.Path.{ap, subst, _∙_}
+use Prim.Native.Nat.{ℕ}
+use native.Mathlib.Omega.{arith}
 use Rattle.rules_deck.specs.Whole.{refusedAt}
-use Rattle.numbers.specs.Rows.{numberRight, jumpsKnown}
+use Rattle.numbers.specs.Numbers.{Resolves}
+use Rattle.numbers.proofs.Resolving.{unknown-user}
 use Rattle.whole.specs.Parts.{numbersRefused}
-use Rattle.whole.proofs.Answers.{near-first, near-end, three, numbered}
+use Rattle.whole.proofs.Answers.{three, by-number}
 use borrow.Author.Needs.{needs}
 use Rattle.whole.proofs.judge_numbers.Statement.{statement}
 use Rattle.whole.proofs.judge_numbers.Tie as tie
 
 misplaced-end-requires : tie.Need-misplaced-end-requires
-misplaced-end-requires c κs = search needs
+misplaced-end-requires c κs =
+    let p = c .before .pre in
+    (p .0 .long, p .0 .few)
 
 refused-at-requires : tie.Need-refused-at-requires
-refused-at-requires c κs =
-    let R = c .before .before .before .args .rows .now in
-    let n = c .before .before .before .args .count in
-    let few = c .before .before .before .pre .0 .1 in
-    near-end (c .misplaced-end .result) n few R (c .misplaced-end .ensures)
+refused-at-requires c κs = search needs
 
 misnumbered-requires : tie.Need-misnumbered-requires
-misnumbered-requires c κs = search needs
+misnumbered-requires c κs =
+    let p = c .before .before .before .pre in
+    (p .0 .long, p .0 .few)
 
 refused-at-requires-2 : tie.Need-refused-at-requires-2
-refused-at-requires-2 c κs =
-    let R = c .before .before .before .before .before .args .rows .now in
-    let n = c .before .before .before .before .before .args .count in
-    let few = c .before .before .before .before .before .pre .0 .1 in
-    near-first (c .misnumbered .result) n few (numberRight R n) (c .misnumbered .ensures)
+refused-at-requires-2 c κs = search needs
 
-place-all-requires : tie.Need-place-all-requires
-place-all-requires c κs = search needs
+resolve-requires : tie.Need-resolve-requires
+resolve-requires c κs =
+    let p = c .before .before .before .before .before .pre in
+    (p .0 .few, p .1 .1)
+
+user-of-requires : tie.Need-user-of-requires
+user-of-requires c κs =
+    let p = c .before .before .before .before .before .before .pre in
+    ((p .0 .long, p .0 .few), omega (arith, p .1 .0, p .1 .1))
 
 refused-at-requires-3 : tie.Need-refused-at-requires-3
-refused-at-requires-3 c κs =
-    let R = c .before .before .before .before .before .before .before .before .before .before .args .rows .now in
-    let n = c .before .before .before .before .before .before .before .before .before .before .args .count in
-    let J = c .before .before .before .before .before .before .before .before .before .before .args .jumps .now in
-    let few = c .before .before .before .before .before .before .before .before .before .before .pre .0 .1 in
-    near-first (c .before .before .place-all .result) n few (jumpsKnown R n J) (c .before .before .place-all .ensures .says)
+refused-at-requires-3 c κs = search needs
 
 or-else-requires : tie.Need-or-else-requires
 or-else-requires c κs = search needs
@@ -45,17 +46,18 @@ or-else-requires c κs = search needs
 or-else-requires-2 : tie.Need-or-else-requires-2
 or-else-requires-2 c κs = search needs
 
-same-length : tie.Need-same-length
-same-length c = search needs
-
 returns : tie.Need-returns
 unfolding numbersRefused
 returns c =
-    let R = c .before .before .before .before .before .before .before .before .before .before .before .before .before .args .rows .now in
-    let n = c .before .before .before .before .before .before .before .before .before .before .before .before .before .args .count in
-    let J = c .before .before .before .before .before .before .before .before .before .before .before .before .before .args .jumps .now in
-    numbered R n J _ (c .before .before .before .before .before .place-all .result) _ (c .before .before .before .before .before .place-all .ensures) (three (c .before .before .before .before .before .before .before .before .before .refused-at .result) (c .before .before .before .before .before .before .before .refused-at2 .result) (c .before .before .refused-at3 .result) (c .before .or-else .result) (c .or-else2 .result) _ _ _
-    (c .before .before .before .before .before .before .before .before .before .refused-at .ensures ∙ ap (refusedAt 20) (c .before .before .before .before .before .before .before .before .before .before .misplaced-end .ensures)) (c .before .before .before .before .before .before .before .refused-at2 .ensures ∙ ap (refusedAt 21) (c .before .before .before .before .before .before .before .before .misnumbered .ensures)) (c .before .before .refused-at3 .ensures ∙ ap (refusedAt 22) (c .before .before .before .before .before .place-all .ensures .says))
+    let R = c .before .before .before .before .before .before .before .before .before .before .before .args .rows .now in
+    let N = c .before .before .before .before .before .before .before .before .before .before .before .args .numbers in
+    let n = c .before .before .before .before .before .before .before .before .before .before .before .args .count in
+    let J = c .before .before .before .before .before .before .before .before .before .before .before .args .jumps in
+    let found = c .before .before .before .before .before .resolve .result in
+    let s = subst (λ (m : ℕ). Resolves N n J m found) (c .before .before .before .before .before .before .before .before .before .before .before .pre .1 .0) (c .before .before .before .before .before .resolve .ensures) in
+    by-number R N n J found _ s
+    (three (c .before .before .before .before .before .before .before .before .refused-at .result) (c .before .before .before .before .before .before .refused-at2 .result) (c .before .before .before .refused-at3 .result) (c .before .or-else .result) (c .or-else2 .result) _ _ _
+    (c .before .before .before .before .before .before .before .before .refused-at .ensures ∙ ap (refusedAt 20) (c .before .before .before .before .before .before .before .before .before .misplaced-end .ensures)) (c .before .before .before .before .before .before .refused-at2 .ensures ∙ ap (refusedAt 21) (c .before .before .before .before .before .before .before .misnumbered .ensures)) (c .before .before .before .refused-at3 .ensures ∙ ap (refusedAt 22) (c .before .before .before .before .user-of .ensures ∙ unknown-user R N n J found s))
     (c .before .or-else .ensures) (c .or-else2 .ensures))
 
 pub judge-numbers-spec : {M : Type 1} → statement M
@@ -66,9 +68,9 @@ judge-numbers-spec =
     refused-at-requires
     misnumbered-requires
     refused-at-requires-2
-    place-all-requires
+    resolve-requires
+    user-of-requires
     refused-at-requires-3
     or-else-requires
     or-else-requires-2
-    same-length
     returns)

@@ -1,9 +1,8 @@
 -- `whole::judge_ranges` meets its contract. Assumes nothing.
 use mathlib.Core.Path.{ap, _∙_}
 use Rattle.rules_deck.specs.Whole.{refusedAt}
-use Rattle.ranges.specs.Ranges.{doRight, jumpsRight, setRight}
 use Rattle.whole.specs.Parts.{rangesRefused}
-use Rattle.whole.proofs.Answers.{near-first, near-do, three}
+use Rattle.whole.proofs.Answers.{three}
 use borrow.Author.Needs.{needs}
 use Rattle.whole.proofs.judge_ranges.Statement.{statement}
 use Rattle.whole.proofs.judge_ranges.Tie as tie
@@ -12,40 +11,19 @@ wrong-do-requires : tie.Need-wrong-do-requires
 wrong-do-requires c κs = search needs
 
 refused-at-requires : tie.Need-refused-at-requires
-refused-at-requires c κs =
-    let R = c .before .before .before .before .args .rows .now in
-    let n = c .before .before .before .before .args .count in
-    let L = c .before .before .before .before .args .loops .now in
-    let d = c .before .before .before .before .args .dos in
-    let J = c .before .before .before .before .args .jumps .now in
-    let few = c .before .before .before .before .pre .1 in
-    near-do (c .wrong-do .result) n few (doRight R L d J) L d (c .before .before .before .before .pre .0 .starts) (c .wrong-do .ensures)
+refused-at-requires c κs = search needs
 
 wrong-jump-requires : tie.Need-wrong-jump-requires
 wrong-jump-requires c κs = search needs
 
 refused-at-requires-2 : tie.Need-refused-at-requires-2
-refused-at-requires-2 c κs =
-    let R = c .before .before .before .before .before .before .args .rows .now in
-    let n = c .before .before .before .before .before .before .args .count in
-    let L = c .before .before .before .before .before .before .args .loops .now in
-    let d = c .before .before .before .before .before .before .args .dos in
-    let J = c .before .before .before .before .before .before .args .jumps .now in
-    let few = c .before .before .before .before .before .before .pre .1 in
-    near-first (c .wrong-jump .result) n few (jumpsRight R L d J) (c .wrong-jump .ensures)
+refused-at-requires-2 c κs = search needs
 
 wrong-set-requires : tie.Need-wrong-set-requires
 wrong-set-requires c κs = search needs
 
 refused-at-requires-3 : tie.Need-refused-at-requires-3
-refused-at-requires-3 c κs =
-    let R = c .before .before .before .before .before .before .before .before .args .rows .now in
-    let n = c .before .before .before .before .before .before .before .before .args .count in
-    let L = c .before .before .before .before .before .before .before .before .args .loops .now in
-    let d = c .before .before .before .before .before .before .before .before .args .dos in
-    let J = c .before .before .before .before .before .before .before .before .args .jumps .now in
-    let few = c .before .before .before .before .before .before .before .before .pre .1 in
-    near-first (c .wrong-set .result) n few (setRight R L d J) (c .wrong-set .ensures)
+refused-at-requires-3 c κs = search needs
 
 or-else-requires : tie.Need-or-else-requires
 or-else-requires c κs = search needs

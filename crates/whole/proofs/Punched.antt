@@ -1,0 +1,51 @@
+-- Every statement that is read has a number of five digits at most.
+-- Assumes nothing.
+use mathlib.Core.Path.{_≡_, refl, subst}
+use Prim.Native.Nat.{ℕ, suc, _≤_}
+use mathlib.Core.List.{List, [], _∷_}
+use mathlib.Core.Option.{Option, none, some}
+use Rattle.rules_shared.specs.Limits.{limits}
+use Rattle.rules_shared.specs.Refusals.{Refusal}
+use Rattle.rules_deck.specs.Trees.{Form, Statement}
+use Rattle.rules_deck.specs.Cards.{Punched, textOf, Carded, cardsRefused, statements, carded}
+use Rattle.rules_deck.specs.Grammar.{formOf}
+use Rattle.rules_deck.specs.Judge.{Taken, nothingTaken, takes, judgeForm}
+use Rattle.rules_deck.specs.Compile.{Read, notRead, read, withStatement, afterJudging, afterReading, readText, readFrom, readCarded}
+use Rattle.rules_deck.proofs.CardsLaws.{Each, empty, also, RightStatement, statements-right}
+use Rattle.rules_shared.specs.Lists.{Each, each-none, each-more}
+use Rattle.whole.specs.Whole.{Numbered}
+
+data Low : Read → Type 0 where
+  refused : {r : Refusal} → Low (notRead r)
+  low : {deck : List Statement} → Each Numbered deck → Low (read deck)
+
+with-statement : (s : Statement) → Numbered s → (rest : Read) → Low rest → Low (withStatement s rest)
+with-statement s n (notRead r) refused = refused
+with-statement s n (read deck) (low a) = low (each-more n a)
+
+module _ (k q number : ℕ) (t : Taken) (n : number ≤ limits .statementNumber) (rest : Taken → Read) (h : (u : Taken) → Low (rest u)) where
+  after-judging : (f : Form) (o : Option ℕ) → Low (afterJudging q (record { number = number; form = f }) (rest (takes q f t)) o)
+  after-judging f (some refusal) = refused
+  after-judging f none = with-statement (record { number = number; form = f }) n (rest (takes q f t)) (h (takes q f t))
+
+  after-reading : (o : Option Form) → Low (afterReading k q number t rest o)
+  after-reading none = refused
+  after-reading (some f) = after-judging f (judgeForm k q f t)
+
+  read-text : (text : List ℕ) → Low (readText k q number t rest text)
+  read-text [] = refused
+  read-text (c ∷ text) = after-reading (formOf (c ∷ text))
+
+read-from : (k q : ℕ) (t : Taken) (ps : List Punched) → Each RightStatement ps → Low (readFrom k q t ps)
+read-from k q t [] empty = low each-none
+read-from k q t (p ∷ ps) (also r h) = read-text k q (p .number) t (r .number-small) (λ u. readFrom k (suc q) u ps) (λ u. read-from k (suc q) u ps h) (textOf (p .raw))
+
+read-carded : (k : ℕ) (bytes : List ℕ) (c : Carded) → carded k bytes ≡ c → Low (readCarded k c)
+read-carded k bytes (cardsRefused number place) e = refused
+read-carded k bytes (statements ps) e = read-from k 0 nothingTaken ps (statements-right k bytes ps e)
+
+all-low : {deck : List Statement} → Low (read deck) → Each Numbered deck
+all-low (low a) = a
+
+pub numbered : (k : ℕ) (bytes : List ℕ) (deck : List Statement) → readCarded k (carded k bytes) ≡ read deck → Each Numbered deck
+numbered k bytes deck e = all-low (subst Low e (read-carded k bytes (carded k bytes) refl))
