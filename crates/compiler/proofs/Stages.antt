@@ -1,7 +1,7 @@
 -- What each stage's answer makes of the whole.
 -- Assumes nothing.
 use mathlib.Core.Path.{_≡_, refl, sym, ap, _∙_, subst}
-use Prim.Native.Nat.{ℕ, suc, _<_, _^_}
+use Prim.Native.Nat.{ℕ, suc, _<_, _^_, _≤_}
 use mathlib.Core.List.{List, _++_}
 use mathlib.Core.Option.{Option, none, some}
 use native.Mathlib.Omega.{arith}
@@ -30,13 +30,16 @@ use Rattle.draft.specs.declared.Counts.{Counts}
 use Rattle.draft.specs.Names.{Told}
 use Rattle.draft.specs.Draft.{draftOf}
 use Rattle.draft.specs.Kept.{Room, Fit, Kept}
-use Rattle.draft.proofs.DraftDeck.{draft-held}
+use Rattle.draft.specs.Sketch.{deckJumps}
+use Rattle.draft.proofs.DraftDeck.{draft-held, draft-jumps}
 use Rattle.draft.proofs.DeckKept.{kept-deck}
 use Rattle.drafting.specs.declared.Drafted.{Drafted}
 use Rattle.drafting.specs.Drafted.{Drafts, refused, kept}
-use Rattle.whole.specs.declared.Verdict.{Verdict}
+use Rattle.whole.specs.declared.Placed.{Placed}
 use Rattle.whole.specs.Whole.{SetsTold, refusalOf, Numbered}
+use Rattle.whole.specs.Parts.{Inside, Positioned}
 use Rattle.whole.proofs.Punched.{numbered}
+use Rattle.whole.proofs.Positions.{inside, positions}
 use Rattle.writer.specs.declared.Wrote.{Wrote}
 use Rattle.finish.specs.Finishing.{Finished}
 use Rattle.compiler.specs.declared.Compiled.the-variants.{Refused, Object, Short}
@@ -77,31 +80,47 @@ module _ {k : ℕ} {deck : List Statement} {n : Counts} {names constants element
   pub low : All Numbered deck
   low = numbered k (h .bytes) deck (h .is)
 
-  pub whole-refused : {after : List ℕ} {number : ℕ} {place : Sequence} (output : List ℕ) (v : Verdict) → whole.Judged deck after (n .jumps) v → v ≡ verdict.Refused number place
+  pub whole-refused : {number : ℕ} {place : Sequence} (output : List ℕ) (r : Placed) → whole.Judged deck r → r .verdict ≡ verdict.Refused number place
       → answer (Refused number (place .0)) output ≡ writeRead k output (judgeRead (read deck))
   unfolding refusalOf
-  whole-refused {number = number} {place = place} output v j e =
+  whole-refused {number = number} {place = place} output r j e =
       let o : judgeDeck deck ≡ some (refusal number (place .0) 0) = sym (j .says) ∙ ap refusalOf e in
       sym (ap (λ (o : Option Refusal). writeRead k output (orRefuse deck o)) o)
 
-  right : {after : List ℕ} (v : Verdict) → whole.Judged deck after (n .jumps) v → v ≡ verdict.Right → judgeDeck deck ≡ none
+  right : (r : Placed) → whole.Judged deck r → r .verdict ≡ verdict.Right → judgeDeck deck ≡ none
   unfolding refusalOf
-  right v j e = sym (j .says) ∙ ap refusalOf e
+  right r j e = sym (j .says) ∙ ap refusalOf e
 
   accepted-deck : judgeDeck deck ≡ none → Accepted k deck
   unfolding deckOf
   accepted-deck e = accepted k (h .bytes) deck (ap judgeRead (h .is) ∙ ap (orRefuse deck) e)
 
-  pub finished : {after : List ℕ} (v : Verdict) → whole.Judged deck after (n .jumps) v → v ≡ verdict.Right
+  jumps-many : n .jumps ≡ length (deckJumps deck)
+  jumps-many = h .kept .jumps-count ∙ ap length (draft-jumps deck)
+
+  jumps-few : n .jumps ≤ 1424
+  jumps-few =
+      let a = h .fit .jumps in
+      let b = h .fit .statements in
+      let c = h .fit .exits in
+      omega arith
+
+  pub placed : (r : Placed) → whole.Judged deck r → r .verdict ≡ verdict.Right → Inside (r .places) (n .jumps)
+  placed r j e =
+      let c = h .counted in
+      let f = h .fit .statements in
+      inside deck (r .places) (j .placed (right r j e)) (n .jumps) jumps-many jumps-few (omega arith)
+
+  pub finished : {after : List ℕ} (r : Placed) → whole.Judged deck r → r .verdict ≡ verdict.Right → Positioned (r .places) (n .jumps) after
       → Finished k deck n names constants elements dos loops code rows after
-  finished {after} v j e =
-      let o = right v j e in
+  finished {after} r j e p =
+      let o = right r j e in
       let a = accepted-deck o in
       record {
         accepted = a;
         numbers = jumps;
         kept = kept-deck a (h .kept);
-        placed = j .placed o;
+        placed = positions deck (r .places) (j .placed o) (n .jumps) jumps-many jumps-few after p;
         counted = h .counted;
         room =
             record {
@@ -112,24 +131,24 @@ module _ {k : ℕ} {deck : List Statement} {n : Counts} {names constants element
               loops-long = h .room .loops-long;
               code-long = h .room .code-long;
               rows-long = h .room .rows-long;
-              jumps-long = j .long;
+              jumps-long = p .long;
             };
         fit = h .fit;
       }
 
-  whole-right : {after : List ℕ} (output : List ℕ) (v : Verdict) → whole.Judged deck after (n .jumps) v → v ≡ verdict.Right
+  whole-right : (output : List ℕ) (r : Placed) → whole.Judged deck r → r .verdict ≡ verdict.Right
       → write (objectBytes (translate k deck)) output ≡ writeRead k output (judgeRead (read deck))
-  whole-right output v j e = sym (ap (λ (o : Option Refusal). writeRead k output (orRefuse deck o)) (right v j e))
+  whole-right output r j e = sym (ap (λ (o : Option Refusal). writeRead k output (orRefuse deck o)) (right r j e))
 
-  pub whole-object : {after : List ℕ} {length : ℕ} (output output′ : List ℕ) (v : Verdict) → whole.Judged deck after (n .jumps) v → v ≡ verdict.Right → (w : Wrote)
+  pub whole-object : {length : ℕ} (output output′ : List ℕ) (r : Placed) → whole.Judged deck r → r .verdict ≡ verdict.Right → (w : Wrote)
       → written.answer w output′ ≡ write (objectBytes (translate k deck)) output → w ≡ wrote.Bytes length → answer (Object length) output′ ≡ writeRead k output (judgeRead (read deck))
-  whole-object output output′ v j e w a i =
-      sym (ap (λ (x : Wrote). written.answer x output′) i) ∙ a ∙ whole-right output v j e
+  whole-object output output′ r j e w a i =
+      sym (ap (λ (x : Wrote). written.answer x output′) i) ∙ a ∙ whole-right output r j e
 
-  pub whole-short : {after : List ℕ} (output output′ : List ℕ) (v : Verdict) → whole.Judged deck after (n .jumps) v → v ≡ verdict.Right → (w : Wrote)
+  pub whole-short : (output output′ : List ℕ) (r : Placed) → whole.Judged deck r → r .verdict ≡ verdict.Right → (w : Wrote)
       → written.answer w output′ ≡ write (objectBytes (translate k deck)) output → w ≡ wrote.Short → answer Short output′ ≡ writeRead k output (judgeRead (read deck))
-  whole-short output output′ v j e w a i =
-      sym (ap (λ (x : Wrote). written.answer x output′) i) ∙ a ∙ whole-right output v j e
+  whole-short output output′ r j e w a i =
+      sym (ap (λ (x : Wrote). written.answer x output′) i) ∙ a ∙ whole-right output r j e
 
 -- ---- the statements
 

@@ -30,18 +30,23 @@ fn judge_whole(
     loops: &[u32],
     code: &[u32],
     rows: &[u64],
-    jumps: &mut [u32],
+    jumps: &[u32],
     output: &mut [u8],
 ) -> Compiled
     requires { ⌜ HoldsOne k n (now names) (now constants) (now elements) (now dos) (now loops) (now code) (now rows) (now jumps) ⌝ }
     ensures { λ r. ⌜ ((deck : List Statement) → Holds k deck n (now (names .entry)) (now (constants .entry)) (now (elements .entry)) (now (dos .entry)) (now (loops .entry)) (now (code .entry)) (now (rows .entry)) (now (jumps .entry)) → answer r (now (output .exit)) ≡ writeRead k (now (output .entry)) (judgeRead (read deck))) ⌝ }
 {
-    match whole::judge(rows, n.statements, loops, n.dos, jumps, n.jumps) {
+    let judged = whole::judge(rows, n.statements, loops, n.dos, jumps, n.jumps);
+    let verdict = judged.verdict;
+    match verdict {
         Verdict::Refused { number, place } => Compiled::Refused {
             number,
             place: place.0,
         },
         Verdict::Right => {
+            let places = judged.places;
+            let mut positions = [0u32; 1424];
+            whole::put_positions(places, n.jumps, &mut positions);
             match finish::finish(
                 k,
                 n,
@@ -52,7 +57,7 @@ fn judge_whole(
                 loops,
                 code,
                 rows,
-                jumps,
+                &positions,
                 output,
             ) {
                 Wrote::Bytes(length) => Compiled::Object(length as u32),
@@ -103,7 +108,7 @@ fn compile_statements(k: u32, deck: &[u8], output: &mut [u8]) -> Compiled
             &loops,
             &code,
             &rows,
-            &mut jumps,
+            &jumps,
             output,
         ),
     }

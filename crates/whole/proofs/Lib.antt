@@ -5,5 +5,6 @@ pub mod Numbers
 pub mod Ranges
 pub mod Answers
 pub mod Top
+pub mod Positions
 pub mod Punched
 pub mod Drafted

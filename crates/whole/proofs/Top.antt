@@ -4,11 +4,11 @@ use mathlib.Core.Path.{_≡_, refl, sym, ap, _∙_}
 use Prim.Native.Nat.{ℕ, zero, suc, _*_, _≤_, _<_}
 use native.Mathlib.Omega.{arith}
 use mathlib.Core.Bool.{Bool, true, false}
-use mathlib.Core.List.{List, [], _∷_, map}
+use mathlib.Core.List.{List, [], _∷_}
 use mathlib.Core.Option.{Option, none, some}
 use lib.Dec.{ltb}
-use lib.ListN.{length, getD, take, length-map}
-use lib.Seq.{getD-take, length-take-le, ext-getD}
+use lib.ListN.{length, getD}
+use lib.Seq.{getD-take, length-take-le}
 use borrow.Author.Tests.{ltb-true}
 use Rattle.rules_shared.specs.Limits.{limits}
 use Rattle.rules_shared.specs.Refusals.{Refusal, orElse}
@@ -27,17 +27,12 @@ use Rattle.numbers.specs.Numbers.{placeOf}
 use Rattle.ranges.specs.Ranges.{doAt, lastAt, Ranged}
 use Rattle.whole.specs.declared.Verdict.{Verdict}
 use Rattle.whole.specs.declared.Placed.{Placed}
-use Rattle.whole.specs.Whole.{Numbered, Sketched, Whole, refusalOf, Judged}
-use Rattle.whole.specs.Parts.{numbersRefused, ByNumber, rangesRefused, Inside, Positioned}
+use Rattle.whole.specs.Whole.{Numbered, Sketched, Whole, Stands, refusalOf, Judged}
+use Rattle.whole.specs.Parts.{numbersRefused, ByNumber, rangesRefused}
 use Rattle.whole.proofs.ByIndex.{placed}
 use Rattle.whole.proofs.Rows.{statementAt, number-is, start-is}
 use Rattle.whole.proofs.Numbers.{place-is, refused20-is, first21-is, first22-is}
 use Rattle.whole.proofs.Ranges.{doOfDeck, words, index-is, do-inside, starts-is, last-is, first23-is, first24-is, first25-is}
-
-map-at : (f : ℕ → ℕ) (l : List ℕ) (i : ℕ) → i < length l → getD (map f l) i 0 ≡ f (getD l i 0)
-map-at f [] i h = absurd (omega arith)
-map-at f (a ∷ l) zero h = refl
-map-at f (a ∷ l) (suc i) h = map-at f l i (omega arith)
 
 six : (a b c d e f : Option Refusal) → orElse (orElse a (orElse b c)) (orElse d (orElse e f)) ≡ orElse a (orElse b (orElse c (orElse d (orElse e f))))
 six (some x) b c d e f = refl
@@ -45,16 +40,16 @@ six none (some x) c d e f = refl
 six none none c d e f = refl
 
 -- a number that has a place is a statement's
-placed-some : (position count place : ℕ) → placed position count ≡ some place → (place ≡ suc position) × (position < count)
-placed-some position count place e = by (ltb position count) refl
+stands : (deck : List Statement) (n place : ℕ) → placed (positionOf deck n) (length deck) ≡ some place → Stands deck n place
+stands deck n place e = by (ltb (positionOf deck n) (length deck)) refl
   where
-    by : (b : Bool) → ltb position count ≡ b → (place ≡ suc position) × (position < count)
+    by : (b : Bool) → ltb (positionOf deck n) (length deck) ≡ b → Stands deck n place
     by true l =
-        let s : some (suc position) ≡ some place = rw l at e in
-        (let y : suc position ≡ place = cc in sym y, ltb-true position count l)
+        let s : some (suc (positionOf deck n)) ≡ some place = rw l at e in
+        record { is = let y : suc (positionOf deck n) ≡ place = cc in sym y; low = ltb-true (positionOf deck n) (length deck) l }
     by false l =
-        let n : none ≡ some place = rw l at e in
-        absurd (clash (sym n))
+        let m : none ≡ some place = rw l at e in
+        absurd (clash (sym m))
 
 low-at : (deck : List Statement) → Each Numbered deck → (q : ℕ) → q < length deck → statementAt deck q .number ≤ limits .statementNumber
 low-at [] a q h = absurd (omega arith)
@@ -109,36 +104,20 @@ module _ (rows : List ℕ) (count : ℕ) (loops : List ℕ) (dos : ℕ) (before 
 
     -- once 22 has passed
     module _ (r : Placed) (n : ByNumber rows numbers count wanted r) (passed : refusalOf (r .verdict) ≡ none) where
-      has-place : (k : ℕ) → k < length (deckJumps deck)
-          → (placeIn (r .places) k ≡ suc (positionOf deck (getD (deckJumps deck) k 0))) × (positionOf deck (getD (deckJumps deck) k 0) < length deck)
+      has-place : (k : ℕ) → k < length (deckJumps deck) → Stands deck (getD (deckJumps deck) k 0) (placeIn (r .places) k)
       has-place k h =
           let m = jumps-many in
           let a = all-starts in
-          placed-some (positionOf deck (getD (deckJumps deck) k 0)) (length deck) (placeIn (r .places) k)
+          stands deck (getD (deckJumps deck) k 0) (placeIn (r .places) k)
           (sym (place-is deck rows count (s .statements) (s .rows-are) numbers ns (getD (deckJumps deck) k 0)) ∙ ap (placeOf numbers count) (sym (at-entry k h)) ∙ n .done passed k (omega arith))
 
       at-exit : (k : ℕ) → k < length (deckJumps deck) → placeIn (r .places) k ≡ suc (positionOf deck (getD (deckJumps deck) k 0))
-      at-exit k h = has-place k h .0
-
-      pub inside : Inside (r .places) many
-      inside =
-          record {
-            few = w .few-jumps;
-            from-one = λ k h. let m = jumps-many in let p = has-place k (omega arith) .0 in omega arith;
-            to-last = λ k h.
-                let m = jumps-many in
-                let p = has-place k (omega arith) in
-                let a = p .0 in
-                let b = p .1 in
-                let c = s .statements in
-                let f = w .few in
-                omega arith;
-          }
+      at-exit k h = has-place k h .is
 
       last-low : (i : ℕ) → i < dos → lastOf deck (doOfDeck deck rows count (s .statements) (s .rows-are) loops dos loops-long (s .loops-are) (s .told) i) < length deck
       last-low i h =
           let d = words deck rows count (s .statements) (s .rows-are) loops dos loops-long (s .loops-are) (s .told) i h in
-          rw (d .last) at (has-place (d .index) (d .index-low) .1)
+          rw (d .last) at (has-place (d .index) (d .index-low) .low)
 
       pub kept : Kept loops dos
       kept =
@@ -202,40 +181,22 @@ module _ (rows : List ℕ) (count : ℕ) (loops : List ℕ) (dos : ℕ) (before 
             let c = first25-is deck rows count (s .statements) (s .rows-are) loops dos loops-long (s .loops-are) (s .told) (r .places) at-exit table looped in
             rw (a, b, c)
 
-        pub judged-ranges : (after : List ℕ) → Positioned (r .places) many after → (v : Verdict) → refusalOf v ≡ rangesRefused rows count table (r .places) → Judged deck after many v
+        pub judged-ranges : (v : Verdict) → refusalOf v ≡ rangesRefused rows count table (r .places) → Judged deck (record { verdict = v; places = r .places })
         unfolding judgeDeck
-        judged-ranges after p v e =
+        judged-ranges v e =
             let a : orElse (refusedAt 20 (refused20 deck)) (orElse (refusedAt 21 (firstWrong (right21 deck) 0 deck)) (refusedAt 22 (firstWrong (right22 deck) 0 deck))) ≡ none = sym numbers-are ∙ sym (n .says) ∙ passed in
             let whole = six (refusedAt 20 (refused20 deck)) (refusedAt 21 (firstWrong (right21 deck) 0 deck)) (refusedAt 22 (firstWrong (right22 deck) 0 deck)) (refusedAt 23 (firstWrongDo deck (dosOf deck))) (refusedAt 24 (firstWrong (right24 deck) 0 deck)) (refusedAt 25 (firstWrong (right25 deck) 0 deck)) in
             record {
-              long = p .long;
               says = e ∙ ranges-are ∙ ap (λ (o : Option Refusal). orElse o (orElse (refusedAt 23 (firstWrongDo deck (dosOf deck))) (orElse (refusedAt 24 (firstWrong (right24 deck) 0 deck)) (refusedAt 25 (firstWrong (right25 deck) 0 deck))))) (sym a) ∙ whole;
-              placed = λ o. all-placed;
+              placed = λ o. has-place;
             }
-          where
-            position-at : (i : ℕ) → i < length (deckJumps deck) → getD after i 0 ≡ positionOf deck (getD (deckJumps deck) i 0)
-            position-at i h =
-                let m = jumps-many in
-                let x = p .are i (omega arith) in
-                let y = at-exit i h in
-                omega arith
-
-            all-placed : take many after ≡ map (positionOf deck) (deckJumps deck)
-            all-placed =
-                let m = jumps-many in
-                let f = w .few-jumps in
-                let t = p .long in
-                let l = length-take-le many after (omega arith) in
-                let g = length-map (deckJumps deck) (positionOf deck) in
-                ext-getD 0 (take many after) (map (positionOf deck) (deckJumps deck)) (omega arith)
-                (λ i h. getD-take many after i 0 (omega arith) ∙ position-at i (omega arith) ∙ sym (map-at (positionOf deck) (deckJumps deck) i (omega arith)))
 
     -- refused by 20 to 22
-    pub judged-numbers : (r : Placed) (v : Verdict) (x : Refusal) → ByNumber rows numbers count wanted r → r .verdict ≡ v → refusalOf v ≡ some x → Judged deck before many v
+    pub judged-numbers : (r : Placed) (x : Refusal) → ByNumber rows numbers count wanted r → refusalOf (r .verdict) ≡ some x → Judged deck r
     unfolding judgeDeck
-    judged-numbers r v x n same e =
-        let a : orElse (refusedAt 20 (refused20 deck)) (orElse (refusedAt 21 (firstWrong (right21 deck) 0 deck)) (refusedAt 22 (firstWrong (right22 deck) 0 deck))) ≡ some x = sym numbers-are ∙ sym (n .says) ∙ ap refusalOf same ∙ e in
+    judged-numbers r x n e =
+        let a : orElse (refusedAt 20 (refused20 deck)) (orElse (refusedAt 21 (firstWrong (right21 deck) 0 deck)) (refusedAt 22 (firstWrong (right22 deck) 0 deck))) ≡ some x = sym numbers-are ∙ sym (n .says) ∙ e in
         let rest = orElse (refusedAt 23 (firstWrongDo deck (dosOf deck))) (orElse (refusedAt 24 (firstWrong (right24 deck) 0 deck)) (refusedAt 25 (firstWrong (right25 deck) 0 deck))) in
         let whole = six (refusedAt 20 (refused20 deck)) (refusedAt 21 (firstWrong (right21 deck) 0 deck)) (refusedAt 22 (firstWrong (right22 deck) 0 deck)) (refusedAt 23 (firstWrongDo deck (dosOf deck))) (refusedAt 24 (firstWrong (right24 deck) 0 deck)) (refusedAt 25 (firstWrong (right25 deck) 0 deck)) in
         let says : some x ≡ judgeDeck deck = ap (λ (o : Option Refusal). orElse o rest) (sym a) ∙ whole in
-        record { long = w .jumps-long; says = e ∙ says; placed = λ o. absurd (clash (says ∙ o)) }
+        record { says = e ∙ says; placed = λ o. absurd (clash (says ∙ o)) }

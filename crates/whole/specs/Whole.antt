@@ -1,10 +1,10 @@
 -- What the tables hold of a deck, and the answer for the deck as a whole.
 -- Assumes nothing.
 use mathlib.Core.Path.{_≡_}
-use Prim.Native.Nat.{ℕ, _*_, _≤_}
-use mathlib.Core.List.{List, map}
+use Prim.Native.Nat.{ℕ, suc, _*_, _≤_, _<_}
+use mathlib.Core.List.{List}
 use mathlib.Core.Option.{Option, none, some}
-use lib.ListN.{length, take}
+use lib.ListN.{length, take, getD}
 use Rattle.rules_shared.specs.Limits.{limits}
 use Rattle.rules_shared.specs.Refusals.{Refusal, refusal}
 use Rattle.rules_shared.specs.Lists.{Each}
@@ -13,7 +13,9 @@ use Rattle.rules_deck.specs.Deck.{positionOf}
 use Rattle.rules_deck.specs.Whole.{formSets, judgeDeck}
 use Rattle.draft.specs.Names.{Told}
 use Rattle.draft.specs.Sketch.{deckRows, deckJumps, loopsFrom}
+use Rattle.tables.specs.Tables.{placeIn}
 use Rattle.whole.specs.declared.Verdict.{Verdict}
+use Rattle.whole.specs.declared.Placed.{Placed}
 use Rattle.whole.specs.declared.Verdict.the-variants.{Right, Refused}
 
 -- the names that a statement sets are told by their words
@@ -44,13 +46,17 @@ pub record Whole (rows : List ℕ) (count : ℕ) (loops : List ℕ) (dos : ℕ) 
   pub deck : List Statement
   pub sketched : Sketched deck rows count loops dos jumps many
 
+-- the statement with number n is at a place
+pub record Stands (deck : List Statement) (n place : ℕ) : Type 0 where
+  pub is : place ≡ suc (positionOf deck n)
+  pub low : positionOf deck n < length deck
+
 -- the answer as the book says it
 unfoldable pub refusalOf : Verdict → Option Refusal
 refusalOf Right = none
 refusalOf (Refused number place) = some (refusal number (place .0) 0)
 
--- the answer is the book's, and each number of a deck that is right is now its statement's position
-pub record Judged (deck : List Statement) (after : List ℕ) (many : ℕ) (r : Verdict) : Type 0 where
-  pub long : length after ≡ 1424
-  pub says : refusalOf r ≡ judgeDeck deck
-  pub placed : judgeDeck deck ≡ none → take many after ≡ map (positionOf deck) (deckJumps deck)
+-- the answer is the book's, and each number of a deck that is right has its statement's place
+pub record Judged (deck : List Statement) (r : Placed) : Type 0 where
+  pub says : refusalOf (r .verdict) ≡ judgeDeck deck
+  pub placed : judgeDeck deck ≡ none → (k : ℕ) → k < length (deckJumps deck) → Stands deck (getD (deckJumps deck) k 0) (placeIn (r .places) k)

@@ -47,10 +47,10 @@ fn or_else(a: Verdict, b: Verdict) -> Verdict
     }
 }
 
-// The answer to 20 to 22, and where it is right the place of every number that is jumped to.
-struct Placed {
-    verdict: Verdict,
-    places: [Sequence; 1424],
+// An answer, and where it is right the place of every number that is jumped to.
+pub struct Placed {
+    pub verdict: Verdict,
+    pub places: [Sequence; 1424],
 }
 
 // 20 to 22, the lowest first.
@@ -86,8 +86,35 @@ fn judge_ranges(rows: &[u64], count: usize, loops: Loops, places: [Sequence; 142
     or_else(dos_right, or_else(jumps_right, sets_right))
 }
 
-// The places as words, from 0 on.
-fn put_positions(places: [Sequence; 1424], many: usize, words: &mut [u32])
+// Ranges are judged by places, which there are once 22 has passed.
+pub fn judge(
+    rows: &[u64],
+    count: usize,
+    loops: &[u32],
+    dos: usize,
+    jumps: &[u32],
+    many: usize,
+) -> Placed
+    requires { ⌜ Whole (now rows) count (now loops) dos (now jumps) many ⌝ }
+    ensures { λ r. ⌜ ((deck : List Statement) → Sketched deck (now (rows .entry)) count (now (loops .entry)) dos (now (jumps .entry)) many → Judged deck r) ⌝ }
+{
+    let numbers = tables::numbers(rows, count);
+    let wanted = tables::wanted(jumps, many);
+    let by_number = judge_numbers(rows, numbers, count, wanted, many);
+    let verdict = by_number.verdict;
+    let Verdict::Right = verdict else {
+        return by_number;
+    };
+    let places = by_number.places;
+    let ranges = tables::loops_of(loops, dos, places);
+    Placed {
+        verdict: judge_ranges(rows, count, ranges, places),
+        places: places,
+    }
+}
+
+// The places as words, from 0 on: what the code is settled by.
+pub fn put_positions(places: [Sequence; 1424], many: usize, words: &mut [u32])
     requires { ⌜ Inside places many × (length (now words) ≡ 1424) ⌝ }
     ensures { λ _. ⌜ Positioned places many (now (words .exit)) ⌝ }
 {
@@ -96,35 +123,5 @@ fn put_positions(places: [Sequence; 1424], many: usize, words: &mut [u32])
         let place = places[k];
         words[k] = tables::position_of(place) as u32;
         k += 1;
-    }
-}
-
-// Ranges are judged by places, which there are once 22 has passed.
-pub fn judge(
-    rows: &[u64],
-    count: usize,
-    loops: &[u32],
-    dos: usize,
-    jumps: &mut [u32],
-    many: usize,
-) -> Verdict
-    requires { ⌜ Whole (now rows) count (now loops) dos (now jumps) many ⌝ }
-    ensures { λ r. ⌜ ((deck : List Statement) → Sketched deck (now (rows .entry)) count (now (loops .entry)) dos (now (jumps .entry)) many → Judged deck (now (jumps .exit)) many r) ⌝ }
-{
-    let numbers = tables::numbers(rows, count);
-    let wanted = tables::wanted(jumps, many);
-    let by_number = judge_numbers(rows, numbers, count, wanted, many);
-    let verdict = by_number.verdict;
-    match verdict {
-        Verdict::Refused { number, place } => Verdict::Refused {
-            number: number,
-            place: place,
-        },
-        Verdict::Right => {
-            let places = by_number.places;
-            put_positions(places, many, jumps);
-            let ranges = tables::loops_of(loops, dos, places);
-            judge_ranges(rows, count, ranges, places)
-        }
     }
 }

@@ -99,11 +99,11 @@ same-length c = search needs
 
 returns-2 : tie.Need-returns-2
 returns-2 c =
-    let st = c .before .before .before .before .before .before .before .before .before .before .before .before .before .before .before .before .before .before .before .before .before .before .before .before .before .before .before .before .before .before .before .before .before .before .before .before .before .before in
+    let st = c .before .before .before .before .before .before .before .before .before .before .before .before .before .before .before .before .before .before .before .before .before .before .before .before .before .before .before .before .before .before .before .before .before .before .before .before .before in
     let ps = st .pre .punched in
     let e = st .pre .are in
-    let d = statements-kept _ _ ps e _ (c .before .before .before .before .before .before .before .before .before .before .before .before .before .before .before .before .before .before .before .before .before .before .before .before .before .before .draft .ensures ps e) (c .before .before .before .before .before .before .before .before .before .before .before .before .before .before .before .n .given .1) in
-    c .before .before .before .before .judge-whole .ensures (d .deck) (holds _ _ ps e d (record { names-long = c .before .before .before .before .before .before .before .before .before .before .before .before .before .before .before .before .before .before .before .before .before .before .before .before .before .before .draft .kept .1 .1 .1 .0; constants-long = c .before .before .before .before .before .before .before .before .before .before .before .before .before .before .before .before .before .before .before .before .before .before .before .before .before .before .draft .kept .1 .1 .1 .1 .0; elements-long = c .before .before .before .before .before .before .before .before .before .before .before .before .before .before .before .before .before .before .before .before .before .before .before .before .before .before .draft .kept .1 .1 .1 .1 .1 .0; dos-long = c .before .before .before .before .before .before .before .before .before .before .before .before .before .before .before .before .before .before .before .before .before .before .before .before .before .before .draft .kept .1 .1 .1 .1 .1 .1 .0; loops-long = c .before .before .before .before .before .before .before .before .before .before .before .before .before .before .before .before .before .before .before .before .before .before .before .before .before .before .draft .kept .1 .1 .1 .1 .1 .1 .1 .0; code-long = c .before .before .before .before .before .before .before .before .before .before .before .before .before .before .before .before .before .before .before .before .before .before .before .before .before .before .draft .kept .1 .1 .1 .1 .1 .1 .1 .1 .0; rows-long = c .before .before .before .before .before .before .before .before .before .before .before .before .before .before .before .before .before .before .before .before .before .before .before .before .before .before .draft .kept .1 .1 .1 .1 .1 .1 .1 .1 .1 .0; jumps-long = c .before .before .before .before .before .before .before .before .before .before .before .before .before .before .before .before .before .before .before .before .before .before .before .before .before .before .draft .kept .1 .1 .1 .1 .1 .1 .1 .1 .1 .1 .0 })) ∙ compiled _ _ ps e (d .deck) (st .args .output .now) (d .is)
+    let d = statements-kept _ _ ps e _ (c .before .before .before .before .before .before .before .before .before .before .before .before .before .before .before .before .before .before .before .before .before .before .before .before .before .draft .ensures ps e) (c .before .before .before .before .before .before .before .before .before .before .before .before .before .before .n .given .1) in
+    c .before .before .before .judge-whole .ensures (d .deck) (holds _ _ ps e d (record { names-long = c .before .before .before .before .before .before .before .before .before .before .before .before .before .before .before .before .before .before .before .before .before .before .before .before .before .draft .kept .1 .1 .1 .0; constants-long = c .before .before .before .before .before .before .before .before .before .before .before .before .before .before .before .before .before .before .before .before .before .before .before .before .before .draft .kept .1 .1 .1 .1 .0; elements-long = c .before .before .before .before .before .before .before .before .before .before .before .before .before .before .before .before .before .before .before .before .before .before .before .before .before .draft .kept .1 .1 .1 .1 .1 .0; dos-long = c .before .before .before .before .before .before .before .before .before .before .before .before .before .before .before .before .before .before .before .before .before .before .before .before .before .draft .kept .1 .1 .1 .1 .1 .1 .0; loops-long = c .before .before .before .before .before .before .before .before .before .before .before .before .before .before .before .before .before .before .before .before .before .before .before .before .before .draft .kept .1 .1 .1 .1 .1 .1 .1 .0; code-long = c .before .before .before .before .before .before .before .before .before .before .before .before .before .before .before .before .before .before .before .before .before .before .before .before .before .draft .kept .1 .1 .1 .1 .1 .1 .1 .1 .0; rows-long = c .before .before .before .before .before .before .before .before .before .before .before .before .before .before .before .before .before .before .before .before .before .before .before .before .before .draft .kept .1 .1 .1 .1 .1 .1 .1 .1 .1 .0; jumps-long = c .before .before .before .before .before .before .before .before .before .before .before .before .before .before .before .before .before .before .before .before .before .before .before .before .before .draft .kept .1 .1 .1 .1 .1 .1 .1 .1 .1 .1 .0 })) ∙ compiled _ _ ps e (d .deck) (st .args .output .now) (d .is)
 
 pub compile-statements-spec : {M : Type 1} → statement M
 compile-statements-spec =
