@@ -110,7 +110,7 @@ impl Hours<'_> {
             match self.run_one(row) {
                 Ok((fields, ran)) => {
                     counts.add(&ran);
-                    let ends = [line, ran.halt as usize, ran.sequence as usize];
+                    let ends = [line, ran.halt.number() as usize, ran.sequence as usize];
                     out.line(self.row(fields, self.values(), ends.map(|end| end.to_string())));
                 }
                 Err(words) => {
@@ -145,7 +145,7 @@ impl Hours<'_> {
     /// A refusal for a value over k digits is one for the largest.
     fn words(&self, refusal: &Refusal) -> String {
         match self.store.iter().max_by_key(|(_, value)| value.unsigned_abs()) {
-            Some((name, value)) if refusal.number == 51 => format!("{name} is {value}, over {} digits", self.digits),
+            Some((name, value)) if refusal.number() == 51 => format!("{name} is {value}, over {} digits", self.digits),
             _ => refusal.to_string(),
         }
     }
@@ -175,7 +175,7 @@ impl Counts {
     fn add(&mut self, ran: &Ran) {
         self.done += 1;
         self.lost += usize::from(ran.sequence > 0);
-        self.stuck += usize::from(ran.halt > 1);
+        self.stuck += usize::from(!ran.halt.is_end());
     }
 
     fn words(&self) -> String {

@@ -29,7 +29,7 @@ pub fn mapped(name: &Name) -> String {
 
 /// A refusal with its kind.
 pub fn refused(refusal: &Refusal) -> String {
-    format!("REFUSED {} {} {}", refusal.number, refusal.place, refusal.kind)
+    format!("REFUSED {} {} {}", refusal.number(), refusal.place, refusal.kind)
 }
 
 fn tell(refusal: &Refusal, out: &mut Output) -> Status {

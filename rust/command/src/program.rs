@@ -26,7 +26,7 @@ pub fn printed(ran: &Ran, store: &Store) -> Vec<String> {
 }
 
 pub fn refused(refusal: &Refusal) -> String {
-    format!("REFUSED {} {}", refusal.number, refusal.place)
+    format!("REFUSED {} {}", refusal.number(), refusal.place)
 }
 
 /// The lines that the program prints for its input: a control card, then a deck.

@@ -56,7 +56,7 @@ pub fn tell_refusal(refusal: &Refusal, deck: &[u8], out: &mut Output) -> Status 
 }
 
 fn tell_end(ran: &Ran, deck: &[u8], out: &mut Output) {
-    if ran.halt > 1 {
+    if !ran.halt.is_end() {
         out.say(format_args!("halt {}: {}", ran.halt, ran.words()));
     }
     if ran.sequence > 0 {

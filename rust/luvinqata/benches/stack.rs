@@ -27,7 +27,7 @@ fn try_with(which: &str, stack: usize) {
     let deck = deck(which);
     let expected = which == "deepest";
     let mut output = vec![0; LONGEST_OBJECT];
-    let call = move || compile(5, &deck, &mut output).is_err_and(|refusal| refusal.number == 10);
+    let call = move || compile(5, &deck, &mut output).is_err_and(|refusal| refusal.number() == 10);
     let thread = thread::Builder::new().stack_size(stack).spawn(call).expect("a thread");
     exit(i32::from(thread.join().expect("no panic") != expected));
 }

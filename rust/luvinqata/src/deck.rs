@@ -9,6 +9,7 @@ pub const CARD: usize = 80;
 
 /// A line of text that is longer than a card.
 #[derive(Clone, Copy, Debug, PartialEq, Eq)]
+#[non_exhaustive]
 pub struct LongLine {
     /// The line, counted from 1.
     pub line: usize,
@@ -52,6 +53,7 @@ pub fn punch(text: &[u8]) -> Result<Vec<u8>, LongLine> {
 
 /// A card of a deck, to be shown.
 #[derive(Clone, Copy, Debug, PartialEq, Eq)]
+#[non_exhaustive]
 pub struct Card<'d> {
     /// Which card of the deck, counted from 1, comments too.
     pub number: usize,
@@ -103,12 +105,12 @@ impl Refusal {
     /// ```
     /// let deck = luvinqata::punch(b"      I=1\n      A=2\n      END").unwrap();
     /// let refusal = luvinqata::compile(5, &deck, &mut []).unwrap_err();
-    /// assert_eq!(refusal.number, 11);
+    /// assert_eq!(refusal.number(), 11);
     /// assert_eq!(refusal.cards(&deck)[0].to_string(), "      A=2");
     /// ```
     pub fn cards<'d>(&self, deck: &'d [u8]) -> Vec<Card<'d>> {
         let number = self.place as usize;
-        match self.number {
+        match self.number() {
             3..=5 => deck
                 .chunks_exact(CARD)
                 .enumerate()

@@ -17,90 +17,30 @@
 #![deny(missing_docs, unsafe_code)]
 
 mod deck;
+mod halt;
+mod names;
+mod program;
 #[allow(unsafe_code)]
 mod raw;
 mod refusal;
+mod rule;
+mod state;
 mod store;
 
 pub use deck::{punch, statement, Card, LongLine, CARD};
+pub use halt::{Halt, Ran};
+pub use names::Name;
+pub use program::{Program, Statement};
 pub use refusal::Refusal;
-pub use store::{Name, Store};
+pub use rule::Rule;
+pub use state::State;
+pub use store::Store;
 
 /// The bytes of the longest object there can be: no deck needs more room.
 pub const LONGEST_OBJECT: usize = 38_644;
 
 /// The most numbers on a stack.
 pub const STACK: usize = 40;
-
-/// Where a run stands: what one run leaves, the next one goes on from.
-#[derive(Clone, Copy, Debug, PartialEq, Eq)]
-pub struct State {
-    /// The instruction to be done next, counted from 0.
-    pub index: u32,
-    /// How many numbers are on the stack.
-    pub height: u32,
-    /// 1 plus the first instruction that dropped digits, or 0.
-    pub mark: u32,
-    /// The stack, its bottom first. A run leaves 0 in the places above the height.
-    pub places: [i64; STACK],
-}
-
-impl State {
-    /// The beginning of a run.
-    ///
-    /// ```
-    /// let state = luvinqata::State::fresh();
-    /// assert_eq!((state.index, state.height, state.mark), (0, 0, 0));
-    /// ```
-    pub fn fresh() -> State {
-        State {
-            index: 0,
-            height: 0,
-            mark: 0,
-            places: [0; STACK],
-        }
-    }
-}
-
-impl Default for State {
-    fn default() -> State {
-        State::fresh()
-    }
-}
-
-/// How a run came to its end.
-#[derive(Clone, Copy, Debug, PartialEq, Eq)]
-pub struct Ran {
-    /// 0 STOP, 1 END, 2 allowance used, 3 division by zero, 4 subscript, 5 computed exit, 6 DO parameter; of a bench
-    /// run also 7, the stack, and 8, a wrong instruction.
-    pub halt: u32,
-    /// The instructions done, the one that halted among them.
-    pub steps: u32,
-    /// The sequence number of the first statement that lost digits, or 0.
-    pub sequence: u32,
-}
-
-impl Ran {
-    /// What the halt means, in plain words.
-    ///
-    /// ```
-    /// let ran = luvinqata::Ran { halt: 3, steps: 9, sequence: 0 };
-    /// assert_eq!(ran.words(), "division by zero");
-    /// ```
-    pub fn words(&self) -> &'static str {
-        match self.halt {
-            0 => "STOP",
-            1 => "END",
-            2 => "the steps allowed are used up",
-            3 => "division by zero",
-            4 => "a subscript is not from 1 to its dimension",
-            5 => "a computed GO TO has no such exit",
-            6 => "a DO's parameter is not above 0",
-            7 => "the stack runs empty or over",
-            _ => "a wrong instruction",
-        }
-    }
-}
 
 /// Compiles a deck of 80-byte cards for numbers of `k` digits: writes its object to the front of `output` and returns
 /// its length. Bytes past the object stay. Refuses by 1 to 25, and by 30 an output that is too short;
@@ -110,8 +50,8 @@ impl Ran {
 /// let deck = luvinqata::punch(b"      I=47\n      J=I*I*I\n      STOP\n      END\n").unwrap();
 /// let mut output = [0; 300];
 /// assert_eq!(luvinqata::compile(5, &deck, &mut output), Ok(232));
-/// assert_eq!(luvinqata::compile(5, &deck, &mut output[..231]).unwrap_err().number, 30);
-/// assert_eq!(luvinqata::compile(0, &deck, &mut output).unwrap_err().number, 1);
+/// assert_eq!(luvinqata::compile(5, &deck, &mut output[..231]).unwrap_err().number(), 30);
+/// assert_eq!(luvinqata::compile(0, &deck, &mut output).unwrap_err().number(), 1);
 /// ```
 pub fn compile(k: u32, deck: &[u8], output: &mut [u8]) -> Result<usize, Refusal> {
     let answer = raw::compile(k, deck, output);
@@ -125,7 +65,7 @@ pub fn compile(k: u32, deck: &[u8], output: &mut [u8]) -> Result<usize, Refusal>
 /// let deck = luvinqata::punch(b"      END").unwrap();
 /// let object = luvinqata::compile_to_vec(5, &deck).unwrap();
 /// assert_eq!(luvinqata::check(&object), Ok(()));
-/// assert_eq!(luvinqata::compile_to_vec(5, b"").unwrap_err().number, 2);
+/// assert_eq!(luvinqata::compile_to_vec(5, b"").unwrap_err().number(), 2);
 /// ```
 pub fn compile_to_vec(k: u32, deck: &[u8]) -> Result<Vec<u8>, Refusal> {
     let mut object = vec![0; LONGEST_OBJECT];
@@ -138,7 +78,7 @@ pub fn compile_to_vec(k: u32, deck: &[u8]) -> Result<Vec<u8>, Refusal> {
 ///
 /// ```
 /// let refusal = luvinqata::check(b"no object").unwrap_err();
-/// assert_eq!((refusal.number, refusal.place, refusal.kind), (40, 0, 0));
+/// assert_eq!((refusal.number(), refusal.place, refusal.kind), (40, 0, 0));
 /// ```
 pub fn check(object: &[u8]) -> Result<(), Refusal> {
     let answer = raw::check(object);
@@ -155,9 +95,9 @@ pub fn check(object: &[u8]) -> Result<(), Refusal> {
 /// let object = luvinqata::compile_to_vec(5, &deck).unwrap();
 /// let (mut store, mut state) = ([0], luvinqata::State::fresh());
 /// let ran = luvinqata::run(&object, &mut store, &mut state, 1).unwrap();
-/// assert_eq!((ran.halt, state.height, state.places[0], store), (2, 1, 7, [0]));
+/// assert_eq!((ran.halt, state.height, state.places[0], store), (luvinqata::Halt::Allowance, 1, 7, [0]));
 /// let ran = luvinqata::run(&object, &mut store, &mut state, 9).unwrap();
-/// assert_eq!((ran.halt, ran.steps, store), (0, 2, [7]));
+/// assert_eq!((ran.halt, ran.steps, store), (luvinqata::Halt::Stop, 2, [7]));
 /// ```
 pub fn run(object: &[u8], store: &mut [i64], state: &mut State, allowance: u32) -> Result<Ran, Refusal> {
     ran(raw::run(object, store, state, allowance))
@@ -173,8 +113,8 @@ pub fn run(object: &[u8], store: &mut [i64], state: &mut State, allowance: u32) 
 /// ];
 /// let object: Vec<u8> = words.into_iter().flat_map(u32::to_le_bytes).collect();
 /// let mut state = luvinqata::State::fresh();
-/// assert_eq!(luvinqata::check(&object).unwrap_err().number, 44);
-/// assert_eq!(luvinqata::bench(&object, &mut [], &mut state, 100).unwrap().halt, 7);
+/// assert_eq!(luvinqata::check(&object).unwrap_err().number(), 44);
+/// assert_eq!(luvinqata::bench(&object, &mut [], &mut state, 100).unwrap().halt, luvinqata::Halt::Stack);
 /// ```
 pub fn bench(object: &[u8], store: &mut [i64], state: &mut State, allowance: u32) -> Result<Ran, Refusal> {
     ran(raw::bench(object, store, state, allowance))
@@ -189,7 +129,7 @@ pub fn bench(object: &[u8], store: &mut [i64], state: &mut State, allowance: u32
 /// let mut table = [0; 2_000];
 /// let length = luvinqata::map(&object, &mut table).unwrap();
 /// assert_eq!(&table[..length], b"I       \0\0\0\0\0\0\0\0\0\0\0\0");
-/// assert_eq!(luvinqata::map(&object, &mut table[..19]).unwrap_err().number, 30);
+/// assert_eq!(luvinqata::map(&object, &mut table[..19]).unwrap_err().number(), 30);
 /// ```
 pub fn map(object: &[u8], table: &mut [u8]) -> Result<usize, Refusal> {
     let answer = raw::map(object, table);
@@ -200,7 +140,7 @@ pub fn map(object: &[u8], table: &mut [u8]) -> Result<usize, Refusal> {
 fn ran(answer: raw::Ran) -> Result<Ran, Refusal> {
     refusal::pass(answer.number, answer.place, answer.kind)?;
     Ok(Ran {
-        halt: answer.halt,
+        halt: Halt::with_number(answer.halt).expect("the proved calls halt by the book's numbers only"),
         steps: answer.steps,
         sequence: answer.sequence,
     })

@@ -1,61 +1,10 @@
 //! An object's values by name.
 
+use crate::names::{word, Name, Names};
 use crate::{map, Refusal};
 
 /// The most bytes that an object's names take.
 const LONGEST_MAP: usize = 2_000;
-/// The bytes of one name.
-const ENTRY: usize = 20;
-
-/// A name of the deck and the cells that hold its values.
-#[derive(Clone, Debug, PartialEq, Eq)]
-pub struct Name {
-    /// The name as it is punched.
-    pub text: String,
-    /// Its first cell.
-    pub first: usize,
-    /// An array's rows; 0 for a plain name.
-    pub rows: usize,
-    /// An array's columns; 0 for a plain name and for one dimension.
-    pub columns: usize,
-}
-
-impl Name {
-    fn read(entry: &[u8]) -> Name {
-        Name {
-            text: String::from_utf8_lossy(&entry[..8]).trim_end().to_string(),
-            first: word(entry, 8),
-            rows: word(entry, 12),
-            columns: word(entry, 16),
-        }
-    }
-
-    /// How many values it has.
-    ///
-    /// ```
-    /// # let deck = luvinqata::punch(b"      DIMENSION L(2,3)\n      I=1\n      END").unwrap();
-    /// # let object = luvinqata::compile_to_vec(5, &deck).unwrap();
-    /// let store = luvinqata::Store::new(&object).unwrap();
-    /// assert_eq!((store.names()[0].size(), store.names()[1].size()), (6, 1));
-    /// ```
-    pub fn size(&self) -> usize {
-        self.rows.max(1) * self.columns.max(1)
-    }
-
-    /// What its value is called that is so many cells after the first: `I`, `L(2)`, `L(2,1)`. Elements lie by columns.
-    fn called(&self, index: usize) -> String {
-        match (self.rows, self.columns) {
-            (0, _) => self.text.clone(),
-            (_, 0) => format!("{}({})", self.text, index + 1),
-            (rows, _) => format!("{}({},{})", self.text, index % rows + 1, index / rows + 1),
-        }
-    }
-}
-
-fn word(bytes: &[u8], at: usize) -> usize {
-    let word = [bytes[at], bytes[at + 1], bytes[at + 2], bytes[at + 3]];
-    u32::from_le_bytes(word) as usize
-}
 
 /// The cells of an object and their names.
 ///
@@ -63,14 +12,15 @@ fn word(bytes: &[u8], at: usize) -> usize {
 /// # let deck = luvinqata::punch(b"      DIMENSION L(2,2)\n      L(2,1)=I+5\n      END").unwrap();
 /// let object = luvinqata::compile_to_vec(5, &deck).unwrap();
 /// let mut store = luvinqata::Store::new(&object).unwrap();
-/// store.set("I", 42);
-/// luvinqata::run(&object, store.cells_mut(), &mut luvinqata::State::fresh(), 1_000).unwrap();
+/// store.set("I", 42).expect("the deck has I");
+/// let ran = luvinqata::run(&object, store.cells_mut(), &mut luvinqata::State::fresh(), 1_000).unwrap();
+/// assert!(ran.halt.is_end());
 /// assert_eq!(store.get("L(2,1)"), Some(47));
 /// assert_eq!(store.get("J"), None);
 /// ```
 #[derive(Clone, Debug, PartialEq, Eq)]
 pub struct Store {
-    names: Vec<Name>,
+    names: Names,
     cells: Vec<i64>,
 }
 
@@ -81,16 +31,13 @@ impl Store {
     /// # let deck = luvinqata::punch(b"      I=J\n      END").unwrap();
     /// let object = luvinqata::compile_to_vec(5, &deck).unwrap();
     /// assert_eq!(luvinqata::Store::new(&object).unwrap().cells(), [0, 0]);
-    /// assert_eq!(luvinqata::Store::new(b"no object").unwrap_err().number, 40);
+    /// assert_eq!(luvinqata::Store::new(b"no object").unwrap_err().number(), 40);
     /// ```
     pub fn new(object: &[u8]) -> Result<Store, Refusal> {
-        let mut table = [0; LONGEST_MAP];
-        let length = map(object, &mut table)?;
-        Ok(Store {
-            names: table[..length].chunks_exact(ENTRY).map(Name::read).collect(),
-            // The third word of an object that passed the check.
-            cells: vec![0; word(object, 8)],
-        })
+        let names = names_of(object)?;
+        // The third word of an object that passed the check.
+        let cells = vec![0; word(object, 8) as usize];
+        Ok(Store { names, cells })
     }
 
     /// The names in the order of their cells.
@@ -103,7 +50,7 @@ impl Store {
     /// assert_eq!((&name.text[..], name.first, name.rows, name.columns), ("L", 0, 2, 3));
     /// ```
     pub fn names(&self) -> &[Name] {
-        &self.names
+        &self.names.0
     }
 
     /// The cells, the DOs' hidden ones among them.
@@ -125,7 +72,8 @@ impl Store {
     /// # let object = luvinqata::compile_to_vec(5, &deck).unwrap();
     /// let mut store = luvinqata::Store::new(&object).unwrap();
     /// for _ in 0..2 {
-    ///     luvinqata::run(&object, store.cells_mut(), &mut luvinqata::State::fresh(), 100).unwrap();
+    ///     let ran = luvinqata::run(&object, store.cells_mut(), &mut luvinqata::State::fresh(), 100).unwrap();
+    ///     assert!(ran.halt.is_end());
     /// }
     /// assert_eq!(store.get("I"), Some(2));
     /// store.cells_mut().fill(0);
@@ -146,18 +94,7 @@ impl Store {
     /// assert_eq!(store.cell("L(3,2)"), None);
     /// ```
     pub fn cell(&self, name: &str) -> Option<usize> {
-        let (text, subscripts) = match name.split_once('(') {
-            None => (name, Vec::new()),
-            Some((text, rest)) => (text, numbers(rest.strip_suffix(')')?)?),
-        };
-        let name = self.names.iter().find(|name| name.text == text)?;
-        let index = match (name.rows, name.columns, &subscripts[..]) {
-            (0, _, []) => 0,
-            (rows, 0, [row]) if *row <= rows => row - 1,
-            (rows, columns, [row, column]) if *row <= rows && *column <= columns => row - 1 + (column - 1) * rows,
-            _ => return None,
-        };
-        Some(name.first + index)
+        self.names.cell(name)
     }
 
     /// The value of a name or an element; None if the deck has no such name.
@@ -184,6 +121,17 @@ impl Store {
     /// assert_eq!(store.set("J", 7), None);
     /// assert_eq!(store.get("I"), Some(7));
     /// ```
+    ///
+    /// What it returns cannot be left unread, for a name with a typo would start from 0:
+    ///
+    /// ```compile_fail
+    /// #![deny(unused_must_use)]
+    /// # let deck = luvinqata::punch(b"      I=I+1\n      END").unwrap();
+    /// # let object = luvinqata::compile_to_vec(5, &deck).unwrap();
+    /// let mut store = luvinqata::Store::new(&object).unwrap();
+    /// store.set("J", 7);
+    /// ```
+    #[must_use = "None: the deck has no such name, and nothing was set"]
     pub fn set(&mut self, name: &str, value: i64) -> Option<i64> {
         let cell = self.cell(name)?;
         Some(std::mem::replace(&mut self.cells[cell], value))
@@ -199,18 +147,13 @@ impl Store {
     /// assert_eq!(names, ["L(1)", "L(2)", "I"]);
     /// ```
     pub fn iter(&self) -> impl Iterator<Item = (String, i64)> + '_ {
-        self.names.iter().flat_map(move |name| {
-            let value = move |index| (name.called(index), self.cells[name.first + index]);
-            (0..name.size()).map(value)
-        })
+        self.names.values().map(|(name, cell)| (name, self.cells[cell]))
     }
 }
 
-/// One or two subscripts, each from 1 on and without a sign or a zero at its front.
-fn numbers(text: &str) -> Option<Vec<usize>> {
-    let number = |part: &str| {
-        let plain = !part.starts_with(['0', '+']);
-        plain.then(|| part.parse().ok()).flatten()
-    };
-    text.split(',').map(number).collect()
+/// Checks an object and gives its names.
+pub(crate) fn names_of(object: &[u8]) -> Result<Names, Refusal> {
+    let mut table = [0; LONGEST_MAP];
+    let length = map(object, &mut table)?;
+    Ok(Names::read(&table[..length]))
 }

@@ -2,7 +2,7 @@
 
 use std::thread;
 
-use luvinqata::{compile, Refusal, LONGEST_OBJECT};
+use luvinqata::{compile, Rule, LONGEST_OBJECT};
 
 const STACK: usize = 2 << 20;
 /// The text columns of a first card and nine continuations.
@@ -21,32 +21,34 @@ fn deck(text: &str) -> Vec<u8> {
     deck.into_bytes()
 }
 
-fn compiled(text: &str) -> Result<usize, Refusal> {
+/// The object's length, or the rule and the place.
+fn compiled(text: &str) -> Result<usize, (Rule, u32)> {
     let deck = deck(text);
     let call = move || compile(9, &deck, &mut [0; LONGEST_OBJECT]);
     let thread = thread::Builder::new().stack_size(STACK).spawn(call).expect("a thread");
-    thread.join().expect("no overflow")
+    let answer = thread.join().expect("no overflow");
+    answer.map_err(|refusal| (refusal.rule, refusal.place))
 }
 
 #[test]
 fn the_deepest_statements() {
-    let refused = |number| {
-        Err(Refusal {
-            number,
-            place: 1,
-            kind: 0,
-        })
-    };
+    let refused = |rule| Err((rule, 1));
     let pairs = |depth: usize, inner: &str| format!("{}{inner}{}", "(".repeat(depth), ")".repeat(depth));
-    assert_eq!(compiled(&format!("I={}", "(".repeat(LONGEST - 2))), refused(10));
-    assert_eq!(compiled(&format!("IF({}", "(".repeat(LONGEST - 3))), refused(10));
-    assert_eq!(compiled(&"(".repeat(LONGEST)), refused(10));
-    assert_eq!(compiled(&format!("I={}", pairs(328, "1"))), refused(14));
-    assert_eq!(compiled(&format!("I={}", pairs(328, "-J"))), refused(14));
-    assert_eq!(compiled(&format!("IF({})1,1,1", pairs(325, "J"))), refused(14));
+    assert_eq!(compiled(&format!("I={}", "(".repeat(LONGEST - 2))), refused(Rule::Form));
+    assert_eq!(
+        compiled(&format!("IF({}", "(".repeat(LONGEST - 3))),
+        refused(Rule::Form)
+    );
+    assert_eq!(compiled(&"(".repeat(LONGEST)), refused(Rule::Form));
+    assert_eq!(compiled(&format!("I={}", pairs(328, "1"))), refused(Rule::Parentheses));
+    assert_eq!(compiled(&format!("I={}", pairs(328, "-J"))), refused(Rule::Parentheses));
+    assert_eq!(
+        compiled(&format!("IF({})1,1,1", pairs(325, "J"))),
+        refused(Rule::Parentheses)
+    );
     assert_eq!(
         compiled(&format!("I={}1{}", "-J*(".repeat(131), ")".repeat(131))),
-        refused(14)
+        refused(Rule::Parentheses)
     );
     assert!(compiled(&format!("I={}", pairs(16, &format!("1{}", "+1".repeat(312))))).is_ok());
     assert!(compiled(&format!("I={}1{}", "J-K*(".repeat(16), ")".repeat(16))).is_ok());

@@ -42,7 +42,7 @@ fn lend(
         places: lent.places,
     };
     let ran = |ran: luvinqata::Ran| Ran {
-        halt: ran.halt,
+        halt: ran.halt.number(),
         steps: ran.steps,
         sequence: ran.sequence,
     };
@@ -51,7 +51,7 @@ fn lend(
 
 fn refusal(refusal: luvinqata::Refusal) -> Refusal {
     Refusal {
-        number: refusal.number,
+        number: refusal.number(),
         place: refusal.place,
         kind: refusal.kind,
     }
