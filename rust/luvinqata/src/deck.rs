@@ -6,6 +6,8 @@ use crate::Refusal;
 
 /// The bytes of a card.
 pub const CARD: usize = 80;
+/// One card more than a deck may have.
+const TOO_MANY: usize = 513;
 
 /// A line of text that is longer than a card.
 #[derive(Clone, Copy, Debug, PartialEq, Eq)]
@@ -24,26 +26,34 @@ impl fmt::Display for LongLine {
 impl std::error::Error for LongLine {}
 
 /// The deck of a plain text: a card for each line, shorter lines filled with blanks. Line ends may be of either sort, and
-/// the last line may have none. A byte order mark, which some editors put first, is left out.
+/// the last line may have none. Blank lines at the end are no cards, and after the 513th card, with which every deck is
+/// refused, no more are punched. A byte order mark, which some editors put first, is left out.
 ///
 /// ```
 /// let deck = luvinqata::punch(b"      I=47\n      END\n").unwrap();
 /// assert_eq!(deck.len(), 160);
 /// assert_eq!(&deck[80..91], b"      END  ");
 /// assert_eq!(luvinqata::punch("\u{feff}      I=47\r\n      END".as_bytes()).unwrap(), deck);
+/// assert_eq!(luvinqata::punch(b"      I=47\n      END\n\n  \r\n").unwrap(), deck);
+/// assert_eq!(luvinqata::punch(b"\n      END").unwrap()[80..], deck[80..], "a blank line before others is a card");
 /// assert_eq!(luvinqata::punch(&[b' '; 81]).unwrap_err().line, 1);
+/// let endless = [&b"\n".repeat(1_000_000)[..], b"      END"].concat();
+/// assert_eq!(luvinqata::punch(&endless).unwrap().len(), 513 * 80);
 /// ```
 pub fn punch(text: &[u8]) -> Result<Vec<u8>, LongLine> {
     let mut deck = Vec::new();
     let text = text.strip_prefix(b"\xEF\xBB\xBF").unwrap_or(text);
-    if text.is_empty() {
-        return Ok(deck);
-    }
-    let text = text.strip_suffix(b"\n").unwrap_or(text);
     for (index, line) in text.split(|byte| *byte == b'\n').enumerate() {
         let line = line.strip_suffix(b"\r").unwrap_or(line);
         if line.len() > CARD {
             return Err(LongLine { line: index + 1 });
+        }
+        if line.iter().all(|byte| *byte == b' ') {
+            continue;
+        }
+        deck.resize(CARD * index.min(TOO_MANY), b' ');
+        if index >= TOO_MANY {
+            break;
         }
         deck.extend_from_slice(line);
         deck.resize(CARD * (index + 1), b' ');
