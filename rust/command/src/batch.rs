@@ -1,19 +1,21 @@
 //! `batch`: a request a line on standard input, its answer on the same line of standard output.
 
-use std::io::{stdin, BufRead};
+use std::io::{self, stdin, BufRead};
 
 use luvinqata::{bench, check, compile, run, Ran, Refusal, State, Store, LONGEST_OBJECT, STACK};
 
-use crate::input::Options;
 use crate::objects::{mapped, refused};
 use crate::output::Output;
 use crate::{program, Outcome, Status};
 
-pub fn batch(_: &Options, out: &mut Output) -> Outcome {
-    for line in stdin().lock().split(b'\n') {
-        let line = line.map_err(|error| format!("standard input: {error}"))?;
+/// No right request needs as many bytes.
+const LONGEST: usize = 1_048_576;
+
+pub fn batch(out: &mut Output) -> Outcome {
+    let (mut input, mut line) = (stdin().lock(), Vec::new());
+    while let Some(whole) = next(&mut input, &mut line).map_err(|error| format!("standard input: {error}"))? {
         let request = line.strip_suffix(b"\r").unwrap_or(&line);
-        let answer = std::str::from_utf8(request).ok().and_then(answer);
+        let answer = std::str::from_utf8(request).ok().filter(|_| whole).and_then(answer);
         out.line(answer.as_deref().unwrap_or("BAD REQUEST"));
         // Whoever drives this through a pipe waits for the answer.
         out.flush();
@@ -22,6 +24,27 @@ pub fn batch(_: &Options, out: &mut Output) -> Outcome {
         }
     }
     Ok(Status::default())
+}
+
+/// Reads a line, no more than its longest part, and says whether that was all of it. None: there is no more.
+fn next(input: &mut impl BufRead, line: &mut Vec<u8>) -> io::Result<Option<bool>> {
+    line.clear();
+    let mut whole = true;
+    loop {
+        let part = input.fill_buf()?;
+        let end = part.iter().position(|byte| *byte == b'\n');
+        let length = end.unwrap_or(part.len());
+        let is_last = end.is_some() || part.is_empty();
+        whole &= line.len() + length <= LONGEST;
+        if whole {
+            line.extend_from_slice(&part[..length]);
+        }
+        let had_any = end.is_some() || !line.is_empty() || !whole;
+        input.consume(length + usize::from(end.is_some()));
+        if is_last {
+            return Ok(had_any.then_some(whole));
+        }
+    }
 }
 
 /// None: the request cannot be read.
@@ -120,13 +143,10 @@ fn unsigned(field: &str) -> Option<u32> {
     digits(field).then(|| field.parse().ok()).flatten()
 }
 
-pub fn signed(field: &str) -> Option<i64> {
-    decimal(field).then(|| field.parse().ok()).flatten()
-}
-
-/// Digits with or without a minus sign.
-pub fn decimal(field: &str) -> bool {
+fn signed(field: &str) -> Option<i64> {
     digits(field.strip_prefix('-').unwrap_or(field))
+        .then(|| field.parse().ok())
+        .flatten()
 }
 
 fn digits(field: &str) -> bool {

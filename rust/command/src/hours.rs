@@ -1,189 +1,181 @@
 //! `hours`: a deck run once for each row of a table.
 
-use std::iter::once;
+mod chart;
+mod columns;
+mod hour;
+mod rows;
+mod table;
+mod tally;
 
-use luvinqata::{compile_to_vec, run, Name, Ran, Refusal, State, Store};
+use std::io::{IsTerminal, Read};
+use std::path::Path;
+use std::thread;
 
-use crate::batch::{decimal, signed};
-use crate::csv;
-use crate::input::Options;
+use luvinqata::{Program, Store};
+
+use crate::arguments::Hours;
+use crate::file::Beside;
 use crate::output::Output;
-use crate::run::tell_refusal;
-use crate::{Outcome, Status};
+use crate::told::tell_refusal;
+use crate::{given, input, Outcome};
+use chart::Chart;
+use columns::Columns;
+use hour::{Hour, Machine, Worker};
+use rows::{Row, Rows};
+use table::Table;
+use tally::Tally;
 
-/// The columns that are written besides values and copies.
-const OWN: [&str; 3] = ["line", "halt", "loss"];
-/// How often progress is shown, in lines.
-const PROGRESS: usize = 500;
+/// How many rows a thread has at a time.
+const SHARE: usize = 512;
 
-struct Hours<'o> {
-    object: &'o [u8],
-    /// Names, and the cells of a run.
-    store: Store,
-    /// The cell that each column gives a value; None: the column is copied.
-    columns: Vec<Option<usize>>,
-    digits: u32,
-    steps: u32,
+/// Where hours go to when they are done.
+struct Written<'o> {
+    table: Table,
+    file: Option<Beside>,
+    chart: Option<Chart>,
+    tally: Tally,
+    out: &'o mut Output,
 }
 
-#[derive(Default)]
-struct Counts {
-    done: usize,
-    lost: usize,
-    unread: usize,
-    /// Neither STOP nor END.
-    stuck: usize,
+pub fn hours(options: &Hours, out: &mut Output) -> Outcome {
+    out.quiet = options.quiet;
+    let deck = input::deck(&options.deck, out)?;
+    let compile = |digits| Program::compile(digits, &deck);
+    let programs = compile(options.deck.digits).and_then(|program| {
+        let other = options.compare.map(compile).transpose()?;
+        Ok((program, other))
+    });
+    match programs {
+        Ok((program, other)) => run_table(options, &deck, &program, other.as_ref(), out),
+        Err(refusal) => Ok(tell_refusal(&refusal, &deck, out)),
+    }
 }
 
-pub fn hours(options: &Options, out: &mut Output) -> Outcome {
-    let (deck, table) = (options.deck()?, options.file(1)?);
-    let object = match compile_to_vec(options.digits, &deck) {
-        Ok(object) => object,
-        Err(refusal) => return Ok(tell_refusal(&refusal, &deck, out)),
+fn run_table(options: &Hours, deck: &[u8], program: &Program, other: Option<&Program>, out: &mut Output) -> Outcome {
+    let named = |words| format!("{}: {words}", options.table.display());
+    let separator = options.separator.byte();
+    let mut rows = Rows::new(input::open(&options.table)?, separator).map_err(named)?;
+    let header = rows.header().map_err(named)?;
+    let store = Store::new(program.object()).expect("a compiled object passes the check");
+    let set = given::cells(&options.running.set, &store, program.digits())?;
+    let columns = Columns::of(&header, &store, separator).map_err(named)?;
+    columns.tell_copied(&store, out);
+    columns.judge(program, &store, &set).map_err(named)?;
+    let machine = |program| Machine::new(program, &set, options.running.steps);
+    let worker = Worker {
+        columns: &columns,
+        machine: machine(program),
+        other: other.map(machine),
     };
-    let table = table.strip_prefix(b"\xEF\xBB\xBF").unwrap_or(&table);
-    let mut rows = csv::rows(table);
-    let header = rows.next().map_or(Ok(Vec::new()), |(_, row)| csv::fields(row));
-    let header = header.map_err(|words| format!("{}: line 1: {words}", options.name(1)))?;
-    let store = Store::new(&object).expect("a compiled object passes the check");
-    let mut hours = Hours {
-        columns: columns(&header, &store, out)?,
-        object: &object,
-        store,
-        digits: options.digits,
-        steps: options.steps,
-    };
-    let names = hours.store.iter().map(|(name, _)| name).collect();
-    out.line(hours.row(header, names, OWN.map(str::to_string)));
-    let counts = hours.run_all(rows, table, out);
-    Ok(Status {
-        lost: counts.lost > 0,
-        failed: counts.unread > 0,
+    let mut written = Written::new(options, &columns, &store, out)?;
+    let trouble = written.run_all(rows, worker, threads(options));
+    written.finish(options, deck, trouble)
+}
+
+fn threads(options: &Hours) -> usize {
+    let cores = || thread::available_parallelism().map_or(1, usize::from);
+    options.threads.map_or_else(cores, usize::from)
+}
+
+/// The hours of some rows, in their order, shared out to threads.
+fn done(rows: &[Row], workers: &mut [Worker]) -> Vec<Hour> {
+    let share = rows.len().div_ceil(workers.len()).max(1);
+    thread::scope(|scope| {
+        let run = |(rows, worker): (&'_ [Row], &'_ mut Worker)| rows.iter().map(|row| worker.hour(row)).collect();
+        let shares = rows.chunks(share).zip(workers);
+        let threads: Vec<_> = shares
+            .map(|share| scope.spawn(move || -> Vec<Hour> { run(share) }))
+            .collect();
+        threads
+            .into_iter()
+            .flat_map(|thread| thread.join().expect("hours are run"))
+            .collect()
     })
 }
 
-/// The cell that each column gives a value. A column that gives none is told.
-fn columns(header: &[String], store: &Store, out: &mut Output) -> Result<Vec<Option<usize>>, String> {
-    let cells: Vec<Option<usize>> = header.iter().map(|name| store.cell(name)).collect();
-    for (index, (name, cell)) in header.iter().zip(&cells).enumerate() {
-        if cell.is_some() && cells[..index].contains(cell) {
-            return Err(format!("two columns are named '{name}'"));
-        }
-        if OWN.contains(&&name[..]) {
-            return Err(format!(
-                "a column is named '{name}', as one that is written: give it another name"
-            ));
-        }
-        if cell.is_none() {
-            out.say(format_args!(
-                "column '{name}' is no value of the deck: it is copied as it is"
-            ));
-        }
+impl Written<'_> {
+    fn new<'o>(options: &Hours, columns: &Columns, store: &Store, out: &'o mut Output) -> Result<Written<'o>, String> {
+        let read: [&Path; 2] = [&options.deck.deck, &options.table];
+        let mut table = Table::whole(columns, store, options.separator.byte(), options.json);
+        let chart = options
+            .chart
+            .as_ref()
+            .map(|asked| Chart::new(asked, &table))
+            .transpose()?;
+        let only = options
+            .only
+            .as_ref()
+            .map(|names| given::values(names, store))
+            .transpose()?;
+        table.choose(columns, options.keep_inputs, only.as_deref())?;
+        let file = options
+            .output
+            .as_ref()
+            .map(|place| Beside::new(place, &read))
+            .transpose()?;
+        let on_screen = file.is_none() && std::io::stdout().is_terminal();
+        let length = std::fs::metadata(&options.table).map_or(0, |data| data.len());
+        out.begin_progress(length, on_screen);
+        let mut written = Written {
+            table,
+            file,
+            chart,
+            tally: Tally::default(),
+            out,
+        };
+        written.put(&written.table.header())?;
+        Ok(written)
     }
-    if cells.iter().all(Option::is_none) {
-        let values: Vec<String> = store.names().iter().map(last_value).collect();
-        return Err(format!(
-            "line 1 names no value of the deck, which has {}",
-            values.join(", ")
-        ));
-    }
-    Ok(cells)
-}
 
-/// A name, or its last element.
-fn last_value(name: &Name) -> String {
-    match (name.rows, name.columns) {
-        (0, _) => name.text.clone(),
-        (rows, 0) => format!("{}({rows})", name.text),
-        (rows, columns) => format!("{}({rows},{columns})", name.text),
+    fn put(&mut self, bytes: &[u8]) -> Result<(), String> {
+        match &mut self.file {
+            Some(file) => file.write(bytes)?,
+            None => self.out.bytes(bytes),
+        }
+        Ok(())
     }
-}
 
-impl Hours<'_> {
-    fn run_all<'t>(&mut self, rows: impl Iterator<Item = (usize, &'t [u8])>, table: &[u8], out: &mut Output) -> Counts {
-        let lines = table.iter().filter(|byte| **byte == b'\n').count();
-        let mut counts = Counts::default();
-        for (line, row) in rows.filter(|(_, row)| !row.is_empty()) {
-            if line % PROGRESS == 0 {
-                out.show_progress(format_args!("{line} of {lines} lines"));
-            }
-            match self.run_one(row) {
-                Ok((fields, ran)) => {
-                    counts.add(&ran);
-                    let ends = [line, ran.halt.number() as usize, ran.sequence as usize];
-                    out.line(self.row(fields, self.values(), ends.map(|end| end.to_string())));
+    /// Runs block after block; says why it stopped before the table's end.
+    fn run_all(&mut self, mut rows: Rows<impl Read>, worker: Worker, threads: usize) -> Result<(), String> {
+        let mut workers = vec![worker; threads];
+        loop {
+            let (block, trouble) = rows.block(SHARE * threads);
+            for hour in done(&block, &mut workers) {
+                self.put(&self.table.row(&hour))?;
+                self.tally.add(&hour, self.out);
+                if let Some(chart) = &mut self.chart {
+                    chart.add(&hour);
                 }
-                Err(words) => {
-                    counts.unread += 1;
-                    out.say(format_args!("line {line}: {words}"));
+                if self.out.failed {
+                    return Ok(());
                 }
             }
-            if out.failed {
-                return counts;
+            self.out.show_progress(rows.bytes);
+            match trouble {
+                Some(words) => return Err(words),
+                None if block.is_empty() => return Ok(()),
+                None => {}
             }
         }
-        out.say(counts.words());
-        counts
     }
 
-    /// The row's fields and how its run ended, or why it cannot be run.
-    fn run_one(&mut self, row: &[u8]) -> Result<(Vec<String>, Ran), String> {
-        let fields = csv::fields(row)?;
-        if fields.len() != self.columns.len() {
-            return Err(format!("it has {} fields, not {}", fields.len(), self.columns.len()));
+    fn finish(self, options: &Hours, deck: &[u8], trouble: Result<(), String>) -> Outcome {
+        self.out.end_progress();
+        let mut status = self.tally.status();
+        if let Err(words) = &trouble {
+            self.out.fail(words);
+            status.failed = true;
         }
-        self.store.cells_mut().fill(0);
-        for (field, cell) in fields.iter().zip(&self.columns) {
-            if let Some(cell) = cell {
-                self.store.cells_mut()[*cell] = value(field)?;
-            }
+        if self.out.failed {
+            return Ok(status);
         }
-        let ran = run(self.object, self.store.cells_mut(), &mut State::fresh(), self.steps);
-        ran.map(|ran| (fields, ran)).map_err(|refusal| self.words(&refusal))
-    }
-
-    /// A refusal for a value over k digits is one for the largest.
-    fn words(&self, refusal: &Refusal) -> String {
-        match self.store.iter().max_by_key(|(_, value)| value.unsigned_abs()) {
-            Some((name, value)) if refusal.number() == 51 => format!("{name} is {value}, over {} digits", self.digits),
-            _ => refusal.to_string(),
+        if let (Some(file), Ok(())) = (self.file, &trouble) {
+            file.finish()?;
         }
-    }
-
-    fn values(&self) -> Vec<String> {
-        let cells = |name: &Name| &self.store.cells()[name.first..][..name.size()];
-        let values = self.store.names().iter().flat_map(cells);
-        values.map(i64::to_string).collect()
-    }
-
-    /// The line, the copied fields, the values, the halt and the first loss.
-    fn row(&self, fields: Vec<String>, values: Vec<String>, [line, halt, loss]: [String; 3]) -> String {
-        let copied = fields.into_iter().zip(&self.columns).filter(|(_, cell)| cell.is_none());
-        let copied = copied.map(|(field, _)| field);
-        csv::line(once(line).chain(copied).chain(values).chain([halt, loss]))
-    }
-}
-
-fn value(field: &str) -> Result<i64, String> {
-    signed(field).ok_or_else(|| match decimal(field) {
-        true => format!("'{field}' is too large"),
-        false => format!("'{field}' is no whole number"),
-    })
-}
-
-impl Counts {
-    fn add(&mut self, ran: &Ran) {
-        self.done += 1;
-        self.lost += usize::from(ran.sequence > 0);
-        self.stuck += usize::from(!ran.halt.is_end());
-    }
-
-    fn words(&self) -> String {
-        let (done, lost, unread) = (self.done, self.lost, self.unread);
-        let words = format!("{done} hours done, {lost} lost digits, {unread} could not be read");
-        match self.stuck {
-            0 => words,
-            stuck => format!("{words}, {stuck} did not reach STOP or END"),
+        if let Some(chart) = self.chart {
+            chart.write(&[&options.deck.deck, &options.table])?;
         }
+        self.tally.tell(deck, options.compare, self.out);
+        Ok(status)
     }
 }

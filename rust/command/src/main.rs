@@ -1,79 +1,85 @@
 //! The command `luvinqata`. It reads decks, tables and requests, and leaves all judging to the proved calls.
 
+mod arguments;
 mod batch;
-mod csv;
-mod help;
+mod closed;
+mod file;
+mod given;
 mod hours;
 mod input;
 mod objects;
 mod output;
 mod program;
 mod run;
+mod told;
+mod uses;
 
-use std::ops::RangeInclusive;
 use std::process::ExitCode;
 
-use input::Options;
+use clap::{CommandFactory, Parser};
+
+use arguments::{Arguments, Subcommand};
 use output::Output;
 
-/// What the exit status says: 1 if digits were lost, 2 if something was refused or could not be read or written, 3 if
-/// both.
+/// What the exit status says, a sum.
 #[derive(Clone, Copy, Default)]
 pub struct Status {
+    /// 1: digits were lost.
     pub lost: bool,
+    /// 2: something was refused, or could not be read or written.
     pub failed: bool,
+    /// 4: a run did not reach STOP or END.
+    pub stuck: bool,
 }
 
 impl Status {
     pub const FAILED: Status = Status {
         lost: false,
         failed: true,
+        stuck: false,
     };
+
+    fn sum(self) -> u8 {
+        u8::from(self.lost) + 2 * u8::from(self.failed) + 4 * u8::from(self.stuck)
+    }
 }
 
 /// The status, or why the command cannot go on.
 pub type Outcome = Result<Status, String>;
 
-type Subcommand = fn(&Options, &mut Output) -> Outcome;
-
-/// The name, what it does, and how many files it takes.
-const SUBCOMMANDS: [(&str, Subcommand, RangeInclusive<usize>); 6] = [
-    ("run", run::run, 1..=1),
-    ("compile", run::compile, 1..=2),
-    ("check", objects::check, 1..=1),
-    ("map", objects::map, 1..=1),
-    ("hours", hours::hours, 2..=2),
-    ("batch", batch::batch, 0..=0),
-];
-
 fn main() -> ExitCode {
     let mut out = Output::new();
-    let status = command(&mut out).unwrap_or_else(|message| {
-        out.say(format_args!("luvinqata: {message}"));
-        Status::FAILED
-    });
+    let mut status = match Arguments::try_parse() {
+        Ok(arguments) => obey(arguments.subcommand, &mut out).unwrap_or_else(|message| {
+            out.fail(&message);
+            Status::FAILED
+        }),
+        Err(asked) => {
+            out.answer(&asked);
+            Status {
+                failed: asked.use_stderr(),
+                ..Status::default()
+            }
+        }
+    };
     out.flush();
-    ExitCode::from(u8::from(status.lost) + 2 * u8::from(status.failed || out.failed))
+    status.failed |= out.failed;
+    ExitCode::from(status.sum())
 }
 
-fn command(out: &mut Output) -> Outcome {
-    let mut arguments = std::env::args_os();
-    let name = arguments.nth(1).unwrap_or_default();
-    let name = name.to_string_lossy();
-    if matches!(&name[..], "--help" | "-h" | "help") {
-        out.line(help::ALL);
-        return Ok(Status::default());
+fn obey(subcommand: Subcommand, out: &mut Output) -> Outcome {
+    match subcommand {
+        Subcommand::Run(options) => run::run(&options, out),
+        Subcommand::Compile(options) => run::compile(&options, out),
+        Subcommand::Check(options) => objects::check(&options, out),
+        Subcommand::Map(options) => objects::map(&options, out),
+        Subcommand::Hours(options) => hours::hours(&options, out),
+        Subcommand::Batch => batch::batch(out),
+        Subcommand::Completions { shell } => {
+            let mut script = Vec::new();
+            clap_complete::generate(shell, &mut Arguments::command(), "luvinqata", &mut script);
+            out.bytes(&script);
+            Ok(Status::default())
+        }
     }
-    let Some((name, subcommand, files)) = SUBCOMMANDS.iter().find(|(known, ..)| *known == name) else {
-        return Err(format!("no subcommand '{name}'\n{}", help::ALL));
-    };
-    let options = input::options(help::usage(name), arguments)?;
-    if options.help {
-        out.line(help::of(name));
-        return Ok(Status::default());
-    }
-    if !files.contains(&options.files.len()) {
-        return Err(format!("{}\n'luvinqata {name} --help' tells more", help::usage(name)));
-    }
-    subcommand(&options, out)
 }

@@ -2,20 +2,20 @@
 
 use luvinqata::{Name, Refusal, Store};
 
-use crate::input::Options;
+use crate::arguments::Object;
 use crate::output::Output;
-use crate::{Outcome, Status};
+use crate::{input, Outcome, Status};
 
-pub fn check(options: &Options, out: &mut Output) -> Outcome {
-    match luvinqata::check(&options.file(0)?) {
+pub fn check(options: &Object, out: &mut Output) -> Outcome {
+    match luvinqata::check(&input::object(&options.object)?) {
         Ok(()) => out.line("OK"),
         Err(refusal) => return Ok(tell(&refusal, out)),
     }
     Ok(Status::default())
 }
 
-pub fn map(options: &Options, out: &mut Output) -> Outcome {
-    match Store::new(&options.file(0)?) {
+pub fn map(options: &Object, out: &mut Output) -> Outcome {
+    match Store::new(&input::object(&options.object)?) {
         Ok(store) => store.names().iter().for_each(|name| out.line(mapped(name))),
         Err(refusal) => return Ok(tell(&refusal, out)),
     }

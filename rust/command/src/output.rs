@@ -3,15 +3,17 @@
 use std::fmt::Display;
 use std::io::{self, BufWriter, ErrorKind, IsTerminal, StdoutLock, Write};
 
-/// Back to the line's beginning, and the line erased.
-const ERASE: &str = "\r\x1b[K";
+use indicatif::{ProgressBar, ProgressStyle};
+
+use crate::closed;
 
 pub struct Output {
     out: BufWriter<StdoutLock<'static>>,
     /// Something could not be written. It was told once, unless the reader has closed the pipe.
     pub failed: bool,
-    /// Progress stands on the screen.
-    progress: bool,
+    /// Only failures are told.
+    pub quiet: bool,
+    progress: ProgressBar,
 }
 
 impl Output {
@@ -19,17 +21,20 @@ impl Output {
         Output {
             out: BufWriter::new(io::stdout().lock()),
             failed: false,
-            progress: false,
+            quiet: false,
+            progress: ProgressBar::hidden(),
         }
     }
 
     pub fn line(&mut self, line: impl Display) {
-        let written = writeln!(self.out, "{line}");
-        self.note(written);
+        self.bytes(format!("{line}\n").as_bytes());
     }
 
     pub fn bytes(&mut self, bytes: &[u8]) {
-        let written = self.out.write_all(bytes);
+        let written = match closed::standard_output() {
+            true => Err(io::Error::other("it is closed")),
+            false => self.out.write_all(bytes),
+        };
         self.note(written);
     }
 
@@ -41,22 +46,44 @@ impl Output {
     /// A line on standard error, after all that was written before it.
     pub fn say(&mut self, line: impl Display) {
         self.flush();
-        self.tell(line);
+        if !self.quiet {
+            self.tell(line);
+        }
     }
 
-    /// Words on a terminal, until there are others. Where what is written is on the screen too, it is progress enough.
-    pub fn show_progress(&mut self, words: impl Display) {
-        if io::stderr().is_terminal() && !io::stdout().is_terminal() {
-            let _ = write!(io::stderr(), "{ERASE}{words}");
-            self.progress = true;
+    /// Why the command cannot go on.
+    pub fn fail(&mut self, message: &str) {
+        self.flush();
+        self.tell(format_args!("luvinqata: {message}"));
+    }
+
+    /// Help on standard output, a wrong use on standard error.
+    pub fn answer(&mut self, asked: &clap::Error) {
+        match asked.use_stderr() {
+            true => self.tell(asked.to_string().trim_end()),
+            false => self.bytes(asked.to_string().as_bytes()),
         }
+    }
+
+    /// Progress through so many bytes, where standard error is a terminal and the written table is not on it too.
+    pub fn begin_progress(&mut self, bytes: u64, table_on_screen: bool) {
+        if !table_on_screen && !self.quiet && io::stderr().is_terminal() {
+            let style = ProgressStyle::with_template("{bytes} of {total_bytes} {wide_bar} {eta}");
+            self.progress = ProgressBar::new(bytes).with_style(style.expect("a template"));
+        }
+    }
+
+    pub fn show_progress(&self, bytes: u64) {
+        self.progress.set_position(bytes);
+    }
+
+    pub fn end_progress(&self) {
+        self.progress.finish_and_clear();
     }
 
     /// If standard error cannot be written, there is nobody to tell.
     fn tell(&mut self, line: impl Display) {
-        let erase = if self.progress { ERASE } else { "" };
-        let _ = writeln!(io::stderr(), "{erase}{line}");
-        self.progress = false;
+        self.progress.suspend(|| drop(writeln!(io::stderr(), "{line}")));
     }
 
     fn note(&mut self, written: io::Result<()>) {

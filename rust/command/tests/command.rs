@@ -46,7 +46,10 @@ fn digits_and_steps() {
     assert_eq!(ended.out, "HALT 2 STEPS 3 DROP 0\nI 47\nJ 0\n");
     assert_eq!(
         (ended.status, ended.told.as_str()),
-        (0, "halt 2: the steps allowed are used up\n")
+        (
+            4,
+            "halt 2: the steps allowed are used up, at statement 2:\ncard   3 |      J=I*I*I\n"
+        )
     );
     assert_eq!(
         luvinqata(&["run", path(&deck), "--digits", "10"], b"").out,
@@ -128,14 +131,17 @@ fn the_examples() {
 
 #[test]
 fn help_and_wrong_use() {
-    for subcommand in ["run", "compile", "check", "map", "hours", "batch"] {
+    let all = luvinqata(&["--help"], b"");
+    for subcommand in ["run", "compile", "check", "map", "hours", "batch", "completions"] {
         let ended = luvinqata(&[subcommand, "--help"], b"");
         assert_eq!(ended.status, 0);
-        assert!(ended.out.starts_with(&format!("usage: luvinqata {subcommand}")));
+        assert!(ended.out.contains(&format!("Usage: luvinqata {subcommand}")));
         assert!(ended.out.contains("\nexample: "));
-        assert!(luvinqata(&["--help"], b"").out.contains(&format!("\n  {subcommand} ")));
+        assert!(all.out.contains(&format!("\n  {subcommand} ")));
     }
-    let wrong: [&[&str]; 12] = [
+    assert_eq!(luvinqata(&["--version"], b"").out, "luvinqata 0.1.0\n");
+    assert!(luvinqata(&["completions", "bash"], b"").out.contains("--keep-inputs"));
+    let wrong: [&[&str]; 17] = [
         &[],
         &["walk"],
         &["run"],
@@ -143,20 +149,40 @@ fn help_and_wrong_use() {
         &["run", "--fast", "a"],
         &["run", "--digits", "five", "a"],
         &["run", "a", "--digits"],
+        &["run", "a", "--cards", "--text"],
+        &["run", "a", "--set", "I"],
+        &["run", "a", "--set", "I=1.5"],
         &["compile", "--steps", "9", "a"],
         &["check", "--text", "a"],
         &["batch", "--cards"],
         &["run", "no/such/deck"],
         &["hours", "a"],
+        &["hours", "a", "b", "--chart", "I,J"],
+        &["hours", "a", "b", "--threads", "0"],
     ];
     for arguments in wrong {
         let ended = luvinqata(arguments, b"");
         assert_eq!((ended.status, ended.out.as_str()), (2, ""), "{arguments:?}");
-        assert!(ended.told.starts_with("luvinqata: "), "{arguments:?}");
+        assert!(!ended.told.is_empty(), "{arguments:?}");
     }
     assert!(luvinqata(&["run", "no/such/deck"], b"").told.contains("no/such/deck"));
-    assert_eq!(
-        luvinqata(&["run", "--steps", "5000000000", "a"], b"").told,
-        "luvinqata: --steps takes a whole number up to 4294967295, not '5000000000'\n"
+    let many = luvinqata(&["run", "--steps", "5000000000", "a"], b"");
+    assert!(
+        many.told.contains("--steps") && many.told.contains("5000000000"),
+        "{}",
+        many.told
     );
+}
+
+#[test]
+fn options_as_other_tools_have_them() {
+    let gale = top("examples/gale.txt");
+    let nine = "HALT 0 STEPS 9 DROP 0\nI 47\nJ 103823\n";
+    for arguments in [
+        &["run", "--digits=9", path(&gale)][..],
+        &["run", "--digits", "9", "--", path(&gale)],
+        &["run", path(&gale), "--digits", "9"],
+    ] {
+        assert_eq!(luvinqata(arguments, b"").out, nine, "{arguments:?}");
+    }
 }

@@ -19,13 +19,15 @@ fn the_gale_by_hours() {
     let (deck, table) = (top("examples/gale-hours.txt"), top("examples/gale-hours.csv"));
     let ended = luvinqata(&["hours".as_ref(), deck.as_os_str(), table.as_os_str()], b"");
     assert_eq!(ended.status, 3);
-    let losing: Vec<&str> = ended.out.lines().skip(1).filter(|row| !row.ends_with(",0")).collect();
-    assert_eq!(losing, ["6,04,3823,47,382,1,1", "7,05,40608,52,4060,1,1"]);
+    let odd: Vec<&str> = ended.out.lines().skip(1).filter(|row| !row.ends_with(",0")).collect();
+    assert_eq!(odd, ["6,04,3823,47,382,1,1", "7,05,40608,52,4060,1,1", "9,07,,,,,"]);
     assert_eq!(
         ended.told,
         "column 'hour' is no value of the deck: it is copied as it is\n\
-         line 9: 'n/a' is no whole number\n\
-         8 hours done, 2 lost digits, 1 could not be read\n"
+         line 9: KNOTS: 'n/a' is no whole number\n\
+         8 hours done, 2 lost digits, 1 could not be read\n\
+         digits were lost in 2, first at statement 1:\n\
+         card   4 |      KUBE=KNOTS*KNOTS*KNOTS\n"
     );
 }
 
@@ -37,28 +39,30 @@ fn tables() {
     let one = "1 hours done, 0 lost digits, 0 could not be read\n";
     let cases: [(&str, i32, &str, String); 8] = [
         ("KNOTS\n12\n", 0, "2,1728,12,172,1,0\n", one.to_string()),
-        ("\u{feff}KNOTS\r\n\r\n9\r\n", 0, "3,729,9,72,1,0\n", one.to_string()),
+        ("\u{feff}\"KNOTS\"\r\n\r\n9\r\n", 0, "3,729,9,72,1,0\n", one.to_string()),
         (
             "KNOTS\n47\n",
             1,
             "2,3823,47,382,1,1\n",
-            "1 hours done, 1 lost digits, 0 could not be read\n".to_string(),
+            "1 hours done, 1 lost digits, 0 could not be read\ndigits were lost in 1, first at statement 1:\n\
+             card   4 |      KUBE=KNOTS*KNOTS*KNOTS\n"
+                .to_string(),
         ),
         (
             "KNOTS\n1,2\n100000\n\n5\"\n-9223372036854775808\n9223372036854775808\n\n-3\n",
             2,
-            "9,-27,-3,-2,1,0\n",
-            "line 2: it has 2 fields, not 1\nline 3: KNOTS is 100000, over 5 digits\n\
-             line 5: a quote stands amid a field\nline 6: KNOTS is -9223372036854775808, over 5 digits\n\
-             line 7: '9223372036854775808' is too large\n1 hours done, 0 lost digits, 5 could not be read\n"
+            "2,,,,,\n3,,,,,\n5,,,,,\n6,,,,,\n7,,,,,\n9,-27,-3,-2,1,0\n",
+            "line 2: 2 fields, and KNOTS is the last of 1 columns\nline 3: KNOTS: 100000 is over 5 digits\n\
+             line 5: KNOTS: a quote stands amid a field\nline 6: KNOTS: -9223372036854775808 is over 5 digits\n\
+             line 7: KNOTS: '9223372036854775808' is too large\n1 hours done, 0 lost digits, 5 could not be read\n"
                 .to_string(),
         ),
         // A row of three lines, and one that takes the rest of the table.
         (
             "x,KNOTS\n\"a\n5,6\n\",3\nb,\"2\nb,4\n",
             2,
-            "2,\"a\n5,6\n\",27,3,2,1,0\n",
-            format!("{copied}line 5: a quote is not closed\n1 hours done, 0 lost digits, 1 could not be read\n"),
+            "2,\"a\n5,6\n\",27,3,2,1,0\n5,b,,,,,\n",
+            format!("{copied}line 5: KNOTS: a quote is not closed\n1 hours done, 0 lost digits, 1 could not be read\n"),
         ),
         (
             "x,KNOTS,x\na,3,b\n",
@@ -70,13 +74,13 @@ fn tables() {
             "KNOTS,KNOTS\n1,2\n",
             2,
             "",
-            "luvinqata: two columns are named 'KNOTS'\n".to_string(),
+            "luvinqata: -: two columns are named 'KNOTS'\n".to_string(),
         ),
         (
             "\"KNOTS\n1\n",
             2,
             "",
-            "luvinqata: -: line 1: a quote is not closed\n".to_string(),
+            "luvinqata: -: line 1: column 1: a quote is not closed\n".to_string(),
         ),
     ];
     for (table, status, rows, told) in cases {
@@ -98,9 +102,7 @@ fn tables() {
         let ended = luvinqata(&["hours".as_ref(), deck.as_os_str(), "-".as_ref()], nothing.as_bytes());
         assert_eq!((ended.status, ended.out.as_str()), (2, ""));
         assert!(
-            ended
-                .told
-                .ends_with("no value of the deck, which has KUBE, KNOTS, MEAN\n"),
+            ended.told.contains("no value of the deck, which has KUBE, KNOTS, MEAN"),
             "{}",
             ended.told
         );
@@ -112,14 +114,16 @@ fn decks_of_tables() {
     let table = file("elements.csv", b"\"L(2,1)\",J\n6,0\n6,4\n");
     let hours = |deck: &[u8]| luvinqata(&["hours".as_ref(), "-".as_ref(), table.as_os_str()], deck);
     let ended = hours(b"      DIMENSION L(2,1)\n      L(1,1)=L(2,1)/J\n      END\n");
-    assert_eq!(ended.status, 0);
+    assert_eq!(ended.status, 4);
     assert_eq!(
         ended.out,
         "line,\"L(1,1)\",\"L(2,1)\",J,halt,loss\n2,0,6,0,3,0\n3,1,6,4,1,0\n"
     );
     assert_eq!(
         ended.told,
-        "2 hours done, 0 lost digits, 0 could not be read, 1 did not reach STOP or END\n"
+        "2 hours done, 0 lost digits, 0 could not be read, 1 did not reach STOP or END\n\
+         1 stopped by halt 3: division by zero, at statement 2:\n\
+         card   2 |      L(1,1)=L(2,1)/J\n"
     );
     let none = hours(b"      DIMENSION M(7),N(2,3)\n      I=1\n      END\n");
     assert!(none.told.ends_with("which has M(7), N(2,3), I\n"), "{}", none.told);
@@ -141,8 +145,8 @@ fn called(name: &NameEntry) -> Vec<(String, usize)> {
         .collect()
 }
 
-/// The row of an hour by the independent implementation, and whether it lost digits.
-fn expected(deck: &Deck, tables: &Tables, values: &[(String, usize)], start: &[i64]) -> (String, bool) {
+/// The row of an hour by the independent implementation, and its exit status.
+fn expected(deck: &Deck, tables: &Tables, values: &[(String, usize)], start: &[i64]) -> (String, i32) {
     let mut store = start.to_vec();
     let ran = independent::run(&tables.to_bytes(), &mut store, &mut State::fresh(), STEPS).expect("right values");
     if ran.halt != 2 {
@@ -153,7 +157,7 @@ fn expected(deck: &Deck, tables: &Tables, values: &[(String, usize)], start: &[i
     let row: Vec<String> = values.iter().map(|(_, cell)| store[*cell].to_string()).collect();
     (
         format!("{},{},{}", row.join(","), ran.halt, ran.sequence),
-        ran.sequence > 0,
+        i32::from(ran.sequence > 0) + 4 * i32::from(ran.halt > 1),
     )
 }
 
@@ -174,20 +178,28 @@ fn generated_hours_end_as_they_should() {
         if given.is_empty() {
             continue;
         }
+        // What no column gives is given for all rows, or starts from 0 by being given that.
+        let mut same = vec![0; tables.cells as usize];
+        let mut sets = Vec::new();
+        for (name, cell) in values.iter().filter(|value| !given.contains(value)) {
+            same[*cell] = if rng.chance(30) { value(&mut rng, made.k) } else { 0 };
+            sets.push(format!("--set={name}={}", same[*cell]));
+        }
         let header: Vec<String> = given.iter().map(|(name, _)| format!("\"{name}\"")).collect();
         let mut table = format!("station,{}\n", header.join(","));
-        let (mut answers, mut losing) = (Vec::new(), 0);
+        let (mut answers, mut losing, mut statuses) = (Vec::new(), 0, 0);
         for row in 0..ROWS {
-            let mut store = vec![0; tables.cells as usize];
+            let mut store = same.clone();
             let mut fields = vec![format!("S{row}")];
             for (_, cell) in &given {
                 store[*cell] = value(&mut rng, made.k);
                 fields.push(store[*cell].to_string());
             }
             table += &format!("{}\n", fields.join(","));
-            let (answer, loses) = expected(&deck, &tables, &values, &store);
+            let (answer, status) = expected(&deck, &tables, &values, &store);
             answers.push(format!("{},S{row},{answer}", row + 2));
-            losing += usize::from(loses);
+            statuses |= status;
+            losing += usize::from(status & 1 > 0);
         }
         let paths = [
             file("generated.deck", &made.deck),
@@ -197,13 +209,14 @@ fn generated_hours_end_as_they_should() {
         let options = ["hours", "--cards", "--digits", &k, "--steps", &steps];
         let arguments: Vec<&std::ffi::OsStr> = options
             .iter()
-            .map(|o| o.as_ref())
+            .map(|option| option.as_ref())
+            .chain(sets.iter().map(|set| set.as_ref()))
             .chain(paths.iter().map(|p| p.as_os_str()))
             .collect();
         let ended = luvinqata(&arguments, b"");
         let written: Vec<&str> = ended.out.lines().skip(1).collect();
         assert_eq!(written, answers, "seed {seed}");
-        assert_eq!(ended.status, i32::from(losing > 0), "seed {seed}");
+        assert_eq!(ended.status, statuses, "seed {seed}");
         (rows, lost) = (rows + ROWS, lost + losing);
     }
     println!("{rows} rows, {lost} lost digits");

@@ -36,7 +36,7 @@ fn outputs_that_cannot_be_written() {
         (&["run", "-"], b"      I=47*47*47\n      END\n", 1),
         (&["run", "-"], b"      A=1\n", 2),
         (&["compile", "-"], b"      END\n", 0),
-        (&["check", "-"], b"no object", 2),
+        (&["check", "-"], b"no object\0", 2),
         (&["hours", gale, "-"], b"KNOTS\n12\n47\n", 1),
         (&["batch"], b"check 00\n", 0),
     ];
@@ -86,8 +86,8 @@ fn inputs_that_are_odd() {
             b"KNOTS\n\xFF\n9\n",
             ended(
                 2,
-                "line,KUBE,KNOTS,MEAN,halt,loss\n3,729,9,72,1,0\n",
-                "line 2: it is not UTF-8 text\n1 hours done, 0 lost digits, 1 could not be read\n",
+                "line,KUBE,KNOTS,MEAN,halt,loss\n2,,,,,\n3,729,9,72,1,0\n",
+                "line 2: KNOTS: no UTF-8 text\n1 hours done, 0 lost digits, 1 could not be read\n",
             ),
         ),
     ];
