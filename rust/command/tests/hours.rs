@@ -68,7 +68,7 @@ fn tables() {
             "x,KNOTS,x\na,3,b\n",
             0,
             "2,a,b,27,3,2,1,0\n",
-            format!("{copied}{copied}{one}"),
+            format!("columns 'x', 'x' are no values of the deck: they are copied as they are\n{one}"),
         ),
         (
             "KNOTS,KNOTS\n1,2\n",

@@ -198,7 +198,7 @@ fn a_row_that_cannot_be_read_stays() {
         "9,8,,,,,,",
     ];
     assert_eq!((hours.status, rows), (2, expected.to_vec()));
-    let told: Vec<&str> = hours.told.lines().skip(2).collect();
+    let told: Vec<&str> = hours.told.lines().skip(1).collect();
     let expected = [
         "line 3: KNOTS: '' is no whole number",
         "line 4: KNOTS: no field, the row has 1 of 3",

@@ -55,14 +55,26 @@ impl Columns {
 
     /// Tells which columns give no value.
     pub fn tell_copied(&self, store: &Store, out: &mut Output) {
-        for (name, _) in self.names.iter().zip(&self.cells).filter(|(_, cell)| cell.is_none()) {
-            let (shown, like) = (shown(name), like(name, store));
-            match like {
+        let copied = self.names.iter().zip(&self.cells).filter(|(_, cell)| cell.is_none());
+        let mut unlike = Vec::new();
+        for (name, _) in copied {
+            let column = format!("'{}'", shown(name));
+            match like(name, store) {
                 Some(value) => out.say(format_args!(
-                    "column '{shown}' differs from the deck's {value} only in case or blanks: it gives no value and is copied"
+                    "column {column} differs from the deck's {value} only in case or blanks: it gives no value and is copied"
                 )),
-                None => out.say(format_args!("column '{shown}' is no value of the deck: it is copied as it is")),
+                None => unlike.push(column),
             }
+        }
+        match &unlike[..] {
+            [] => {}
+            [one] => out.say(format_args!(
+                "column {one} is no value of the deck: it is copied as it is"
+            )),
+            all => out.say(format_args!(
+                "columns {} are no values of the deck: they are copied as they are",
+                all.join(", ")
+            )),
         }
     }
 

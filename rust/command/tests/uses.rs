@@ -1,0 +1,165 @@
+//! Which values a deck reads and never sets: by its statements, and as `hours` tells it of the object's code.
+
+mod common;
+
+use std::collections::BTreeSet;
+
+use common::{file, luvinqata};
+use independent::compile::{accept, Deck};
+use independent::generate::{ordinary_deck, Rng};
+use independent::object::{NameEntry, Tables};
+use independent::reader::{Expression, Factor, Form, Parameter, Reference, Subscript};
+
+const DECKS: u64 = 400;
+
+/// The cells that statements read and set.
+struct Uses<'t> {
+    tables: &'t Tables,
+    reads: BTreeSet<u32>,
+    sets: BTreeSet<u32>,
+}
+
+impl Uses<'_> {
+    fn of(deck: &Deck, tables: &Tables) -> (BTreeSet<u32>, BTreeSet<u32>) {
+        let (reads, sets) = (BTreeSet::new(), BTreeSet::new());
+        let mut uses = Uses { tables, reads, sets };
+        for statement in deck.statements() {
+            match &statement.form {
+                Form::Assign { target, value } => {
+                    uses.expression(value);
+                    let cells = uses.cells(target);
+                    uses.sets.extend(cells);
+                }
+                Form::Computed { selector, .. } => uses.name(selector),
+                Form::If { value, .. } => uses.expression(value),
+                Form::Do(turns) => {
+                    for parameter in [Some(&turns.first), Some(&turns.limit), turns.step.as_ref()]
+                        .into_iter()
+                        .flatten()
+                    {
+                        if let Parameter::Name(name) = parameter {
+                            uses.name(name);
+                        }
+                    }
+                    let variable = uses.entry(&turns.variable).first;
+                    uses.sets.insert(variable);
+                }
+                _ => {}
+            }
+        }
+        (uses.reads, uses.sets)
+    }
+
+    fn entry(&self, name: &str) -> &NameEntry {
+        let found = self.tables.names.iter().find(|entry| entry.text() == name);
+        found.expect("a name of the deck")
+    }
+
+    fn name(&mut self, name: &str) {
+        let first = self.entry(name).first;
+        self.reads.insert(first);
+    }
+
+    /// The cells that a name or an element can be. Values in subscripts are read.
+    fn cells(&mut self, reference: &Reference) -> Vec<u32> {
+        let NameEntry {
+            first, rows, columns, ..
+        } = *self.entry(&reference.name);
+        let mut places = Vec::new();
+        for (subscript, most) in reference.subscripts.iter().zip([rows, columns]) {
+            places.push(match subscript {
+                Subscript::Constant(place) => (1..=most).filter(|p| p == place).collect(),
+                Subscript::Linear {
+                    multiplier: 0, addend, ..
+                } => (1..=most).filter(|p| i64::from(*p) == *addend).collect(),
+                Subscript::Linear { name, .. } => {
+                    self.name(name);
+                    (1..=most).collect::<Vec<u32>>()
+                }
+            });
+        }
+        let one = vec![1];
+        let (of_rows, of_columns) = (places.first().unwrap_or(&one), places.get(1).unwrap_or(&one));
+        let cell = |row: &u32, column: &u32| first + row - 1 + (column - 1) * rows;
+        of_columns
+            .iter()
+            .flat_map(|column| of_rows.iter().map(move |row| cell(row, column)))
+            .collect()
+    }
+
+    fn expression(&mut self, expression: &Expression) {
+        let terms = expression.rest.iter().map(|(_, term)| term).chain([&expression.first]);
+        for factor in terms.flat_map(|term| term.rest.iter().map(|(_, factor)| factor).chain([&term.first])) {
+            match factor {
+                Factor::Constant(_) => {}
+                Factor::Parenthesis(inner) => self.expression(inner),
+                Factor::Reference(reference) => {
+                    let cells = self.cells(reference);
+                    self.reads.extend(cells);
+                }
+            }
+        }
+    }
+}
+
+/// A table that gives the first value alone, and `--set` for all that the statements need but one: that one is told.
+#[test]
+fn what_the_statements_need_is_told() {
+    let mut told = 0;
+    for seed in 0..DECKS {
+        let made = ordinary_deck(&mut Rng::new(seed));
+        let (deck, tables) = accept(made.k, &made.deck).expect("an ordinary deck");
+        let (reads, sets) = Uses::of(&deck, &tables);
+        let values: Vec<(String, u32)> = tables.names.iter().flat_map(called).collect();
+        let Some((first, rest)) = values.split_first() else {
+            continue;
+        };
+        let needed: Vec<&String> = rest
+            .iter()
+            .filter(|(_, cell)| reads.contains(cell) && !sets.contains(cell))
+            .map(|(name, _)| name)
+            .collect();
+        let path = file("uses.deck", &made.deck);
+        let mut arguments = vec![
+            "hours".to_string(),
+            "--cards".to_string(),
+            format!("--digits={}", made.k),
+        ];
+        arguments.extend([
+            path.to_str().expect("a path").to_string(),
+            "-".to_string(),
+            "--quiet".to_string(),
+        ]);
+        let table = format!("\"{}\"\n1\n", first.0);
+        let others = needed.iter().skip(1).map(|name| format!("--set={name}=1"));
+        let most: Vec<String> = arguments.iter().cloned().chain(others).collect();
+        let ended = luvinqata(&most, table.as_bytes());
+        let Some(one) = needed.first() else {
+            assert_eq!(ended.status & 2, 0, "seed {seed}: {}", ended.told);
+            continue;
+        };
+        let words = format!("luvinqata: -: the deck reads {one} and never sets it,");
+        assert!(
+            ended.status == 2 && ended.told.starts_with(&words),
+            "seed {seed}: {}",
+            ended.told
+        );
+        let all: Vec<String> = most.iter().cloned().chain([format!("--set={one}=1")]).collect();
+        let ended = luvinqata(&all, table.as_bytes());
+        assert_eq!((ended.status & 2, ended.told.as_str()), (0, ""), "seed {seed}");
+        told += 1;
+    }
+    assert!(told > 100, "{told}");
+}
+
+fn called(name: &NameEntry) -> Vec<(String, u32)> {
+    let (text, rows) = (name.text(), name.rows);
+    let one = |index: u32| match (rows, name.columns) {
+        (0, _) => text.clone(),
+        (_, 0) => format!("{text}({})", index + 1),
+        _ => format!("{text}({},{})", index % rows + 1, index / rows + 1),
+    };
+    (0..name.size() as u32)
+        .map(|index| (one(index), name.first + index))
+        .collect()
+}
