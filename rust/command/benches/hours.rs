@@ -1,4 +1,4 @@
-//! The time of `hours` on a table of 10,000 rows with a deck of a hundred statements.
+//! The time of `hours` on a table of 10,000 rows with a deck of a hundred statements, with one core and with all.
 
 use std::fs;
 use std::path::Path;
@@ -30,24 +30,40 @@ fn table() -> String {
     "hour,KNOTS,MEAN\n".to_string() + &(0..ROWS).map(row).collect::<String>()
 }
 
-fn main() {
-    let folder = Path::new(env!("CARGO_TARGET_TMPDIR"));
-    let (deck_file, table_file) = (folder.join("hundred.txt"), folder.join("hours.csv"));
-    fs::write(&deck_file, deck()).expect("the deck's file");
-    fs::write(&table_file, table()).expect("the table's file");
+/// The best time of some rounds, and the counts that it tells.
+fn measure(threads: usize, files: [&Path; 2]) -> (f64, String) {
     let (mut best, mut told) = (f64::MAX, String::new());
     for _ in 0..ROUNDS {
         let start = Instant::now();
         let output = Command::new(env!("CARGO_BIN_EXE_luvinqata"))
             .arg("hours")
-            .args([&deck_file, &table_file])
+            .args(files)
+            .arg(format!("--threads={threads}"))
             .stdin(Stdio::null())
             .output()
             .expect("the command");
         best = best.min(start.elapsed().as_secs_f64());
         let text = String::from_utf8_lossy(&output.stderr);
-        told = text.lines().last().unwrap_or_default().to_string();
+        told = text
+            .lines()
+            .find(|line| line.contains("hours done"))
+            .unwrap_or_default()
+            .to_string();
         assert_eq!(output.stdout.iter().filter(|byte| **byte == b'\n').count(), ROWS + 1);
     }
-    println!("hours: {ROWS} rows, 100 statements: {best:.2} s, best of {ROUNDS} ({told})");
+    (best, told)
+}
+
+fn main() {
+    let folder = Path::new(env!("CARGO_TARGET_TMPDIR"));
+    let (deck_file, table_file) = (folder.join("hundred.txt"), folder.join("hours.csv"));
+    fs::write(&deck_file, deck()).expect("the deck's file");
+    fs::write(&table_file, table()).expect("the table's file");
+    let cores = std::thread::available_parallelism().map_or(1, usize::from);
+    for threads in [1, cores] {
+        let (best, told) = measure(threads, [&deck_file, &table_file]);
+        println!(
+            "hours: {ROWS} rows, 100 statements, {threads} of {cores} cores: {best:.2} s, best of {ROUNDS} ({told})"
+        );
+    }
 }

@@ -13,10 +13,13 @@ pub struct Beside {
 }
 
 impl Beside {
-    /// It may not be one of the files that are read.
-    pub fn new(place: &Path, read: &[&Path]) -> Result<Beside, String> {
-        if let Some(input) = read.iter().find(|input| same(input, place)) {
-            return Err(format!("{}: it is read, and would be written over", input.display()));
+    /// It may be none of the other files.
+    pub fn new(place: &Path, others: &[&Path]) -> Result<Beside, String> {
+        if others.iter().any(|other| same(other, place)) {
+            return Err(format!(
+                "{}: it is used too, and would be written over",
+                place.display()
+            ));
         }
         // What is there may be a link; a device or a pipe is written as it is.
         let place = fs::canonicalize(place).unwrap_or_else(|_| place.to_path_buf());
@@ -85,5 +88,5 @@ fn keep_rights(place: &Path, beside: &Path) -> io::Result<()> {
 /// Whether two paths lead to one file.
 fn same(one: &Path, other: &Path) -> bool {
     let identity = |path: &Path| fs::metadata(path).ok().map(|data| (data.dev(), data.ino()));
-    identity(one).is_some_and(|known| identity(other) == Some(known))
+    one == other || identity(one).is_some_and(|known| identity(other) == Some(known))
 }

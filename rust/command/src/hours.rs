@@ -95,24 +95,25 @@ fn done(rows: &[Row], workers: &mut [Worker]) -> Vec<Hour> {
 
 impl Written<'_> {
     fn new<'o>(options: &Hours, columns: &Columns, store: &Store, out: &'o mut Output) -> Result<Written<'o>, String> {
-        let read: [&Path; 2] = [&options.deck.deck, &options.table];
+        let mut others: Vec<&Path> = vec![&options.deck.deck, &options.table];
         let mut table = Table::whole(columns, store, options.separator.byte(), options.json);
-        let chart = options
-            .chart
-            .as_ref()
-            .map(|asked| Chart::new(asked, &table))
-            .transpose()?;
         let only = options
             .only
             .as_ref()
             .map(|names| given::values(names, store))
             .transpose()?;
-        table.choose(columns, options.keep_inputs, only.as_deref())?;
         let file = options
             .output
             .as_ref()
-            .map(|place| Beside::new(place, &read))
+            .map(|place| Beside::new(place, &others))
             .transpose()?;
+        others.extend(options.output.as_deref());
+        let chart = options
+            .chart
+            .as_ref()
+            .map(|asked| Chart::new(asked, &table, &others))
+            .transpose()?;
+        table.choose(columns, options.keep_inputs, only.as_deref())?;
         let on_screen = file.is_none() && std::io::stdout().is_terminal();
         let length = std::fs::metadata(&options.table).map_or(0, |data| data.len());
         out.begin_progress(length, on_screen);
@@ -169,11 +170,9 @@ impl Written<'_> {
         if self.out.failed {
             return Ok(status);
         }
-        if let (Some(file), Ok(())) = (self.file, &trouble) {
-            file.finish()?;
-        }
-        if let Some(chart) = self.chart {
-            chart.write(&[&options.deck.deck, &options.table])?;
+        if trouble.is_ok() {
+            self.file.map_or(Ok(()), Beside::finish)?;
+            self.chart.map_or(Ok(()), Chart::finish)?;
         }
         self.tally.tell(deck, options.compare, self.out);
         Ok(status)

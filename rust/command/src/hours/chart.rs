@@ -1,8 +1,9 @@
 //! `--chart`: each hour a dot, so that one sees a gale that looks like a calm.
 
 use std::error::Error;
+use std::ffi::OsString;
 use std::ops::Range;
-use std::path::{Path, PathBuf};
+use std::path::Path;
 
 use plotters::prelude::*;
 
@@ -17,7 +18,7 @@ const SOUND: RGBColor = RGBColor(70, 110, 160);
 const LOST: RGBColor = RGBColor(210, 30, 30);
 
 pub struct Chart {
-    file: PathBuf,
+    file: Beside,
     axes: [String; 2],
     sources: [Source; 2],
     sound: Vec<(f64, f64)>,
@@ -25,15 +26,15 @@ pub struct Chart {
 }
 
 impl Chart {
-    /// `X,Y` and the file.
-    pub fn new(asked: &[std::ffi::OsString], table: &Table) -> Result<Chart, String> {
+    /// `X,Y`, and the file, which may be none of the others.
+    pub fn new(asked: &[OsString], table: &Table, others: &[&Path]) -> Result<Chart, String> {
         let axes: [String; 2] = names(&asked[0].to_string_lossy())
             .try_into()
             .map_err(|_| "--chart takes two columns, X,Y, and a file")?;
         let source = |axis: usize| table.source(&axes[axis]).map_err(|words| format!("--chart: {words}"));
         Ok(Chart {
-            file: PathBuf::from(&asked[1]),
             sources: [source(0)?, source(1)?],
+            file: Beside::new(Path::new(&asked[1]), others)?,
             axes,
             sound: Vec::new(),
             lost: Vec::new(),
@@ -49,13 +50,10 @@ impl Chart {
         }
     }
 
-    pub fn write(&self, read: &[&Path]) -> Result<(), String> {
-        let mut file = Beside::new(&self.file, read)?;
-        let picture = self
-            .draw()
-            .map_err(|error| format!("{}: {error}", self.file.display()))?;
-        file.write(picture.as_bytes())?;
-        file.finish()
+    pub fn finish(mut self) -> Result<(), String> {
+        let picture = self.draw().map_err(|error| format!("--chart: {error}"))?;
+        self.file.write(picture.as_bytes())?;
+        self.file.finish()
     }
 
     fn draw(&self) -> Result<String, Box<dyn Error + '_>> {
