@@ -17,7 +17,9 @@
 #![deny(missing_docs, unsafe_code)]
 
 mod deck;
+mod explain;
 mod halt;
+mod hour;
 mod names;
 mod program;
 #[allow(unsafe_code)]
@@ -28,7 +30,9 @@ mod state;
 mod store;
 
 pub use deck::{punch, statement, Card, LongLine, CARD};
+pub use explain::{Columns, Explanation};
 pub use halt::{Halt, Ran};
+pub use hour::{Answer, Hour, NotSet};
 pub use names::Name;
 pub use program::{Program, Statement};
 pub use refusal::Refusal;

@@ -33,7 +33,7 @@ pub struct Statement {
 /// ```
 #[derive(Clone, Debug, PartialEq, Eq)]
 pub struct Program {
-    object: Vec<u8>,
+    pub(crate) object: Vec<u8>,
     pub(crate) names: Names,
     statements: Vec<Statement>,
 }

@@ -4,7 +4,7 @@ mod common;
 
 use independent::compile::accept;
 use independent::generate::{self, Rng};
-use luvinqata::{Program, State};
+use luvinqata::{Halt, Program, Rule, State, Store};
 
 const CASES: u64 = 2_000;
 
@@ -38,6 +38,68 @@ fn a_program_says_what_its_object_holds() {
         }
     }
     assert!(losses > 100, "{losses} losses");
+}
+
+/// An hour in parts, its state kept as bytes between them, ends as the plain calls in one run do.
+#[test]
+fn an_hour_in_parts_is_the_run() {
+    let mut halts = [0; 7];
+    for seed in 0..CASES {
+        let mut rng = Rng::new(seed);
+        let made = generate::ordinary_deck(&mut rng);
+        let Ok(program) = Program::compile(made.k, &made.deck) else {
+            continue;
+        };
+        let (mut store, mut state) = (Store::new(program.object()).expect("a program"), State::fresh());
+        let mut hour = program.start();
+        for (name, _) in store.clone().iter() {
+            let value = generate::value(&mut rng, made.k);
+            assert_eq!(
+                (hour.set(&name, value), store.set(&name, value)),
+                (Ok(()), Some(0)),
+                "seed {seed}"
+            );
+        }
+        let ran = luvinqata::run(program.object(), store.cells_mut(), &mut state, 500).expect("a right store");
+        let answer = hour.run(rng.below(40) as u32).expect("right values");
+        let (steps, kept) = (answer.steps(), answer.state().to_bytes());
+        let hour = program.resume(answer.cells().to_vec(), State::from_bytes(&kept));
+        let answer = hour.run(7).and_then(|answer| {
+            let left = 500 - steps - answer.steps();
+            let ended = answer.halt() != Halt::Allowance;
+            if ended {
+                Ok(answer)
+            } else {
+                answer.resume(left)
+            }
+        });
+        let answer = answer.expect("what a run left");
+        assert_eq!(
+            (answer.halt(), answer.lost().unwrap_or(0)),
+            (ran.halt, ran.sequence),
+            "seed {seed}"
+        );
+        assert_eq!((answer.cells(), *answer.state()), (store.cells(), state), "seed {seed}");
+        assert!(answer.values().eq(store.iter()), "seed {seed}");
+        assert!(
+            store.iter().all(|(name, value)| answer.get(&name) == Some(value)),
+            "seed {seed}"
+        );
+        halts[ran.halt.number() as usize] += 1;
+    }
+    assert!(halts.iter().all(|count| *count > 0), "{halts:?}");
+}
+
+/// What a run cannot go on from is refused, and nothing is made of it.
+#[test]
+fn an_hour_goes_on_only_from_what_fits() {
+    let deck = luvinqata::punch(b"      I=I+1\n      END").expect("short lines");
+    let program = Program::compile(5, &deck).expect("a right deck");
+    let refused = |cells: &[i64], state: State| program.resume(cells.to_vec(), state).run(9).expect_err("wrong").rule;
+    assert_eq!(refused(&[], State::fresh()), Rule::StoreLength);
+    assert_eq!(refused(&[100_000], State::fresh()), Rule::StoreDigits);
+    assert_eq!(refused(&[0], State::from_bytes(&[1; State::BYTES])), Rule::State);
+    assert!(program.resume(Vec::new(), State::fresh()).set("I", 1).is_err());
 }
 
 /// Each halt is told at the statement that halted, though digits were lost before.
