@@ -21,10 +21,25 @@ pub fn shown(text: &str) -> String {
     }
 }
 
-/// The number, the plain words, and the cards as they are punched.
+/// The number, what is wrong and what to do, and the cards as they are punched, with carets under what it is about.
 pub fn tell_refusal(refusal: &Refusal, deck: &[u8], out: &mut Output) -> Status {
-    out.say(refusal);
-    tell_cards(&refusal.cards(deck), out);
+    let explanation = refusal.explain(deck);
+    out.say(format_args!("refused {}: {explanation}", refusal.number()));
+    let mut cards = refusal.cards(deck);
+    for columns in &explanation.also {
+        let statements = (1..).map(|sequence| statement(deck, sequence));
+        let mut others = statements.take_while(|cards| !cards.is_empty()).flatten();
+        cards.extend(others.find(|card| card.number == columns.card && !cards.contains(card)));
+    }
+    cards.sort_by_key(|card| card.number);
+    for card in cards {
+        tell_cards(&[card], out);
+        for columns in explanation.at.iter().chain(&explanation.also) {
+            if columns.card == card.number {
+                out.say(format_args!("         |{}", columns.carets()));
+            }
+        }
+    }
     Status::FAILED
 }
 

@@ -57,28 +57,57 @@ fn digits_and_steps() {
     );
 }
 
+/// What is printed, and what is told of it.
 #[test]
-fn a_refusal_shows_number_words_and_cards() {
-    let deck = b"C     A COMMENT\n      I=1\n   10 J=2\nC     ANOTHER\n     1+LONGEST\n      END\n";
-    let ended = luvinqata(&["run", "-"], deck);
-    assert_eq!((ended.status, ended.out.as_str()), (2, "REFUSED 11 2\n"));
-    assert_eq!(
-        ended.told,
-        "refused 11 at statement 2: a name over six characters or not starting with I to N\n\
-         card   3 |   10 J=2\ncard   5 |     1+LONGEST\n"
-    );
-    let ended = luvinqata(&["compile", "-"], b"      I=1\n      i=2\n");
-    assert_eq!(
-        (ended.status, ended.out.as_str(), ended.told.as_str()),
+fn a_refusal_shows_number_words_and_carets() {
+    let cases = [
         (
-            2,
+            "C     A COMMENT\n      I=1\n   10 J=2\nC     ANOTHER\n     1+LONGEST\n      END\n",
+            "REFUSED 11 2\n",
+            "refused 11: card 5, columns 8 to 14: LONGEST has seven characters: a name has six at most\n\
+             card   3 |   10 J=2\ncard   5 |     1+LONGEST\n         |       ^^^^^^^\n",
+        ),
+        (
+            "      I=1\n      i=2\n",
+            "REFUSED 3 2\n",
+            "refused 3: card 2, column 7: 'i' is lower case: cards hold capitals only\n\
+             card   2 |      i=2\n         |      ^\n",
+        ),
+        (
+            "      IF(I)10,20\n      END\n",
+            "REFUSED 10 1\n",
+            "refused 10: card 1, column 17: the statement breaks off after 'IF(I)10,20': \
+             the third of three statement numbers is wanted here\n\
+             card   1 |      IF(I)10,20\n         |                ^\n",
+        ),
+        // Both places of a number that is there twice.
+        (
+            "   10 I=1\n      J=2\n   10 K=3\n      END\n",
+            "REFUSED 21 3\n",
+            "refused 21: card 3, columns 4 to 5: the statement number 10 stands on card 1 too: \
+             give one of the two another number\n\
+             card   1 |   10 I=1\n         |   ^^\ncard   3 |   10 K=3\n         |   ^^\n",
+        ),
+        (
+            "C\n",
+            "REFUSED 20 0\n",
+            "refused 20: the deck has no statement, only comments: it ends with END\n",
+        ),
+        (
             "",
-            "refused 3 at card 2: a character that a card may not hold\ncard   2 |      i=2\n"
-        )
-    );
-    let ended = luvinqata(&["run", "-"], b"C\n");
-    let words = "refused 20: END is missing or not last, or there is no statement at all\n";
-    assert_eq!((ended.out.as_str(), ended.told.as_str()), ("REFUSED 20 0\n", words));
+            "REFUSED 2 0\n",
+            "refused 2: the deck is empty: it needs one card at least, with END\n",
+        ),
+    ];
+    for (deck, printed, told) in cases {
+        let ended = luvinqata(&["run", "-"], deck.as_bytes());
+        assert_eq!(
+            (ended.status, ended.out.as_str(), ended.told.as_str()),
+            (2, printed, told)
+        );
+        let ended = luvinqata(&["compile", "-"], deck.as_bytes());
+        assert_eq!((ended.status, ended.out.as_str(), ended.told.as_str()), (2, "", told));
+    }
     let long = format!("      I=1\n{:81}\n      END\n", "      J=2");
     let ended = luvinqata(&["run", "-"], long.as_bytes());
     assert_eq!(
@@ -86,8 +115,6 @@ fn a_refusal_shows_number_words_and_cards() {
         "luvinqata: -: line 2 is longer than the 80 columns of a card\n"
     );
     assert_eq!((ended.status, ended.out.as_str()), (2, ""));
-    let ended = luvinqata(&["run", "-"], b"");
-    assert_eq!((ended.status, ended.out.as_str()), (2, "REFUSED 2 0\n"));
 }
 
 #[test]

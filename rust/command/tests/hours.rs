@@ -129,7 +129,7 @@ fn decks_of_tables() {
     assert!(none.told.ends_with("which has M(7), N(2,3), I\n"), "{}", none.told);
     let refused = hours(b"      A=1\n");
     assert_eq!((refused.status, refused.out.as_str()), (2, ""));
-    assert!(refused.told.starts_with("refused 11 at statement 1"));
+    assert!(refused.told.starts_with("refused 11: card 1, column 7: "));
 }
 
 /// What a value is called and the cell it is in.
