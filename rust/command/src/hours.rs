@@ -39,6 +39,12 @@ struct Written<'o> {
 
 pub fn hours(options: &Hours, out: &mut Output) -> Outcome {
     out.quiet = options.quiet;
+    if [&options.deck.deck, &options.table]
+        .iter()
+        .all(|path| path.as_os_str() == "-")
+    {
+        return Err("the deck and the table cannot both be standard input".to_string());
+    }
     let deck = input::deck(&options.deck, out)?;
     let compile = |digits| Program::compile(digits, &deck);
     let programs = compile(options.deck.digits).and_then(|program| {
@@ -68,7 +74,7 @@ fn run_table(options: &Hours, deck: &[u8], program: &Program, other: Option<&Pro
         other: other.map(machine),
     };
     let mut written = Written::new(options, &columns, &store, out)?;
-    let trouble = written.run_all(rows, worker, threads(options));
+    let trouble = written.run_all(rows, worker, options);
     written.finish(options, deck, trouble)
 }
 
@@ -137,7 +143,8 @@ impl Written<'_> {
     }
 
     /// Runs block after block; says why it stopped before the table's end.
-    fn run_all(&mut self, mut rows: Rows<impl Read>, worker: Worker, threads: usize) -> Result<(), String> {
+    fn run_all(&mut self, mut rows: Rows<impl Read>, worker: Worker, options: &Hours) -> Result<(), String> {
+        let threads = threads(options);
         let mut workers = vec![worker; threads];
         loop {
             let (block, trouble) = rows.block(SHARE * threads);
@@ -153,7 +160,7 @@ impl Written<'_> {
             }
             self.out.show_progress(rows.bytes);
             match trouble {
-                Some(words) => return Err(words),
+                Some(words) => return Err(format!("{}: {words}", options.table.display())),
                 None if block.is_empty() => return Ok(()),
                 None => {}
             }

@@ -65,11 +65,16 @@ impl Output {
         }
     }
 
-    /// Progress through so many bytes, where standard error is a terminal and the written table is not on it too.
+    /// Progress through so many bytes, 0 if that is not known, where standard error is a terminal and the written table is
+    /// not on it too.
     pub fn begin_progress(&mut self, bytes: u64, table_on_screen: bool) {
         if !table_on_screen && !self.quiet && io::stderr().is_terminal() {
-            let style = ProgressStyle::with_template("{bytes} of {total_bytes} {wide_bar} {eta}");
-            self.progress = ProgressBar::new(bytes).with_style(style.expect("a template"));
+            let template = match bytes {
+                0 => "{bytes} {elapsed}",
+                _ => "{bytes} of {total_bytes} {wide_bar} {eta}",
+            };
+            let style = ProgressStyle::with_template(template).expect("a template");
+            self.progress = ProgressBar::new(bytes).with_style(style);
         }
     }
 

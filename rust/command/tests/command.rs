@@ -168,7 +168,7 @@ fn help_and_wrong_use() {
     }
     assert_eq!(luvinqata(&["--version"], b"").out, "luvinqata 0.1.0\n");
     assert!(luvinqata(&["completions", "bash"], b"").out.contains("--keep-inputs"));
-    let wrong: [&[&str]; 17] = [
+    let wrong: [&[&str]; 18] = [
         &[],
         &["walk"],
         &["run"],
@@ -184,6 +184,7 @@ fn help_and_wrong_use() {
         &["batch", "--cards"],
         &["run", "no/such/deck"],
         &["hours", "a"],
+        &["hours", "-", "-"],
         &["hours", "a", "b", "--chart", "I,J"],
         &["hours", "a", "b", "--threads", "0"],
     ];

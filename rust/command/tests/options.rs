@@ -80,27 +80,12 @@ fn a_json_object_a_row() {
 
 #[test]
 fn other_separators() {
-    for (name, separator) in [("semicolon", ";"), (";", ";"), ("tab", "\t"), ("comma", ",")] {
-        let table = ["day,I,note", "mon,7,\"a,b;c\td\"\n"]
-            .map(|row| row.replacen(',', separator, 2))
-            .join("\n");
-        let ended = hours(&["--separator", name, "--only=I", "--keep-inputs"], &table);
+    for (name, s) in [("semicolon", ";"), (";", ";"), ("tab", "\t"), ("comma", ",")] {
+        let table = format!("day{s}I{s}note\nmon{s}7{s}\"a,b;c\td\"\n");
         let expected =
-            format!("line,day,I.given,note,I,halt,loss\n2,mon,7,\"a,b;c\td\",0,1,0\n").replacen(',', separator, 10);
-        // The field in quotes has a comma of its own.
-        let expected = expected.replace(&format!("a{separator}b;c"), "a,b;c");
-        assert_eq!(
-            (ended.status, ended.out.lines().next()),
-            (0, expected.lines().next()),
-            "{name}"
-        );
-        assert!(
-            ended.out.contains(&format!(
-                "{separator}\"a,b;c\td\"{separator}0{separator}1{separator}0\n"
-            )),
-            "{}",
-            ended.out
-        );
+            format!("line{s}day{s}I.given{s}note{s}I{s}halt{s}loss\n2{s}mon{s}7{s}\"a,b;c\td\"{s}0{s}1{s}0\n");
+        let ended = hours(&["--separator", name, "--only=I", "--keep-inputs"], &table);
+        assert_eq!((ended.status, ended.out), (0, expected), "{name}");
     }
     let wrong = hours(&[], "day;I\nmon;7\n");
     assert!(

@@ -63,13 +63,15 @@ fn a_value_that_nothing_gives_is_named() {
     assert_eq!((missing.status, missing.out.as_str()), (2, ""));
     assert_eq!(
         missing.told,
-        "luvinqata: -: the deck reads L(2), M(1) and 3 more and never sets it, and no column gives it: \
+        "luvinqata: -: no column gives L(2), M(1) and 3 more, which the deck reads and never sets: \
          '--set L(2)=VALUE' gives it for all rows\n"
     );
     let set = ["--set", "L(2)=5", "--set", "M(1)=7", "--set", "M(2)=8", "--set=M(3)=-9"];
     let missing = hours(&set, b"I,KNOTS\n1,2\n");
     assert!(
-        missing.told.contains("the deck reads J and never sets it"),
+        missing
+            .told
+            .contains("no column gives J, which the deck reads and never sets"),
         "{}",
         missing.told
     );
@@ -126,7 +128,7 @@ fn a_header_that_differs_only_in_case() {
     assert_eq!(
         hours.told,
         "column 'Knots' differs from the deck's KNOTS only in case or blanks: it gives no value and is copied\n\
-         luvinqata: -: the deck reads KNOTS and never sets it, and no column gives it: \
+         luvinqata: -: no column gives KNOTS, which the deck reads and never sets: \
          '--set KNOTS=VALUE' gives it for all rows\n"
     );
     assert_eq!((hours.status, hours.out.as_str()), (2, ""));

@@ -138,7 +138,7 @@ fn what_the_statements_need_is_told() {
             assert_eq!(ended.status & 2, 0, "seed {seed}: {}", ended.told);
             continue;
         };
-        let words = format!("luvinqata: -: the deck reads {one} and never sets it,");
+        let words = format!("luvinqata: -: no column gives {one}, which the deck");
         assert!(
             ended.status == 2 && ended.told.starts_with(&words),
             "seed {seed}: {}",

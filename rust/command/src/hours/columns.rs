@@ -101,7 +101,7 @@ impl Columns {
         match Uses::of(program).unset(store, given) {
             unset if unset.is_empty() => Ok(()),
             unset => Err(format!(
-                "the deck reads {} and never sets it, and no column gives it: '--set {}=VALUE' gives it for all rows",
+                "no column gives {}, which the deck reads and never sets: '--set {}=VALUE' gives it for all rows",
                 list(&unset),
                 unset[0]
             )),

@@ -86,8 +86,9 @@ impl<R: Read> Rows<R> {
             self.bytes += length as u64;
             self.input.consume(length);
             if bytes.len() > LONGEST {
+                let column = quotes.field + 1;
                 return Err(format!(
-                    "line {line}: a row of over {LONGEST} bytes; it and what comes after it are not read"
+                    "line {line}, column {column}: a row of over {LONGEST} bytes; it and what comes after it are not read"
                 ));
             }
             if end.is_some() {
@@ -241,7 +242,7 @@ mod tests {
         let mut rows = Rows::new(std::io::repeat(b','), b',').expect("an endless stream");
         assert!(rows
             .next()
-            .is_err_and(|words| words.starts_with("line 1: a row of over 1048576 bytes")));
+            .is_err_and(|words| words.contains(": a row of over 1048576 bytes;")));
         assert!(rows.bytes < 2 * LONGEST as u64);
     }
 }
