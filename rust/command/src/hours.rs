@@ -6,43 +6,30 @@ mod hour;
 mod rows;
 mod table;
 mod tally;
+mod written;
 
-use std::io::{IsTerminal, Read};
-use std::path::Path;
+use std::io::Read;
 use std::thread;
 
 use luvinqata::{Program, Store};
 
 use crate::arguments::Hours;
-use crate::file::Beside;
 use crate::output::Output;
 use crate::told::tell_refusal;
 use crate::{given, input, Outcome};
-use chart::Chart;
 use columns::Columns;
 use hour::{Hour, Machine, Worker};
 use rows::{Row, Rows};
 use table::Table;
-use tally::Tally;
+use written::Written;
 
 /// How many rows a thread has at a time.
 const SHARE: usize = 512;
 
-/// Where hours go to when they are done.
-struct Written<'o> {
-    table: Table,
-    file: Option<Beside>,
-    chart: Option<Chart>,
-    tally: Tally,
-    out: &'o mut Output,
-}
-
 pub fn hours(options: &Hours, out: &mut Output) -> Outcome {
     out.quiet = options.quiet;
-    if [&options.deck.deck, &options.table]
-        .iter()
-        .all(|path| path.as_os_str() == "-")
-    {
+    let is_standard_input = |path: &&std::path::PathBuf| path.as_os_str() == "-";
+    if [&options.deck.deck, &options.table].iter().all(is_standard_input) {
         return Err("the deck and the table cannot both be standard input".to_string());
     }
     let deck = input::deck(&options.deck, out)?;
@@ -67,15 +54,22 @@ fn run_table(options: &Hours, deck: &[u8], program: &Program, other: Option<&Pro
     let columns = Columns::of(&header, &store, separator).map_err(named)?;
     columns.tell_copied(&store, out);
     columns.judge(program, &store, &set).map_err(named)?;
+    let mut table = Table::whole(&columns, &store, separator, options.json);
+    let mut written = Written::new(options, &table, out)?;
+    let only = options.only.as_ref().map(|names| given::values(names, &store));
+    table.choose(&columns, options.keep_inputs, only.transpose()?.as_deref())?;
     let machine = |program| Machine::new(program, &set, options.running.steps);
     let worker = Worker {
         columns: &columns,
+        table: &table,
         machine: machine(program),
         other: other.map(machine),
     };
-    let mut written = Written::new(options, &columns, &store, out)?;
-    let trouble = written.run_all(rows, worker, options);
-    written.finish(options, deck, trouble)
+    let trouble = written.put(&table.header()).and_then(|()| {
+        let workers = vec![worker; threads(options)];
+        run_rows(rows, workers, &mut written)?.map_or(Ok(()), |words| Err(named(words)))
+    });
+    Ok(written.finish(deck, options.compare, trouble))
 }
 
 fn threads(options: &Hours) -> usize {
@@ -83,105 +77,35 @@ fn threads(options: &Hours) -> usize {
     options.threads.map_or_else(cores, usize::from)
 }
 
+/// Runs block after block. Says why there was no reading on, and fails where there is no writing on.
+fn run_rows(
+    mut rows: Rows<impl Read>,
+    mut workers: Vec<Worker>,
+    written: &mut Written,
+) -> Result<Option<String>, String> {
+    loop {
+        let (block, trouble) = rows.block(SHARE * workers.len());
+        for hour in done(&block, &mut workers) {
+            if !written.add(&hour)? {
+                return Ok(None);
+            }
+        }
+        written.show_progress(rows.bytes);
+        if block.is_empty() || trouble.is_some() {
+            return Ok(trouble);
+        }
+    }
+}
+
 /// The hours of some rows, in their order, shared out to threads.
 fn done(rows: &[Row], workers: &mut [Worker]) -> Vec<Hour> {
     let share = rows.len().div_ceil(workers.len()).max(1);
     thread::scope(|scope| {
-        let run = |(rows, worker): (&'_ [Row], &'_ mut Worker)| rows.iter().map(|row| worker.hour(row)).collect();
-        let shares = rows.chunks(share).zip(workers);
-        let threads: Vec<_> = shares
-            .map(|share| scope.spawn(move || -> Vec<Hour> { run(share) }))
-            .collect();
-        threads
-            .into_iter()
-            .flat_map(|thread| thread.join().expect("hours are run"))
-            .collect()
+        let mut threads = Vec::new();
+        for (rows, worker) in rows.chunks(share).zip(workers) {
+            threads.push(scope.spawn(move || rows.iter().map(|row| worker.hour(row)).collect::<Vec<Hour>>()));
+        }
+        let hours = threads.into_iter().map(|thread| thread.join().expect("hours are run"));
+        hours.flatten().collect()
     })
-}
-
-impl Written<'_> {
-    fn new<'o>(options: &Hours, columns: &Columns, store: &Store, out: &'o mut Output) -> Result<Written<'o>, String> {
-        let mut others: Vec<&Path> = vec![&options.deck.deck, &options.table];
-        let mut table = Table::whole(columns, store, options.separator.byte(), options.json);
-        let only = options
-            .only
-            .as_ref()
-            .map(|names| given::values(names, store))
-            .transpose()?;
-        let file = options
-            .output
-            .as_ref()
-            .map(|place| Beside::new(place, &others))
-            .transpose()?;
-        others.extend(options.output.as_deref());
-        let chart = options
-            .chart
-            .as_ref()
-            .map(|asked| Chart::new(asked, &table, &others))
-            .transpose()?;
-        table.choose(columns, options.keep_inputs, only.as_deref())?;
-        let on_screen = file.is_none() && std::io::stdout().is_terminal();
-        let length = std::fs::metadata(&options.table).map_or(0, |data| data.len());
-        out.begin_progress(length, on_screen);
-        let mut written = Written {
-            table,
-            file,
-            chart,
-            tally: Tally::default(),
-            out,
-        };
-        written.put(&written.table.header())?;
-        Ok(written)
-    }
-
-    fn put(&mut self, bytes: &[u8]) -> Result<(), String> {
-        match &mut self.file {
-            Some(file) => file.write(bytes)?,
-            None => self.out.bytes(bytes),
-        }
-        Ok(())
-    }
-
-    /// Runs block after block; says why it stopped before the table's end.
-    fn run_all(&mut self, mut rows: Rows<impl Read>, worker: Worker, options: &Hours) -> Result<(), String> {
-        let threads = threads(options);
-        let mut workers = vec![worker; threads];
-        loop {
-            let (block, trouble) = rows.block(SHARE * threads);
-            for hour in done(&block, &mut workers) {
-                self.put(&self.table.row(&hour))?;
-                self.tally.add(&hour, self.out);
-                if let Some(chart) = &mut self.chart {
-                    chart.add(&hour);
-                }
-                if self.out.failed {
-                    return Ok(());
-                }
-            }
-            self.out.show_progress(rows.bytes);
-            match trouble {
-                Some(words) => return Err(format!("{}: {words}", options.table.display())),
-                None if block.is_empty() => return Ok(()),
-                None => {}
-            }
-        }
-    }
-
-    fn finish(self, options: &Hours, deck: &[u8], trouble: Result<(), String>) -> Outcome {
-        self.out.end_progress();
-        let mut status = self.tally.status();
-        if let Err(words) = &trouble {
-            self.out.fail(words);
-            status.failed = true;
-        }
-        if self.out.failed {
-            return Ok(status);
-        }
-        if trouble.is_ok() {
-            self.file.map_or(Ok(()), Beside::finish)?;
-            self.chart.map_or(Ok(()), Chart::finish)?;
-        }
-        self.tally.tell(deck, options.compare, self.out);
-        Ok(status)
-    }
 }

@@ -4,6 +4,7 @@ use luvinqata::{Halt, Program, State, Store};
 
 use crate::hours::columns::Columns;
 use crate::hours::rows::Row;
+use crate::hours::table::Table;
 use crate::told::sequence_at;
 
 pub struct Hour {
@@ -12,6 +13,8 @@ pub struct Hour {
     pub fields: Vec<Option<String>>,
     /// How the run ended, or why the row cannot be run.
     pub end: Result<End, String>,
+    /// Its row in the table that is written.
+    pub written: Vec<u8>,
 }
 
 pub struct End {
@@ -75,6 +78,7 @@ impl<'p> Machine<'p> {
 #[derive(Clone)]
 pub struct Worker<'p> {
     pub columns: &'p Columns,
+    pub table: &'p Table,
     pub machine: Machine<'p>,
     /// The same deck with other digits.
     pub other: Option<Machine<'p>>,
@@ -83,11 +87,14 @@ pub struct Worker<'p> {
 impl Worker<'_> {
     pub fn hour(&mut self, row: &Row) -> Hour {
         let reading = self.columns.read(row, self.machine.program.digits());
-        Hour {
+        let mut hour = Hour {
             line: row.line,
             fields: reading.fields,
             end: reading.values.and_then(|values| self.run(&values)),
-        }
+            written: Vec::new(),
+        };
+        hour.written = self.table.row(&hour);
+        hour
     }
 
     fn run(&mut self, values: &[(usize, i64)]) -> Result<End, String> {
