@@ -1,10 +1,11 @@
-//! The launcher builds when what was built is not what there is, whatever the times say.
+//! The launcher builds when what was built is not what there is, whatever the times say; cargo gets the crates that are
+//! missing.
 
 mod common;
 
 use std::fs;
 use std::os::unix::fs::PermissionsExt;
-use std::path::Path;
+use std::path::{Path, PathBuf};
 use std::process::Command;
 use std::time::SystemTime;
 
@@ -25,10 +26,10 @@ fn script(path: &Path, text: &str) {
     fs::set_permissions(path, fs::Permissions::from_mode(0o755)).expect("its rights");
 }
 
-fn folder() -> std::path::PathBuf {
-    let folder = Path::new(env!("CARGO_TARGET_TMPDIR")).join("launcher");
+fn folder(name: &str) -> PathBuf {
+    let folder = Path::new(env!("CARGO_TARGET_TMPDIR")).join(name);
     let _ = fs::remove_dir_all(&folder);
-    for part in ["crates", "rust/luvinqata", "rust/command", "tools", "bin"] {
+    for part in ["crates", "rust/luvinqata", "rust/command", "tools", "bin", "registry"] {
         fs::create_dir_all(folder.join(part)).expect("a folder");
     }
     for file in [
@@ -46,28 +47,30 @@ fn folder() -> std::path::PathBuf {
     folder
 }
 
-/// Its status, output and words, and how many builds there were by now.
-fn launch(folder: &Path) -> (i32, String, String, usize) {
-    let path = format!(
-        "{}:{}",
-        folder.join("bin").display(),
-        std::env::var("PATH").expect("a path")
-    );
-    let output = Command::new(folder.join("luvinqata"))
-        .args(["run", "a deck"])
-        .env("PATH", path)
+/// A program of the folder, with the folder's own tools before others: status, output and words.
+fn run(folder: &Path, program: &str, arguments: &[&str]) -> (i32, String, String) {
+    let path = std::env::var("PATH").expect("a path");
+    let output = Command::new(folder.join(program))
+        .args(arguments)
+        .env("PATH", format!("{}:{path}", folder.join("bin").display()))
         .env_remove("LUVINQATA_ARCHIVE")
         .output()
-        .expect("the launcher");
+        .expect("a program");
     let text = |bytes| String::from_utf8(bytes).expect("text");
-    let builds = fs::read_to_string(folder.join("builds")).unwrap_or_default();
     let status = output.status.code().expect("a status");
-    (status, text(output.stdout), text(output.stderr), builds.lines().count())
+    (status, text(output.stdout), text(output.stderr))
+}
+
+/// The launcher's, and how many builds there were by now.
+fn launch(folder: &Path) -> (i32, String, String, usize) {
+    let (status, out, told) = run(folder, "luvinqata", &["run", "a deck"]);
+    let builds = fs::read_to_string(folder.join("builds")).unwrap_or_default();
+    (status, out, told, builds.lines().count())
 }
 
 #[test]
 fn it_builds_what_there_is() {
-    let folder = folder();
+    let folder = folder("launcher");
     let (status, out, told, builds) = launch(&folder);
     assert_eq!((status, out.as_str(), builds), (0, "first run a deck\n", 1));
     assert!(
@@ -98,4 +101,36 @@ fn it_builds_what_there_is() {
         told.contains("a source is broken") && told.contains("it is not built"),
         "{told}"
     );
+}
+
+#[test]
+fn crates_that_are_missing_are_installed() {
+    let folder = folder("crates");
+    let registry = folder.join("registry");
+    let cargo = fs::read_to_string(top("tools/x86-cargo")).expect("the script");
+    assert!(cargo.contains("crates=/usr/share/cargo/registry\n"));
+    let cargo = cargo.replace("/usr/share/cargo/registry", registry.to_str().expect("a path"));
+    script(&folder.join("tools/x86-cargo"), &cargo);
+    script(&folder.join("bin/apt-get"), "#!/bin/sh\necho apt-get \"$@\" >&2\n");
+    script(&folder.join("bin/cargo"), "#!/bin/sh\nprintf '%s|' \"$@\"\n");
+    let lock = folder.join("rust/command/Cargo.lock");
+    fs::write(&lock, "other releases").expect("a lock");
+    fs::create_dir(registry.join("csv-1.1.6")).expect("a crate");
+    let (status, out, told) = run(&folder, "tools/x86-cargo", &["build", "a b"]);
+    let source = format!("--config|source.debian.directory=\"{}\"|", registry.display());
+    let expected = format!("--config|source.crates-io.replace-with=\"debian\"|{source}build|a b|");
+    assert_eq!((status, out), (0, expected));
+    let packages = ["clap", "clap-complete", "indicatif", "plotters"].map(|name| format!(" librust-{name}-dev"));
+    let install = format!("apt-get install -y -qq --no-install-recommends{}\n", packages.concat());
+    assert_eq!(told, format!("apt-get update -qq\n{install}"));
+    assert!(!lock.exists());
+    for name in [
+        "clap-4.0.32",
+        "clap_complete-4.0.7",
+        "indicatif-0.17.3",
+        "plotters-0.3.4",
+    ] {
+        fs::create_dir(registry.join(name)).expect("a crate");
+    }
+    assert_eq!(run(&folder, "tools/x86-cargo", &["build"]).2, "");
 }

@@ -4,9 +4,10 @@ mod common;
 
 use std::fs;
 use std::path::{Path, PathBuf};
+use std::process::Command;
 use std::sync::OnceLock;
 
-use common::{luvinqata, top, Ended};
+use common::{luvinqata, top, Ended, LUVINQATA};
 
 const DECK: &str = "      DIMENSION L(2)\n      L(1)=I*2\n      L(2)=I*300\n      I=0\n      END\n";
 const TABLE: &str = "day,I,\"a \"\"b\"\"\"\nmon,7,\"x,\n\"\ntue,-500,\\\nwed,?,\x01\n";
@@ -112,6 +113,31 @@ fn a_file_and_no_words() {
         ended.told
     );
     assert_eq!(fs::read_to_string(&place).expect("the table"), written(&[]));
+}
+
+/// `script` is a terminal: there is progress, and it is gone before the last words; not where the table itself is shown.
+#[test]
+fn progress_on_a_terminal() {
+    let runner = std::env::var("CARGO_TARGET_X86_64_UNKNOWN_LINUX_GNU_RUNNER").unwrap_or_default();
+    let place = Path::new(env!("CARGO_TARGET_TMPDIR")).join("progress.csv");
+    let shown = |more: &str| {
+        let hours = "hours examples/gale-hours.txt examples/gale-hours.csv";
+        let line = format!("{runner} {LUVINQATA} {hours} {more}");
+        let output = Command::new("script")
+            .args(["-qec", &line, "/dev/null"])
+            .current_dir(top(""))
+            .output();
+        String::from_utf8(output.expect("a terminal").stdout).expect("text")
+    };
+    let words = "8 hours done, 2 lost digits, 1 could not be read\r\n";
+    let file = shown(&format!("-o {}", place.display()));
+    assert!(
+        file.contains("B of 66B") && file.contains(&format!("\x1b[2K{words}")),
+        "{file}"
+    );
+    let screen = shown("");
+    assert!(!screen.contains("B of 66B") && screen.contains(words), "{screen}");
+    assert_eq!(shown(&format!("--quiet -o {}", place.display())), "");
 }
 
 /// Rows stay in their order, with any number of threads, and all that is told does too.
