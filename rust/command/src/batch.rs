@@ -1,6 +1,6 @@
 //! `batch`: a request a line on standard input, its answer on the same line of standard output.
 
-use std::io::{self, stdin, BufRead};
+use std::io::{self, stdin, BufRead, Read};
 
 use luvinqata::{bench, check, compile, run, Ran, Refusal, State, Store, LONGEST_OBJECT, STACK};
 
@@ -26,25 +26,17 @@ pub fn batch(out: &mut Output) -> Outcome {
     Ok(Status::default())
 }
 
-/// Reads a line, no more than its longest part, and says whether that was all of it. None: there is no more.
+/// Reads a line and says whether it is whole; of one that is too long the rest is passed over. None: there is no more.
 fn next(input: &mut impl BufRead, line: &mut Vec<u8>) -> io::Result<Option<bool>> {
     line.clear();
-    let mut whole = true;
-    loop {
-        let part = input.fill_buf()?;
-        let end = part.iter().position(|byte| *byte == b'\n');
-        let length = end.unwrap_or(part.len());
-        let is_last = end.is_some() || part.is_empty();
-        whole &= line.len() + length <= LONGEST;
-        if whole {
-            line.extend_from_slice(&part[..length]);
-        }
-        let had_any = end.is_some() || !line.is_empty() || !whole;
-        input.consume(length + usize::from(end.is_some()));
-        if is_last {
-            return Ok(had_any.then_some(whole));
-        }
+    let read = input.by_ref().take(LONGEST as u64 + 1).read_until(b'\n', line)?;
+    if line.last() == Some(&b'\n') {
+        line.pop();
     }
+    if line.len() > LONGEST {
+        input.skip_until(b'\n')?;
+    }
+    Ok((read > 0).then_some(line.len() <= LONGEST))
 }
 
 /// None: the request cannot be read.

@@ -28,12 +28,7 @@ impl Beside {
             true => place.clone(),
             false => beside(&place),
         };
-        let options = File::options()
-            .write(true)
-            .create(!is_other)
-            .truncate(!is_other)
-            .open(&beside);
-        match options {
+        match File::options().write(true).create_new(!is_other).open(&beside) {
             Ok(file) => Ok(Beside {
                 file: BufWriter::new(file),
                 place,

@@ -28,7 +28,7 @@ pub fn open(path: &Path) -> Result<Box<dyn Read>, String> {
     }
 }
 
-pub fn failed(path: &Path, error: &std::io::Error) -> String {
+fn failed(path: &Path, error: &std::io::Error) -> String {
     format!("{}: {error}", path.display())
 }
 

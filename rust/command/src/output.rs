@@ -86,8 +86,14 @@ impl Output {
         self.progress.finish_and_clear();
     }
 
-    /// If standard error cannot be written, there is nobody to tell.
+    /// If standard error cannot be written, there is nobody to tell. A terminal obeys nothing that is told, whatever the
+    /// names of files or the cards hold.
     fn tell(&mut self, line: impl Display) {
+        let told = |c: char| match c.is_control() && c != '\n' {
+            true => c.escape_default().to_string(),
+            false => c.to_string(),
+        };
+        let line: String = line.to_string().chars().map(told).collect();
         self.progress.suspend(|| drop(writeln!(io::stderr(), "{line}")));
     }
 

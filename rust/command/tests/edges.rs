@@ -168,6 +168,10 @@ fn text_of_others_is_made_safe() {
     ] {
         assert!(ended.told.contains(words), "{words}: {}", ended.told);
     }
+    for (arguments, deck) in [(["run", "-"], "      I=\x1b[2J\n"), (["run", "no/\x1b[2J"], "")] {
+        let ended = luvinqata(&arguments, deck.as_bytes());
+        assert!(ended.status == 2 && ended.told.chars().all(safe), "{}", ended.told);
+    }
 }
 
 #[test]

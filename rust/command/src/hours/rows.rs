@@ -1,7 +1,7 @@
 //! The rows of a table, one after another from a stream. A row is no longer than the longest, and one whose quotes are not
 //! as they should be is known by that: the `csv` crate would take it for another row.
 
-use std::io::{BufRead, BufReader, Chain, Cursor, Read};
+use std::io::{BufRead, BufReader, Chain, Cursor, ErrorKind, Read};
 
 use csv::{ByteRecord, ReaderBuilder, Terminator};
 
@@ -74,7 +74,10 @@ impl<R: Read> Rows<R> {
         let (mut bytes, mut quotes) = (Vec::new(), Quotes::default());
         let line = self.next;
         loop {
-            let part = self.input.fill_buf().map_err(|error| error.to_string())?;
+            let part = match self.input.fill_buf() {
+                Err(error) if error.kind() == ErrorKind::Interrupted => continue,
+                part => part.map_err(|error| error.to_string())?,
+            };
             if part.is_empty() {
                 let flaw = quotes.flaw_at_end();
                 return Ok((!bytes.is_empty()).then_some(Row { line, bytes, flaw }));
