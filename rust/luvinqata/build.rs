@@ -27,6 +27,8 @@ fn main() {
     let folder = archive.parent().unwrap_or(Path::new("."));
     println!("cargo:rustc-link-search=native={}", folder.display());
     println!("cargo:rustc-link-lib=static={name}");
+    // For the tests, which link it to programs in other languages.
+    println!("cargo:rustc-env=LUVINQATA_LINKED={}", archive.display());
 }
 
 fn fail(message: &str) -> ! {

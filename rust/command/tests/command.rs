@@ -166,7 +166,10 @@ fn help_and_wrong_use() {
         assert!(ended.out.contains("\nexample: "));
         assert!(all.out.contains(&format!("\n  {subcommand} ")));
     }
-    assert_eq!(luvinqata(&["--version"], b"").out, "luvinqata 0.1.0\n");
+    assert_eq!(
+        luvinqata(&["--version"], b"").out,
+        concat!("luvinqata ", env!("CARGO_PKG_VERSION"), "\n")
+    );
     assert!(luvinqata(&["completions", "bash"], b"").out.contains("--keep-inputs"));
     let wrong: [&[&str]; 18] = [
         &[],

@@ -2,17 +2,26 @@
 //! proved code, linked from an archive; this crate only makes its calls safe. Every function takes any bytes, any numbers
 //! and any state, and a refusal changes nothing that was lent.
 //!
-//! The gale: 47 knots cubed, in five digits.
+//! An hour is three lines of a [`Program`]. The gale: 47 knots cubed, in five digits.
 //!
 //! ```
-//! let deck = luvinqata::punch(b"      I=47\n      J=I*I*I\n      STOP\n      END\n").unwrap();
-//! let object = luvinqata::compile_to_vec(5, &deck).unwrap();
-//! let mut store = luvinqata::Store::new(&object).unwrap();
-//! let mut state = luvinqata::State::fresh();
-//! let ran = luvinqata::run(&object, store.cells_mut(), &mut state, 1_000_000).unwrap();
-//! assert_eq!(store.get("J"), Some(3823));
-//! assert_eq!(ran.sequence, 2, "the second statement was the first to lose digits");
+//! # fn gale() -> Result<(), Box<dyn std::error::Error>> {
+//! let deck = luvinqata::punch(b"      KUBE=KNOTS*KNOTS*KNOTS\n      END\n")?;
+//! let program = luvinqata::Program::compile(5, &deck)?;
+//!
+//! let mut hour = program.start();
+//! hour.set("KNOTS", 47)?;
+//! let answer = hour.run(1_000_000)?;
+//!
+//! assert_eq!(answer.get("KUBE"), Some(3823));
+//! assert_eq!(answer.lost(), Some(1), "the first statement lost digits");
+//! # Ok(())
+//! # }
+//! # gale().unwrap();
 //! ```
+//!
+//! The plain calls, [`compile`], [`check`], [`run`], [`bench`] and [`map`], take bytes, a store and a state of one's own. A deck that
+//! is refused is told by [`Refusal::explain`].
 
 #![deny(missing_docs, unsafe_code)]
 

@@ -234,9 +234,12 @@ fn every_refused_deck_is_explained() {
         *refusals.entry(refusal.number()).or_insert(0) += 1;
         holds(&refusal, &made.deck, &format!("seed {seed}"));
         // Of any other bytes there are words too.
-        let other = generate::damaged_deck(&mut rng, &made.deck);
-        assert!(!refusal.explain(&other).to_string().is_empty());
-        assert!(!refusal.explain(b"").to_string().is_empty());
+        let noise = (0..rng.below(2_000))
+            .map(|_| *rng.pick(b"   01IJDOGIFC(),=+*-.$x\xFF"))
+            .collect();
+        for other in [Vec::new(), noise, generate::damaged_deck(&mut rng, &made.deck)] {
+            assert!(!refusal.explain(&other).to_string().is_empty(), "seed {seed}");
+        }
     }
     let numbers = [2, 3, 4, 5, 6, 7, 10, 11, 12, 13, 14, 15, 16, 18, 20, 21, 22, 23, 24, 25];
     assert!(

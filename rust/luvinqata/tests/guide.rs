@@ -41,6 +41,15 @@ fn the_documents_show_this_code() {
     }
 }
 
+/// A change of the version has its lines.
+#[test]
+fn the_changes_begin_with_this_version() {
+    let path = Path::new(env!("CARGO_MANIFEST_DIR")).join("../../CHANGELOG.md");
+    let changes = read_to_string(path).expect("the changes");
+    let version = changes.lines().find_map(|line| line.strip_prefix("## "));
+    assert_eq!(version, Some(env!("CARGO_PKG_VERSION")));
+}
+
 #[test]
 fn an_hour() -> Result<(), Box<dyn Error>> {
     let text = TEXT;

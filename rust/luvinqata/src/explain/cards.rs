@@ -4,7 +4,8 @@ use super::text::Text;
 use super::{counted, spelled, Columns, Explanation};
 use crate::CARD;
 
-const CARDS: usize = 512;
+/// No deck has more.
+pub const CARDS: usize = 512;
 const STATEMENTS: usize = 400;
 const CONTINUATIONS: usize = 9;
 

@@ -13,7 +13,7 @@ const MOST_DIGITS: usize = 9;
 pub fn name(text: &Text) -> Option<Explanation> {
     let wrong = |name: &str| name.len() > NAME || !name.starts_with(['I', 'J', 'K', 'L', 'M', 'N']);
     let (name, _, piece) = text.names().find(|(name, ..)| wrong(name))?;
-    let at = text.columns(piece.at.clone());
+    let at = text.at(piece);
     if looks_like_do(text, piece, &name) {
         let words = format!("without a comma this is an assignment to {name}");
         return Some(Explanation::new(
@@ -33,17 +33,16 @@ pub fn name(text: &Text) -> Option<Explanation> {
 
 /// `DO10I=1`
 fn looks_like_do(text: &Text, piece: &Piece, name: &str) -> bool {
-    let assignment = text.read.as_ref().is_ok_and(|read| read.form == Form::Assignment);
     let after = name.strip_prefix("DO").unwrap_or_default();
     let variable = after.trim_start_matches(|c: char| c.is_ascii_digit());
-    assignment && piece.at.start == 0 && variable.len() < after.len() && !variable.is_empty()
+    text.is(Form::Assignment) && piece.at.start == 0 && variable.len() < after.len() && !variable.is_empty()
 }
 
 /// 12: of more digits than the deck is compiled for, which the longest constant has for sure.
 pub fn constant(texts: &[Text], text: &Text) -> Option<Explanation> {
     let own = longest(text)?;
-    let (digits, at) = (own.len(), text.columns(own.at.clone()));
-    let mut words = format!("{} has {} digits", text.show(own.at.clone()), spelled(digits));
+    let (digits, at) = (own.len(), text.at(own));
+    let mut words = format!("{} has {} digits", text.written(own), spelled(digits));
     if digits > MOST_DIGITS {
         return Some(Explanation::new(
             at,
@@ -58,13 +57,13 @@ pub fn constant(texts: &[Text], text: &Text) -> Option<Explanation> {
     if let Some((other, piece)) = &most {
         words += &format!(
             ", {} on card {} {}",
-            other.show(piece.at.clone()),
+            other.written(piece),
             other.after(piece.at.start).card,
             spelled(piece.len())
         );
     }
     let enough = most.as_ref().map_or(digits, |(_, piece)| piece.len());
-    let also = most.map_or_else(Vec::new, |(other, piece)| other.columns(piece.at.clone()));
+    let also = most.map_or_else(Vec::new, |(other, piece)| other.at(piece));
     Some(Explanation::new(at, words, format!("--digits {enough}")).with(also))
 }
 
@@ -82,12 +81,8 @@ pub fn number(text: &Text) -> Option<Explanation> {
     let (_, piece) = text
         .numbers()
         .find(|(number, _)| !(1..=LARGEST_NUMBER).contains(number))?;
-    let words = format!("{} is no statement number", text.show(piece.at.clone()));
-    Some(Explanation::new(
-        text.columns(piece.at.clone()),
-        words,
-        "they go from 1 to 99999",
-    ))
+    let words = format!("{} is no statement number", text.written(piece));
+    Some(Explanation::new(text.at(piece), words, "they go from 1 to 99999"))
 }
 
 /// 14
@@ -96,5 +91,5 @@ pub fn parentheses(text: &Text) -> Option<Explanation> {
     let piece = text.pieces().iter().find(too_deep)?;
     let words = "this is the seventeenth parenthesis open at once";
     let advice = "sixteen at most; work out a part of it in a statement before";
-    Some(Explanation::new(text.columns(piece.at.clone()), words, advice))
+    Some(Explanation::new(text.at(piece), words, advice))
 }

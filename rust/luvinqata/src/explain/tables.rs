@@ -60,7 +60,7 @@ impl Tables {
         for piece in &read.pieces {
             match piece.part {
                 Part::Name { subscripts } => {
-                    let new = self.names.insert(text.show(piece.at.clone()));
+                    let new = self.names.insert(text.written(piece));
                     self.cells += u64::from(new);
                     self.elements += usize::from(subscripts > 0);
                 }
@@ -79,7 +79,7 @@ impl Tables {
             match piece.part {
                 Part::Name { .. } => {
                     self.cells += size;
-                    self.names.insert(text.show(piece.at.clone()));
+                    self.names.insert(text.written(piece));
                     size = 1;
                 }
                 _ => size *= u64::from(text.value(piece)),

@@ -2,7 +2,8 @@
 
 use std::ops::Range;
 
-use super::forms::{read, Part, Piece, Read, Stuck};
+use super::cards::CARDS;
+use super::forms::{read, Form, Part, Piece, Read, Stuck};
 use super::Columns;
 use crate::CARD;
 
@@ -26,7 +27,7 @@ pub struct Text {
 /// The texts of a deck, in card order.
 pub fn texts(deck: &[u8]) -> Vec<Text> {
     let mut texts: Vec<Text> = Vec::new();
-    for (index, columns) in deck.chunks_exact(CARD).enumerate() {
+    for (index, columns) in deck.chunks_exact(CARD).take(CARDS).enumerate() {
         if columns[0] == b'C' {
             continue;
         }
@@ -88,6 +89,16 @@ impl Text {
         columns
     }
 
+    /// The columns of a piece.
+    pub fn at(&self, piece: &Piece) -> Vec<Columns> {
+        self.columns(piece.at.clone())
+    }
+
+    /// A piece as one writes it.
+    pub fn written(&self, piece: &Piece) -> String {
+        self.show(piece.at.clone())
+    }
+
     /// Where the next character after so many stands, or would stand.
     pub fn after(&self, read: usize) -> Columns {
         match (self.places.get(read), self.places.last()) {
@@ -112,6 +123,10 @@ impl Text {
         self.places.iter().take_while(|(at, _)| *at < card).count()
     }
 
+    pub fn is(&self, form: Form) -> bool {
+        self.read.as_ref().is_ok_and(|read| read.form == form)
+    }
+
     /// What was read, if the text is of a form.
     pub fn pieces(&self) -> &[Piece] {
         self.read.as_ref().map_or(&[], |read| &read.pieces)
@@ -120,22 +135,19 @@ impl Text {
     /// The names in it, with their counts of subscripts.
     pub fn names(&self) -> impl Iterator<Item = (String, usize, &Piece)> + '_ {
         self.pieces().iter().filter_map(|piece| match piece.part {
-            Part::Name { subscripts } => Some((self.show(piece.at.clone()), subscripts, piece)),
+            Part::Name { subscripts } => Some((self.written(piece), subscripts, piece)),
             _ => None,
         })
     }
 
     /// The statement numbers in it that it goes to or ends at.
     pub fn numbers(&self) -> impl Iterator<Item = (u32, &Piece)> + '_ {
-        let number = |piece: &Piece| self.value(piece);
-        self.pieces()
-            .iter()
-            .filter(|piece| piece.part == Part::Number)
-            .map(move |piece| (number(piece), piece))
+        let numbers = self.pieces().iter().filter(|piece| piece.part == Part::Number);
+        numbers.map(|piece| (self.value(piece), piece))
     }
 
     /// The value of a run of digits; the largest u32 for one that is too long.
     pub fn value(&self, piece: &Piece) -> u32 {
-        self.show(piece.at.clone()).parse().unwrap_or(u32::MAX)
+        self.written(piece).parse().unwrap_or(u32::MAX)
     }
 }

@@ -50,7 +50,7 @@ pub fn undefined(texts: &[Text], index: usize) -> Option<Explanation> {
     let (number, piece) = text.numbers().find(|(number, _)| numbered(texts, *number).is_none())?;
     let words = format!("no statement has the number {number}");
     let advice = "it stands in columns 1 to 5 of the statement to go to";
-    Some(Explanation::new(text.columns(piece.at.clone()), words, advice))
+    Some(Explanation::new(text.at(piece), words, advice))
 }
 
 /// A DO and its last statement, as indexes.
@@ -85,7 +85,7 @@ pub fn range(texts: &[Text], index: usize) -> Option<Explanation> {
     let text = texts.get(index)?;
     let (number, piece) = text.numbers().next()?;
     let last = numbered(texts, number)?;
-    let at = text.columns(piece.at.clone());
+    let at = text.at(piece);
     if last == index {
         let words = format!("this DO is itself statement {number}, which ends it");
         return Some(Explanation::new(at, words, LAST_AFTER));
@@ -149,7 +149,7 @@ pub fn jump(texts: &[Text], index: usize) -> Option<Explanation> {
     let card = texts[range.first].card();
     let words = format!("statement {number} stands in the range of the DO of card {card}, and this jump does not");
     let advice = "jump to the DO itself: its range is entered by it only";
-    Some(Explanation::new(text.columns(piece.at.clone()), words, advice).with(place(&texts[range.first])))
+    Some(Explanation::new(text.at(piece), words, advice).with(place(&texts[range.first])))
 }
 
 /// 25
@@ -165,5 +165,5 @@ pub fn variable(texts: &[Text], index: usize) -> Option<Explanation> {
     let card = texts[range.first].card();
     let words = format!("{set} is the variable of the DO of card {card}, and this stands in its range");
     let advice = "use another name here";
-    Some(Explanation::new(text.columns(piece.at.clone()), words, advice).with(place(&texts[range.first])))
+    Some(Explanation::new(text.at(piece), words, advice).with(place(&texts[range.first])))
 }
