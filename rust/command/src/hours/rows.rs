@@ -240,6 +240,29 @@ mod tests {
         );
     }
 
+    /// Every short table without a flaw is read as the `csv` crate reads all of it.
+    #[test]
+    fn tables_without_flaws_are_read_alike() {
+        const LETTERS: &[u8] = b"\",a \n";
+        const LENGTH: u32 = 7;
+        let mut sound = 0;
+        for number in 0..LETTERS.len().pow(LENGTH) {
+            let letter = |place: u32| LETTERS[number / LETTERS.len().pow(place) % LETTERS.len()];
+            let table: Vec<u8> = (0..LENGTH).map(letter).collect();
+            let (rows, _) = Rows::new(&table[..], b',').expect("bytes in memory").block(usize::MAX);
+            if rows.iter().any(|row| row.flaw.is_some()) {
+                continue;
+            }
+            let mut whole = ReaderBuilder::new();
+            let whole = whole.has_headers(false).flexible(true).from_reader(&table[..]);
+            let expected: Vec<ByteRecord> = whole.into_byte_records().map(|row| row.expect("a row")).collect();
+            let read: Vec<ByteRecord> = rows.iter().map(|row| row.fields(b',')).collect();
+            assert_eq!(read, expected, "{}", String::from_utf8_lossy(&table));
+            sound += 1;
+        }
+        assert!(sound > 5_000, "{sound}");
+    }
+
     #[test]
     fn an_endless_row_is_not_read_to_its_end() {
         let mut rows = Rows::new(std::io::repeat(b','), b',').expect("an endless stream");
