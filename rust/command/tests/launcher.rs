@@ -107,10 +107,11 @@ fn it_builds_what_there_is() {
 fn crates_that_are_missing_are_installed() {
     let folder = folder("crates");
     let registry = folder.join("registry");
-    let cargo = fs::read_to_string(top("tools/x86-cargo")).expect("the script");
+    let cargo = fs::read_to_string(top("tools/cargo-with-crates")).expect("the script");
     assert!(cargo.contains("crates=/usr/share/cargo/registry\n"));
     let cargo = cargo.replace("/usr/share/cargo/registry", registry.to_str().expect("a path"));
-    script(&folder.join("tools/x86-cargo"), &cargo);
+    script(&folder.join("tools/cargo-with-crates"), &cargo);
+    fs::copy(top("tools/x86-cargo"), folder.join("tools/x86-cargo")).expect("the script");
     script(&folder.join("bin/apt-get"), "#!/bin/sh\necho apt-get \"$@\" >&2\n");
     script(&folder.join("bin/cargo"), "#!/bin/sh\nprintf '%s|' \"$@\"\n");
     let lock = folder.join("rust/command/Cargo.lock");
