@@ -57,49 +57,50 @@ fn digits_and_steps() {
     );
 }
 
-/// What is printed, and what is told of it.
-#[test]
-fn a_refusal_shows_number_words_and_carets() {
-    let cases = [
-        (
-            "C     A COMMENT\n      I=1\n   10 J=2\nC     ANOTHER\n     1+LONGEST\n      END\n",
-            "REFUSED 11 2\n",
-            "refused 11: card 5, columns 8 to 14: LONGEST has seven characters: a name has six at most\n\
+/// A deck, what is printed of it, and what is told.
+const REFUSALS: [(&str, &str, &str); 6] = [
+    (
+        "C     A COMMENT\n      I=1\n   10 J=2\nC     ANOTHER\n     1+LONGEST\n      END\n",
+        "REFUSED 11 2\n",
+        "refused 11: card 5, columns 8 to 14: LONGEST has seven characters: a name has six at most\n\
              card   3 |   10 J=2\ncard   5 |     1+LONGEST\n         |       ^^^^^^^\n",
-        ),
-        (
-            "      I=1\n      i=2\n",
-            "REFUSED 3 2\n",
-            "refused 3: card 2, column 7: 'i' is lower case: cards hold capitals only\n\
+    ),
+    (
+        "      I=1\n      i=2\n",
+        "REFUSED 3 2\n",
+        "refused 3: card 2, column 7: 'i' is lower case: cards hold capitals only\n\
              card   2 |      i=2\n         |      ^\n",
-        ),
-        (
-            "      IF(I)10,20\n      END\n",
-            "REFUSED 10 1\n",
-            "refused 10: card 1, column 17: the statement breaks off after 'IF(I)10,20': \
+    ),
+    (
+        "      IF(I)10,20\n      END\n",
+        "REFUSED 10 1\n",
+        "refused 10: card 1, column 17: the statement breaks off after 'IF(I)10,20': \
              the third of three statement numbers is wanted here\n\
              card   1 |      IF(I)10,20\n         |                ^\n",
-        ),
-        // Both places of a number that is there twice.
-        (
-            "   10 I=1\n      J=2\n   10 K=3\n      END\n",
-            "REFUSED 21 3\n",
-            "refused 21: card 3, columns 4 to 5: the statement number 10 stands on card 1 too: \
+    ),
+    // Both places of a number that is there twice.
+    (
+        "   10 I=1\n      J=2\n   10 K=3\n      END\n",
+        "REFUSED 21 3\n",
+        "refused 21: card 3, columns 4 to 5: the statement number 10 stands on card 1 too: \
              give one of the two another number\n\
              card   1 |   10 I=1\n         |   ^^\ncard   3 |   10 K=3\n         |   ^^\n",
-        ),
-        (
-            "C\n",
-            "REFUSED 20 0\n",
-            "refused 20: the deck has no statement, only comments: it ends with END\n",
-        ),
-        (
-            "",
-            "REFUSED 2 0\n",
-            "refused 2: the deck is empty: it needs one card at least, with END\n",
-        ),
-    ];
-    for (deck, printed, told) in cases {
+    ),
+    (
+        "C\n",
+        "REFUSED 20 0\n",
+        "refused 20: the deck has no statement, only comments: it ends with END\n",
+    ),
+    (
+        "",
+        "REFUSED 2 0\n",
+        "refused 2: the deck is empty: it needs one card at least, with END\n",
+    ),
+];
+
+#[test]
+fn a_refusal_shows_number_words_and_carets() {
+    for (deck, printed, told) in REFUSALS {
         let ended = luvinqata(&["run", "-"], deck.as_bytes());
         assert_eq!(
             (ended.status, ended.out.as_str(), ended.told.as_str()),
@@ -156,6 +157,27 @@ fn the_examples() {
     }
 }
 
+const WRONG: [&[&str]; 18] = [
+    &[],
+    &["walk"],
+    &["run"],
+    &["run", "a", "b"],
+    &["run", "--fast", "a"],
+    &["run", "--digits", "five", "a"],
+    &["run", "a", "--digits"],
+    &["run", "a", "--cards", "--text"],
+    &["run", "a", "--set", "I"],
+    &["run", "a", "--set", "I=1.5"],
+    &["compile", "--steps", "9", "a"],
+    &["check", "--text", "a"],
+    &["batch", "--cards"],
+    &["run", "no/such/deck"],
+    &["hours", "a"],
+    &["hours", "-", "-"],
+    &["hours", "a", "b", "--chart", "I,J"],
+    &["hours", "a", "b", "--threads", "0"],
+];
+
 #[test]
 fn help_and_wrong_use() {
     let all = luvinqata(&["--help"], b"");
@@ -171,27 +193,7 @@ fn help_and_wrong_use() {
         concat!("luvinqata ", env!("CARGO_PKG_VERSION"), "\n")
     );
     assert!(luvinqata(&["completions", "bash"], b"").out.contains("--keep-inputs"));
-    let wrong: [&[&str]; 18] = [
-        &[],
-        &["walk"],
-        &["run"],
-        &["run", "a", "b"],
-        &["run", "--fast", "a"],
-        &["run", "--digits", "five", "a"],
-        &["run", "a", "--digits"],
-        &["run", "a", "--cards", "--text"],
-        &["run", "a", "--set", "I"],
-        &["run", "a", "--set", "I=1.5"],
-        &["compile", "--steps", "9", "a"],
-        &["check", "--text", "a"],
-        &["batch", "--cards"],
-        &["run", "no/such/deck"],
-        &["hours", "a"],
-        &["hours", "-", "-"],
-        &["hours", "a", "b", "--chart", "I,J"],
-        &["hours", "a", "b", "--threads", "0"],
-    ];
-    for arguments in wrong {
+    for arguments in WRONG {
         let ended = luvinqata(arguments, b"");
         assert_eq!((ended.status, ended.out.as_str()), (2, ""), "{arguments:?}");
         assert!(!ended.told.is_empty(), "{arguments:?}");

@@ -68,32 +68,18 @@ fn what_is_read_is_not_written_over() {
     symlink(&table, &soft).expect("a link");
     let (read_deck, read_table) = (fs::read(&deck).expect("a deck"), fs::read(&table).expect("a table"));
     let chart = folder.join("chart.svg");
-    let cases: [&[&str]; 6] = [
-        &["compile", text(&deck), text(&deck)],
-        &["compile", text(&deck), text(&hard)],
-        &["hours", text(&deck), text(&table), "-o", text(&deck)],
-        &["hours", text(&deck), text(&table), "-o", text(&soft)],
-        &[
-            "hours",
-            text(&deck),
-            text(&table),
-            "--chart",
-            "KNOTS,KUBE",
-            text(&table),
-        ],
-        &[
-            "hours",
-            text(&deck),
-            text(&table),
-            "-o",
-            text(&chart),
-            "--chart",
-            "KNOTS,KUBE",
-            text(&chart),
-        ],
+    let (compile, hours) = (["compile", text(&deck)], ["hours", text(&deck), text(&table)]);
+    let picture = ["--chart", "KNOTS,KUBE"];
+    let cases: [Vec<&str>; 6] = [
+        [&compile[..], &[text(&deck)]].concat(),
+        [&compile[..], &[text(&hard)]].concat(),
+        [&hours[..], &["-o", text(&deck)]].concat(),
+        [&hours[..], &["-o", text(&soft)]].concat(),
+        [&hours[..], &picture, &[text(&table)]].concat(),
+        [&hours[..], &picture, &[text(&chart), "-o", text(&chart)]].concat(),
     ];
     for arguments in cases {
-        let ended = luvinqata(arguments, b"");
+        let ended = luvinqata(&arguments, b"");
         assert_eq!(ended.status & 2, 2, "{arguments:?}");
         assert!(
             ended.told.contains("would be written over"),

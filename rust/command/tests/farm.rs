@@ -8,6 +8,14 @@ use std::collections::BTreeMap;
 use common::{luvinqata, top, Ended};
 
 const HOURS: usize = 2_184;
+/// What observers wrote that is no reading.
+const UNREAD: [&str; 5] = [
+    "line 79: KNOTS: '' is no whole number",
+    "line 213: KNOTS: 'n/a' is no whole number",
+    "line 558: LIST(1): no field, the row has 6 of 13",
+    "line 643: KNOTS: '1O' is no whole number",
+    "line 1806: NTURB: 'x' is no whole number",
+];
 
 /// Named fields of a row.
 type Fields = BTreeMap<String, String>;
@@ -78,13 +86,7 @@ fn the_power_of_the_ridge() {
          digits were lost in {losses}, first at statement 10:\ncard  14 |   60 LOAD=KW*NTURB\n"
     );
     assert!(ended.told.ends_with(&told), "{}", ended.told);
-    for words in [
-        "line 79: KNOTS: '' is no whole number",
-        "line 213: KNOTS: 'n/a' is no whole number",
-        "line 558: LIST(1): no field, the row has 6 of 13",
-        "line 643: KNOTS: '1O' is no whole number",
-        "line 1806: NTURB: 'x' is no whole number",
-    ] {
+    for words in UNREAD {
         assert!(ended.told.lines().any(|line| line == words), "{words}");
     }
     let remark = rows.iter().find(|row| row["line"] == "404").expect("the gale");

@@ -48,17 +48,20 @@ fn hours_that_stop_are_told_by_statement() {
     );
 }
 
+const SET: [&str; 4] = ["--set=L(2)=5", "--set=M(1)=7", "--set=M(2)=8", "--set=M(3)=-9"];
+
+/// A deck that reads elements and plain values that it never sets.
+fn unset(name: &str, more: &[&str], table: &[u8]) -> Ended {
+    let deck = b"      DIMENSION L(2),M(3)\n      I=I+L(2)+M(J)\n      K=KNOTS\n      END\n";
+    let deck = file(name, deck);
+    let mut arguments: Vec<&str> = vec!["hours", deck.to_str().expect("a path"), "-"];
+    arguments.extend(more);
+    luvinqata(&arguments, table)
+}
+
 #[test]
 fn a_value_that_nothing_gives_is_named() {
-    let deck = file(
-        "unset.txt",
-        b"      DIMENSION L(2),M(3)\n      I=I+L(2)+M(J)\n      K=KNOTS\n      END\n",
-    );
-    let hours = |more: &[&str], table: &[u8]| {
-        let mut arguments: Vec<&str> = vec!["hours", deck.to_str().expect("a path"), "-"];
-        arguments.extend(more);
-        luvinqata(&arguments, table)
-    };
+    let hours = |more: &[&str], table: &[u8]| unset("unset.txt", more, table);
     let missing = hours(&[], b"I,KNOTS\n1,2\n");
     assert_eq!((missing.status, missing.out.as_str()), (2, ""));
     assert_eq!(
@@ -66,21 +69,19 @@ fn a_value_that_nothing_gives_is_named() {
         "luvinqata: -: no column gives L(2), M(1) and 3 more, which the deck reads and never sets: \
          '--set L(2)=VALUE' gives it for all rows\n"
     );
-    let set = ["--set", "L(2)=5", "--set", "M(1)=7", "--set", "M(2)=8", "--set=M(3)=-9"];
-    let missing = hours(&set, b"I,KNOTS\n1,2\n");
-    assert!(
-        missing
-            .told
-            .contains("no column gives J, which the deck reads and never sets"),
-        "{}",
-        missing.told
-    );
-    let given = hours(&set, b"I,KNOTS,J\n1,2,3\n1,2,1\n");
+    let missing = hours(&SET, b"I,KNOTS\n1,2\n");
+    let words = "no column gives J, which the deck reads and never sets";
+    assert!(missing.told.contains(words), "{}", missing.told);
+    let given = hours(&SET, b"I,KNOTS,J\n1,2,3\n1,2,1\n");
+    let rows: Vec<&str> = given.out.lines().skip(1).collect();
     assert_eq!(
-        (given.status, given.out.lines().nth(1)),
-        (0, Some("2,0,5,7,8,-9,-3,3,2,2,1,0"))
+        (given.status, rows),
+        (0, vec!["2,0,5,7,8,-9,-3,3,2,2,1,0", "3,0,5,7,8,-9,13,1,2,2,1,0"])
     );
-    assert_eq!(given.out.lines().nth(2), Some("3,0,5,7,8,-9,13,1,2,2,1,0"));
+}
+
+#[test]
+fn values_that_cannot_be_given() {
     for (more, words) in [
         ("--set=J=1", "J is given by a column and by --set"),
         ("--set=L(2)=1", "--set gives L(2) twice"),
@@ -91,7 +92,7 @@ fn a_value_that_nothing_gives_is_named() {
         ("--set=knots=1", "--set knots: no value of the deck; KNOTS is one"),
         ("--set=K=123456", "--set K=123456: over 5 digits"),
     ] {
-        let wrong = hours(&[&set[..], &[more][..]].concat(), b"I,KNOTS,J\n1,2,3\n");
+        let wrong = unset("given.txt", &[&SET[..], &[more]].concat(), b"I,KNOTS,J\n1,2,3\n");
         assert_eq!((wrong.status, wrong.out.as_str()), (2, ""), "{words}");
         assert!(wrong.told.ends_with(&format!("{words}\n")), "{}", wrong.told);
     }
