@@ -3,6 +3,7 @@
 
 mod cards;
 mod forms;
+mod reader;
 mod shape;
 mod spelling;
 mod tables;

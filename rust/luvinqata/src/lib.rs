@@ -20,7 +20,7 @@
 //! # gale().unwrap();
 //! ```
 //!
-//! The plain calls, [`compile`], [`check`], [`run`], [`bench`] and [`map`], take bytes, a store and a state of one's own. A deck that
+//! The plain calls, [`compile`], [`check`], [`run`], [`bench()`] and [`map`], take bytes, a store and a state of one's own. A deck that
 //! is refused is told by [`Refusal::explain`].
 
 #![deny(missing_docs, unsafe_code)]

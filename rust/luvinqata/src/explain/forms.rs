@@ -2,6 +2,8 @@
 
 use std::ops::Range;
 
+use super::reader::Reader;
+
 /// What a statement is.
 #[derive(Clone, Copy, Debug, PartialEq, Eq)]
 pub enum Form {
@@ -99,35 +101,14 @@ fn meant(text: &[u8]) -> bool {
     }
 }
 
-struct Reader<'t> {
-    text: &'t [u8],
-    at: usize,
-    depth: usize,
-    pieces: Vec<Piece>,
-    instructions: usize,
-    stuck: Stuck,
-}
-
 /// What may follow an operand of an assignment, and in parentheses.
 pub const OPERATOR_OR_END: &str = "an operator or the end of the statement";
 pub const OPERATOR_OR_CLOSE: &str = "an operator or ')'";
-const EXIT: &str = "a statement number";
 const OPERAND: &str = "a constant, a name or a parenthesis";
 const SUBSCRIPT: &str = "a subscript like I, 5, I+5, I-5, 5*I, 5*I+5 or 5*I-5";
 const PARAMETER: &str = "a constant or a name";
 
-impl<'t> Reader<'t> {
-    fn new(text: &'t [u8]) -> Reader<'t> {
-        Reader {
-            text,
-            at: 0,
-            depth: 0,
-            pieces: Vec::new(),
-            instructions: 0,
-            stuck: Stuck::default(),
-        }
-    }
-
+impl Reader<'_> {
     fn assignment(&mut self) -> Option<()> {
         self.reference()?;
         self.mark(b'=', "'='")?;
@@ -278,74 +259,5 @@ impl<'t> Reader<'t> {
             self.constant(false, SUBSCRIPT)?;
         }
         Some(())
-    }
-
-    fn name(&mut self, wanted: &'static str) -> Option<()> {
-        if !matches!(self.next(), Some(b'A'..=b'Z')) {
-            return self.fail(wanted);
-        }
-        let rest = self.run(|letter| letter.is_ascii_uppercase() || letter.is_ascii_digit());
-        self.take(Part::Name { subscripts: 0 }, rest)
-    }
-
-    fn constant(&mut self, pooled: bool, wanted: &'static str) -> Option<()> {
-        match self.run(|letter| letter.is_ascii_digit()) {
-            0 => self.fail(wanted),
-            digits => self.take(Part::Constant { pooled }, digits),
-        }
-    }
-
-    fn number(&mut self) -> Option<()> {
-        match self.run(|letter| letter.is_ascii_digit()) {
-            0 => self.fail(EXIT),
-            digits => self.take(Part::Number, digits),
-        }
-    }
-
-    fn run(&self, belongs: fn(&u8) -> bool) -> usize {
-        self.text[self.at..].iter().take_while(|letter| belongs(letter)).count()
-    }
-
-    fn take(&mut self, part: Part, length: usize) -> Option<()> {
-        let at = self.at..self.at + length;
-        self.at = at.end;
-        self.pieces.push(Piece { part, at });
-        Some(())
-    }
-
-    fn next(&self) -> Option<u8> {
-        self.text.get(self.at).copied()
-    }
-
-    fn mark(&mut self, mark: u8, wanted: &'static str) -> Option<()> {
-        if self.next() != Some(mark) {
-            return self.fail(wanted);
-        }
-        self.at += 1;
-        Some(())
-    }
-
-    /// A word that is not there is no reading at all, however much of it is.
-    fn word(&mut self, word: &'static str) -> Option<()> {
-        let found = self.text[self.at..].starts_with(word.as_bytes());
-        self.at += if found { word.len() } else { 0 };
-        found.then_some(())
-    }
-
-    fn end(&mut self, form: Form) -> Option<()> {
-        match (self.next(), form) {
-            (None, _) => Some(()),
-            (_, Form::Assignment) => self.fail(OPERATOR_OR_END),
-            _ => self.fail("the end of the statement"),
-        }
-    }
-
-    fn fail(&mut self, wanted: &'static str) -> Option<()> {
-        self.stuck = Stuck {
-            at: self.at,
-            wanted,
-            open: self.depth > 0,
-        };
-        None
     }
 }
