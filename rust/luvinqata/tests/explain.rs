@@ -2,6 +2,7 @@
 //! tells its own reason.
 
 use independent::generate::{self, Made, Rng};
+use independent::reader::read;
 use luvinqata::{compile_to_vec, punch, Explanation, Refusal, CARD};
 
 /// Decks of each reason, and others.
@@ -246,6 +247,34 @@ fn every_refused_deck_is_explained() {
         numbers.iter().all(|number| refusals.contains_key(number)),
         "{refusals:?}"
     );
+}
+
+/// A point can stand nowhere: wherever it is put in a right statement, the text is read just so far.
+#[test]
+fn how_far_a_text_can_be_read() {
+    let mut points = 0;
+    for seed in 0..200 {
+        let texts = generate::texts(&mut Rng::new(seed));
+        for text in texts
+            .iter()
+            .filter(|text| text.len() < 60 && read(9, text.as_bytes()).is_ok())
+        {
+            for at in 0..=text.len() {
+                let card = format!("      {}.{}\n      END", &text[..at], &text[at..]);
+                let deck = punch(card.as_bytes()).expect("short lines");
+                let refusal = compile_to_vec(9, &deck).expect_err("a point");
+                let explanation = holds(&refusal, &deck, &card);
+                let columns = explanation.at[0];
+                assert_eq!(
+                    (refusal.number(), columns.first, columns.last),
+                    (10, at + 7, at + 7),
+                    "{card}"
+                );
+                points += 1;
+            }
+        }
+    }
+    assert!(points > 10_000, "{points} points");
 }
 
 /// The explanation of a text's deck.
