@@ -2,6 +2,7 @@
 
 mod chart;
 mod columns;
+mod fields;
 mod hour;
 mod rows;
 mod table;
@@ -18,6 +19,7 @@ use crate::output::Output;
 use crate::told::tell_refusal;
 use crate::{given, input, Outcome};
 use columns::Columns;
+use fields::Fields;
 use hour::{Hour, Machine, Worker};
 use rows::{Row, Rows};
 use table::Table;
@@ -51,7 +53,7 @@ fn run_table(options: &Hours, deck: &[u8], program: &Program, other: Option<&Pro
     let header = rows.header().map_err(named)?;
     let store = Store::new(program.object()).expect("a compiled object passes the check");
     let set = given::cells(&options.running.set, &store, program.digits())?;
-    let columns = Columns::of(&header, &store, separator).map_err(named)?;
+    let columns = Columns::of(&header, &mut Fields::new(separator), &store).map_err(named)?;
     columns.tell_copied(&store, out);
     columns.judge(program, &store, &set).map_err(named)?;
     let mut table = Table::whole(&columns, &store, separator, options.json);
@@ -59,14 +61,15 @@ fn run_table(options: &Hours, deck: &[u8], program: &Program, other: Option<&Pro
     let only = options.only.as_ref().map(|names| given::values(names, &store));
     table.choose(&columns, options.keep_inputs, only.transpose()?.as_deref())?;
     let machine = |program| Machine::new(program, &set, options.running.steps);
-    let worker = Worker {
+    let worker = |_| Worker {
+        fields: Fields::new(separator),
         columns: &columns,
         table: &table,
         machine: machine(program),
         other: other.map(machine),
     };
     let trouble = written.put(&table.header()).and_then(|()| {
-        let workers = vec![worker; threads(options)];
+        let workers = (0..threads(options)).map(worker).collect();
         run_rows(rows, workers, &mut written)?.map_or(Ok(()), |words| Err(named(words)))
     });
     Ok(written.finish(deck, options.compare, trouble))

@@ -3,6 +3,7 @@
 use luvinqata::{Program, Store};
 
 use crate::given::{has, is_over, like, whole};
+use crate::hours::fields::Fields;
 use crate::hours::rows::Row;
 use crate::output::Output;
 use crate::told::shown;
@@ -15,7 +16,6 @@ pub struct Columns {
     pub names: Vec<String>,
     /// The cell that each gives a value; None: it is copied.
     pub cells: Vec<Option<usize>>,
-    separator: u8,
 }
 
 /// A row's fields by column, as far as they can be read, and the values of its cells or why it gives none.
@@ -25,12 +25,12 @@ pub struct Reading {
 }
 
 impl Columns {
-    pub fn of(header: &Row, store: &Store, separator: u8) -> Result<Columns, String> {
+    pub fn of(header: &Row, fields: &mut Fields, store: &Store) -> Result<Columns, String> {
         if let Some(flaw) = &header.flaw {
             return Err(format!("line 1: column {}: {}", flaw.field + 1, flaw.words));
         }
         let mut names = Vec::new();
-        for (index, field) in header.fields(separator).iter().enumerate() {
+        for (index, field) in fields.of(header).iter().enumerate() {
             let name =
                 std::str::from_utf8(field).map_err(|_| format!("line 1: column {}: no UTF-8 text", index + 1))?;
             names.push(name.trim().to_string());
@@ -46,11 +46,7 @@ impl Columns {
                 ));
             }
         }
-        Ok(Columns {
-            names,
-            cells,
-            separator,
-        })
+        Ok(Columns { names, cells })
     }
 
     /// Tells which columns give no value.
@@ -108,12 +104,10 @@ impl Columns {
         }
     }
 
-    pub fn read(&self, row: &Row, digits: u32) -> Reading {
-        let record = row.fields(self.separator);
-        let sound = row.flaw.as_ref().map_or(record.len(), |flaw| flaw.field);
-        let texts: Vec<Option<&str>> = record
-            .iter()
-            .take(sound)
+    pub fn read(&self, row: &Row, fields: &mut Fields, digits: u32) -> Reading {
+        let fields = fields.of(row);
+        let texts: Vec<Option<&str>> = fields
+            .into_iter()
             .map(|field| std::str::from_utf8(field).ok())
             .collect();
         let field = |index: usize| texts.get(index).copied().flatten().map(str::to_string);

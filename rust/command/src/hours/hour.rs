@@ -3,6 +3,7 @@
 use luvinqata::{Halt, Program, State, Store};
 
 use crate::hours::columns::Columns;
+use crate::hours::fields::Fields;
 use crate::hours::rows::Row;
 use crate::hours::table::Table;
 use crate::told::sequence_at;
@@ -30,7 +31,6 @@ pub struct End {
 }
 
 /// A program with the store of its runs.
-#[derive(Clone)]
 pub struct Machine<'p> {
     program: &'p Program,
     store: Store,
@@ -75,8 +75,8 @@ impl<'p> Machine<'p> {
 }
 
 /// Runs hours; a thread has one of its own.
-#[derive(Clone)]
 pub struct Worker<'p> {
+    pub fields: Fields,
     pub columns: &'p Columns,
     pub table: &'p Table,
     pub machine: Machine<'p>,
@@ -86,7 +86,8 @@ pub struct Worker<'p> {
 
 impl Worker<'_> {
     pub fn hour(&mut self, row: &Row) -> Hour {
-        let reading = self.columns.read(row, self.machine.program.digits());
+        let digits = self.machine.program.digits();
+        let reading = self.columns.read(row, &mut self.fields, digits);
         let mut hour = Hour {
             line: row.line,
             fields: reading.fields,

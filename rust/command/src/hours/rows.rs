@@ -3,8 +3,6 @@
 
 use std::io::{BufRead, BufReader, Chain, Cursor, ErrorKind, Read};
 
-use csv::{ByteRecord, ReaderBuilder, Terminator};
-
 const LONGEST: usize = 1_048_576;
 const BYTE_ORDER_MARK: &[u8] = b"\xEF\xBB\xBF";
 
@@ -22,22 +20,23 @@ pub struct Flaw {
 }
 
 impl Row {
-    pub fn is_blank(&self) -> bool {
-        self.bytes.is_empty()
+    /// With a line end last, whether it had one or not.
+    pub fn bytes(&self) -> &[u8] {
+        &self.bytes
     }
 
-    pub fn fields(&self, separator: u8) -> ByteRecord {
-        let mut reader = ReaderBuilder::new()
-            .has_headers(false)
-            .flexible(true)
-            .delimiter(separator)
-            // A line end that is in quotes is all that there can be.
-            .terminator(Terminator::Any(b'\n'))
-            .buffer_capacity(self.bytes.len().max(1))
-            .from_reader(&self.bytes[..]);
-        let mut fields = ByteRecord::new();
-        reader.read_byte_record(&mut fields).expect("a row in memory");
-        fields
+    fn new(line: usize, mut bytes: Vec<u8>, flaw: Option<Flaw>) -> Row {
+        for end in [b'\n', b'\r'] {
+            if bytes.last() == Some(&end) {
+                bytes.pop();
+            }
+        }
+        bytes.push(b'\n');
+        Row { line, bytes, flaw }
+    }
+
+    fn is_blank(&self) -> bool {
+        self.bytes == b"\n"
     }
 }
 
@@ -80,7 +79,7 @@ impl<R: Read> Rows<R> {
             };
             if part.is_empty() {
                 let flaw = quotes.flaw_at_end();
-                return Ok((!bytes.is_empty()).then_some(Row { line, bytes, flaw }));
+                return Ok((!bytes.is_empty()).then(|| Row::new(line, bytes, flaw)));
             }
             let end = part.iter().position(|byte| quotes.ends(*byte, self.separator));
             let length = end.map_or(part.len(), |end| end + 1);
@@ -95,12 +94,7 @@ impl<R: Read> Rows<R> {
                 ));
             }
             if end.is_some() {
-                bytes.pop();
-                if bytes.last() == Some(&b'\r') {
-                    bytes.pop();
-                }
-                let flaw = quotes.flaw;
-                return Ok(Some(Row { line, bytes, flaw }));
+                return Ok(Some(Row::new(line, bytes, quotes.flaw)));
             }
         }
     }
@@ -125,11 +119,7 @@ impl<R: Read> Rows<R> {
 
     /// The first row.
     pub fn header(&mut self) -> Result<Row, String> {
-        let none = Row {
-            line: 1,
-            bytes: Vec::new(),
-            flaw: None,
-        };
+        let none = Row::new(1, Vec::new(), None);
         Ok(self.next()?.unwrap_or(none))
     }
 }
@@ -191,22 +181,20 @@ impl Quotes {
 
 #[cfg(test)]
 mod tests {
+    use csv::{ByteRecord, ReaderBuilder};
+
     use super::*;
+    use crate::hours::fields::Fields;
 
     /// Line, fields and flaw of each row.
     fn read(table: &str) -> Vec<String> {
         let mut rows = Rows::new(table.as_bytes(), b',').expect("bytes in memory");
-        let mut told = Vec::new();
+        let (mut told, mut fields) = (Vec::new(), Fields::new(b','));
         while let Some(row) = rows.next().expect("short rows") {
-            let fields: Vec<String> = row
-                .fields(b',')
-                .iter()
-                .map(|f| String::from_utf8_lossy(f).into())
-                .collect();
-            let flaw = row
-                .flaw
-                .map_or(String::new(), |flaw| format!(" {}: {}", flaw.field, flaw.words));
-            told.push(format!("{} {}{flaw}", row.line, fields.join("|")));
+            let text = |field: &[u8]| String::from_utf8_lossy(field).into_owned();
+            let texts: Vec<String> = fields.of(&row).into_iter().map(text).collect();
+            let flaw = row.flaw.map(|flaw| format!(" {}: {}", flaw.field, flaw.words));
+            told.push(format!("{} {}{}", row.line, texts.join("|"), flaw.unwrap_or_default()));
         }
         told
     }
@@ -245,7 +233,7 @@ mod tests {
     fn tables_without_flaws_are_read_alike() {
         const LETTERS: &[u8] = b"\",a \n";
         const LENGTH: u32 = 7;
-        let mut sound = 0;
+        let (mut sound, mut fields) = (0, Fields::new(b','));
         for number in 0..LETTERS.len().pow(LENGTH) {
             let letter = |place: u32| LETTERS[number / LETTERS.len().pow(place) % LETTERS.len()];
             let table: Vec<u8> = (0..LENGTH).map(letter).collect();
@@ -256,7 +244,7 @@ mod tests {
             let mut whole = ReaderBuilder::new();
             let whole = whole.has_headers(false).flexible(true).from_reader(&table[..]);
             let expected: Vec<ByteRecord> = whole.into_byte_records().map(|row| row.expect("a row")).collect();
-            let read: Vec<ByteRecord> = rows.iter().map(|row| row.fields(b',')).collect();
+            let read: Vec<ByteRecord> = rows.iter().map(|row| fields.of(row).into()).collect();
             assert_eq!(read, expected, "{}", String::from_utf8_lossy(&table));
             sound += 1;
         }
