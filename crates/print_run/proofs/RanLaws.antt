@@ -1,22 +1,20 @@
 -- What is printed of a run, by its number of refusal; and what the names need.
 -- Assumes nothing.
 use Prim.Native.Nat.{ℕ, zero, suc, _+_, _*_, _≤_, _<_}
-use mathlib.Core.Path.{_≡_, refl, sym, ap, _∙_, subst}
-use mathlib.Core.List.{List, [], _∷_, _++_}
+use mathlib.Core.Path.{_≡_, refl, sym, ap, _∙_}
+use mathlib.Core.List.{List, [], _++_}
 use mathlib.Core.Option.{Option, none, some}
 use native.Mathlib.Omega.{arith}
 use native.Mathlib.Nat.{add-zero, zero-add}
-use lib.ListN.{length, getElem?, length-replicate, replicate}
+use lib.ListN.{length, getElem?, length-replicate}
 use lib.IntN.{ℤ, pos}
 use Rattle.rules_object.specs.Object.{Named, Object}
 use Rattle.rules_object.specs.Bytes.{readObject}
-use Rattle.rules_object.specs.Check.{span}
 use Rattle.rules_object.specs.Calls.{Lent, running}
-use Rattle.rules_object.specs.Calls as book
 use Rattle.rules_object.specs.Safe.{freshLent}
 use Rattle.rules_program.specs.Text.{haltLine, refusedLine, nameLines}
 use Rattle.rules_program.specs.Program.{zeroStore, namesOf, ranLines, runLines, allowance, printedObject}
-use Rattle.rules_program.specs.Tidy.{values, Tidy, TidyObject}
+use Rattle.rules_program.specs.Tidy.{values, TidyObject}
 use Rattle.object.specs.declared.Layout.{Layout}
 use Rattle.object.specs.Layout.{listFrom, namedAt, objectAt}
 use Rattle.object.specs.Opened.{OpenedAt}

@@ -1,17 +1,16 @@
 -- What is printed of what compiling answered, by its number of refusal; what it writes is an object that can be printed; and what is printed of the whole input.
 -- Assumes nothing.
-use Prim.Native.Nat.{ℕ, zero, suc, _-_, _≤_, _<_}
+use Prim.Native.Nat.{ℕ, zero, suc, _-_, _<_}
 use mathlib.Core.Path.{_≡_, refl, sym, ap, _∙_, subst}
 use mathlib.Core.Bool.{Bool, true, false}
-use mathlib.Core.List.{List, _++_}
-use mathlib.Core.Option.{Option, none, some}
+use mathlib.Core.List.{List}
+use mathlib.Core.Option.{some}
 use native.Mathlib.Omega.{arith}
 use lib.Dec.{leb}
 use lib.ListN.{length, take, drop, length-append, length-drop, replicate}
 use lib.Seq.{take-append-seam, take-all}
 use Rattle.rules_object.specs.Bytes.{objectBytes}
 use Rattle.rules_shared.specs.Output.{Written, writtenIf, write}
-use Rattle.rules_deck.specs.Trees.{Statement}
 use Rattle.rules_deck.specs.Translation.{translate}
 use Rattle.rules_deck.specs.Cards.{cardLength}
 use Rattle.rules_deck.specs.Seen.{objectIn}
