@@ -15,7 +15,7 @@ use Rattle.draft.specs.declared.Counts.{Counts}
 use Rattle.draft.specs.Draft.{Draft, drafts, draftOf}
 use Rattle.draft.specs.Kept.{Fit, Kept}
 use Rattle.draft.proofs.DraftDeck.{draft-next}
-use Rattle.drafting.specs.Drafted.{punchedAs, toCome, Keeps}
+use Rattle.next_statement.specs.Steps.{punchedAs, toCome, Keeps}
 
 -- ---- the statements before what is still to be read
 

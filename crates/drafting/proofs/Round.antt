@@ -21,10 +21,12 @@ use Rattle.draft.specs.Kept.{Fit, Kept}
 use Rattle.draft.proofs.Matching.{matches-deck}
 use Rattle.statements.specs.Taking.{Fresh}
 use Rattle.statements.proofs.Hidden.{fresh-deck}
-use Rattle.drafting.specs.declared.Step.{Step}
-use Rattle.drafting.specs.declared.Step.the-variants as step
+use Rattle.next_statement.specs.declared.Step.{Step}
+use Rattle.next_statement.specs.declared.Step.the-variants as step
 use Rattle.drafting.specs.declared.Drafted.the-variants as drafted
-use Rattle.drafting.specs.Drafted.{toCome, Ahead, Begins, Keeps, Steps, Continues, Drafts, ended, refused, taken, kept}
+use Rattle.next_statement.specs.Steps.{toCome, Ahead, Keeps, Steps, Continues, ended, taken}
+use Rattle.next_statement.specs.Steps as steps
+use Rattle.drafting.specs.Drafted.{Begins, Drafts, refused, kept}
 use Rattle.drafting.proofs.Going.{Going, takenBy, going-ended, going-refused, going-on}
 
 -- ---- k
@@ -172,7 +174,7 @@ module _ {k : ℕ} {deck : List ℕ} {card : ℕ} {t : Taken} {D : Draft} {n : C
   steps-ended (ended e h) = (e, h)
 
   steps-refused : {number : ℕ} → Steps k deck card t D n names constants elements dos loops code rows jumps (step.Refused number) → Refuses k deck card t n number
-  steps-refused (refused number p more e h) = record { punched = p; more = more; others = e; says = h }
+  steps-refused (steps.refused number p more e h) = record { punched = p; more = more; others = e; says = h }
 
   steps-goes : {next : ℕ} {m : Counts} → Steps k deck card t D n names constants elements dos loops code rows jumps (step.Kept next m) → Goes k deck card t D n names constants elements dos loops code rows jumps next m
   steps-goes (taken p next m e f w h) = record { punched = p; others = e; further = f; within = w; keeps = h }

@@ -1,74 +1,27 @@
--- What drafting one more statement of a deck ensures, and drafting all of them.
+-- What drafting all statements of a deck ensures.
 -- Assumes nothing.
 use mathlib.Core.Path.{_≡_}
-use Prim.Native.Nat.{ℕ, suc, _+_, _≤_, _<_}
-use mathlib.Core.List.{List, [], _∷_}
-use lib.ListN.{length, drop}
+use Prim.Native.Nat.{ℕ, _≤_}
+use mathlib.Core.List.{List}
+use lib.ListN.{length}
 use Rattle.rules_shared.specs.Refusals.{refusal}
-use Rattle.rules_deck.specs.Trees.{Form, Statement}
-use Rattle.rules_deck.specs.Cards.{Punched, cardsOf, textOf, statements, carded, grouped}
-use Rattle.rules_deck.specs.Judge.{Taken, takes}
-use Rattle.rules_deck.specs.Compile.{Read, notRead, read, withStatement, readText}
-use Rattle.texts.specs.Taking.{Accepted}
+use Rattle.rules_deck.specs.Trees.{Statement}
+use Rattle.rules_deck.specs.Cards.{Punched, statements, carded, grouped}
+use Rattle.rules_deck.specs.Compile.{Read, notRead, read}
 use Rattle.draft.specs.declared.Counts.{Counts}
-use Rattle.draft.specs.Draft.{Draft, drafts, draftOf}
-use Rattle.draft.specs.Kept.{Fit, Room, Kept, Matches}
-use Rattle.statements.specs.Taking.{Fresh}
-use Rattle.drafting.specs.declared.Step.{Step}
-use Rattle.drafting.specs.declared.Step.the-variants as step
+use Rattle.draft.specs.Draft.{draftOf}
+use Rattle.draft.specs.Kept.{Fit, Room, Kept}
 use Rattle.drafting.specs.declared.Drafted.{Drafted}
 use Rattle.drafting.specs.declared.Drafted.the-variants as drafted
 
-abbrev pub punchedAs : Punched → Form → Statement
-punchedAs p f = record { number = p .number; form = f }
-
--- the statements that are punched from a card on
-abbrev pub toCome : List ℕ → ℕ → List Punched
-toCome deck card = grouped (drop card (cardsOf deck))
-
--- what stands between the code and its limits: before a statement, and before the first
-pub record Ahead (k : ℕ) (deck : List ℕ) (card : ℕ) (items names constants elements dos loops code rows jumps : List ℕ) (n : Counts) : Type 0 where
-  pub accepted : Accepted deck
-  pub digits-some : 1 ≤ k
-  pub digits-few : k ≤ 9
-  pub items-long : 2651 ≤ length items
-  pub room : Room names constants elements dos loops code rows jumps
-  pub fit : Fit n
-  pub few : n .statements + length (toCome deck card) ≤ 400
-  pub draft : Draft
-  pub kept : Kept draft names constants elements dos loops code rows jumps n
-  pub fresh : Fresh (n .statements) draft
-
+-- what stands between the code and its limits before the first statement
 pub record Begins (k : ℕ) (deck items names constants elements dos loops code rows jumps : List ℕ) : Type 0 where
   pub punched : List Punched
   pub are : carded k deck ≡ statements punched
   pub items-long : 2651 ≤ length items
   pub room : Room names constants elements dos loops code rows jumps
 
--- the statement p at position q is right, and the tables hold it too
-pub record Keeps (k q : ℕ) (t : Taken) (D : Draft) (p : Punched) (names constants elements dos loops code rows jumps : List ℕ) (n : Counts) : Type 0 where
-  pub form : Form
-  pub reads : (rest : Taken → Read) → readText k q (p .number) t rest (textOf (p .raw)) ≡ withStatement (punchedAs p form) (rest (takes q form t))
-  pub kept : Kept (drafts q (punchedAs p form) D) names constants elements dos loops code rows jumps n
-  pub fit : Fit n
-  pub counted : n .statements ≡ suc q
-
--- the first statement from a card on; n counts those before it, m those and it
-pub data Steps (k : ℕ) (deck : List ℕ) (card : ℕ) (t : Taken) (D : Draft) (n : Counts) (names constants elements dos loops code rows jumps : List ℕ) : Step → Type 0 where
-  ended : toCome deck card ≡ [] → Kept D names constants elements dos loops code rows jumps n → Steps k deck card t D n names constants elements dos loops code rows jumps step.End
-  refused : (number : ℕ) (p : Punched) (more : List Punched) → toCome deck card ≡ p ∷ more
-      → ((rest : Taken → Read) → readText k (n .statements) (p .number) t rest (textOf (p .raw)) ≡ notRead (refusal number (suc (n .statements)) 0))
-      → Steps k deck card t D n names constants elements dos loops code rows jumps (step.Refused number)
-  taken : (p : Punched) (next : ℕ) (m : Counts) → toCome deck card ≡ p ∷ toCome deck next → card < next → next ≤ length (cardsOf deck)
-      → Keeps k (n .statements) t D p names constants elements dos loops code rows jumps m
-      → Steps k deck card t D n names constants elements dos loops code rows jumps (step.Kept next m)
-
--- after any draft that the tables hold before; with the tables afterwards
-abbrev pub Continues : (k : ℕ) (deck : List ℕ) (card : ℕ) (n : Counts) (names constants elements dos loops code rows jumps : List ℕ) (names′ constants′ elements′ dos′ loops′ code′ rows′ jumps′ : List ℕ) → Step → Type 0
-Continues k deck card n names constants elements dos loops code rows jumps names′ constants′ elements′ dos′ loops′ code′ rows′ jumps′ r =
-    (D : Draft) (t : Taken) → Kept D names constants elements dos loops code rows jumps n → Matches t D → Fresh (n .statements) D → Steps k deck card t D n names′ constants′ elements′ dos′ loops′ code′ rows′ jumps′ r
-
--- all of them: o is what the book reads
+-- o is what the book reads
 pub data Drafts (o : Read) (names constants elements dos loops code rows jumps : List ℕ) : Drafted → Type 0 where
   refused : (number place : ℕ) → o ≡ notRead (refusal number place 0) → Drafts o names constants elements dos loops code rows jumps (drafted.Refused number (record { 0 = place }))
   kept : (deck : List Statement) (n : Counts) → o ≡ read deck → n .statements ≡ length deck → Fit n

@@ -10,7 +10,7 @@ use Rattle.drafting.proofs.draft.Statement.{statement}
 use Rattle.drafting.proofs.draft.Tie as tie
 use Rattle.drafting.proofs.draft.Reads as reads
 use Rattle.drafting.proofs.draft.Lts as lts
-use Rattle.drafting.proofs.take_next.Reads as take-next-reads
+use Rattle.next_statement.proofs.take_next.Reads as take-next-reads
 
 abbrev Inv-loop : tie.InvT-loop
 Inv-loop k deck items₀ names₀ constants₀ elements₀ dos₀ loops₀ code₀ rows₀ jumps₀ n₀ card₀ items names constants elements dos loops code rows jumps n card = Round k deck items₀ names₀ constants₀ elements₀ dos₀ loops₀ code₀ rows₀ jumps₀ card items names constants elements dos loops code rows jumps n

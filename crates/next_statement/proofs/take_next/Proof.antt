@@ -1,17 +1,17 @@
--- `drafting::take_next` meets its contract. Assumes nothing.
+-- `next_statement::take_next` meets its contract. Assumes nothing.
 use mathlib.Core.Path.{refl, sym, ap, _∙_}
 use native.Mathlib.Omega.{arith}
 use lib.ListN.{length, take}
 use borrow.Author.Tests.{not-true, not-false}
 use Rattle.rules_deck.specs.Cards.{Punched}
 use Rattle.texts.proofs.Onward.{onward, ended as none-left}
-use Rattle.drafting.specs.Drafted.{ended}
-use Rattle.drafting.proofs.Next.{reading, next-empty, next-unread, comes-refused, comes-kept, small-number, text-long, part-short}
+use Rattle.next_statement.specs.Steps.{ended}
+use Rattle.next_statement.proofs.Next.{reading, next-empty, next-unread, comes-refused, comes-kept, small-number, text-long, part-short}
 use borrow.Author.Needs.{needs}
-use Rattle.drafting.proofs.take_next.Statement.{statement}
-use Rattle.drafting.proofs.take_next.Tie as tie
-use Rattle.drafting.proofs.take_next.Reads as reads
-use Rattle.drafting.proofs.take_next.Lts as lts
+use Rattle.next_statement.proofs.take_next.Statement.{statement}
+use Rattle.next_statement.proofs.take_next.Tie as tie
+use Rattle.next_statement.proofs.take_next.Reads as reads
+use Rattle.next_statement.proofs.take_next.Lts as lts
 use Rattle.reader.proofs.is_form.Reads as is-form-reads
 use Rattle.reader.proofs.read.Reads as read-reads
 use Rattle.statements.proofs.take.Reads as take-reads

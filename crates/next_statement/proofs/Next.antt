@@ -31,8 +31,8 @@ use Rattle.draft.specs.Kept.{Kept, Matches}
 use Rattle.statements.specs.declared.Outcome.{Outcome}
 use Rattle.statements.specs.declared.Outcome.the-variants as outcome
 use Rattle.statements.specs.Taking.{Fresh, Reading, Took, Judged, Comes}
-use Rattle.drafting.specs.declared.Step.the-variants as step
-use Rattle.drafting.specs.Drafted.{punchedAs, toCome, Steps, refused, taken}
+use Rattle.next_statement.specs.declared.Step.the-variants as step
+use Rattle.next_statement.specs.Steps.{punchedAs, toCome, Steps, refused, taken}
 
 form-is : (f : Form) → isForm (statementOf f) ≡ true
 unfolding isForm statementOf
