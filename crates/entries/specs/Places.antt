@@ -7,10 +7,9 @@ use mathlib.Core.List.{List, [], _∷_, _++_}
 use lib.IntN.{pos, negℤ}
 use lib.ListN.{take}
 use Rattle.rules_object.specs.Bytes.{signedWord, elementWords}
-use Rattle.rules_object.specs.Object as object
+use Rattle.rules_object.specs.Object.{SubscriptEntry}
 use Rattle.rules_shared.specs.Lists.{Each}
 use Rattle.rules_deck.specs.Trees.{Name, subscriptNames, subscriptConstants, subscriptsNames, subscriptsConstants}
-use Rattle.rules_deck.specs.Trees as trees
 use Rattle.rules_deck.specs.Deck.{Dims}
 use Rattle.rules_deck.specs.Translation.{Held, isName, holds, subscriptEntry, secondEntry, elementEntry}
 use Rattle.rules_deck.specs.Judge.{Reference, rightReference}
@@ -22,6 +21,7 @@ use Rattle.elements.specs.Values.{subscriptValue, subscriptsValue}
 use Rattle.draft.specs.Parts.{Item, place, itemNames, itemConstants, itemPlain, itemReferences}
 use Rattle.draft.specs.Names.{Lists, Told, Exact, dimsHeld}
 use Rattle.entries.specs.declared.Linear.{Linear}
+use Rattle.rules_deck.specs.Trees as trees
 
 abbrev pub linearWords : Linear → List ℕ
 linearWords s = s .times ∷ s .cell ∷ s .plus ∷ []
@@ -49,7 +49,7 @@ pub record Clear (held : List Held) (names : List Name) (constants : List trees.
   pub exact : Each Exact constants
   pub plains : Each (λ (v : Name). holds (isName v) held ≡ true) names
 
-abbrev pub subscriptWords : object.Subscript → List ℕ
+abbrev pub subscriptWords : SubscriptEntry → List ℕ
 subscriptWords s = s .times ∷ s .cell ∷ signedWord (s .plus) ∷ []
 
 abbrev pub LinearOf : List ℕ → ℕ → Subscript → Linear → Type 0
