@@ -5,6 +5,8 @@ use mathlib.Core.List.{List}
 use Prim.Native.Nat.{ℕ}
 use lib.IntN.{ℤ}
 use Rattle.rules_object.specs.Calls as book
+use Rattle.rules_shared.specs.Refusals as refusals
+use Rattle.rules_shared.specs.Output as output
 use Rattle.verdicts.specs.declared.Refusal.{Refusal}
 use Rattle.verdicts.specs.declared.Written.{Written}
 use Rattle.verdicts.specs.Outcomes.{Checks, Maps}
@@ -13,20 +15,20 @@ use Rattle.runs.specs.Outcomes.{Ends}
 use Rattle.calls.specs.Outcomes.{Compiles}
 
 pub check-unique : {s : List ℕ} {r q : Refusal} → Checks s r → Checks s q → r ≡ q
-check-unique a b = ap (λ (x : book.Refusal). record { number = x .number; place = x .place; kind = x .kind }) (sym (a .is) ∙ b .is)
+check-unique a b = ap (λ (x : refusals.Refusal). record { number = x .number; place = x .place; kind = x .kind }) (sym (a .is) ∙ b .is)
 
 pub map-unique : {s o o₁ o₂ : List ℕ} {r q : Written} → Maps s o o₁ r → Maps s o o₂ q → (r ≡ q) × (o₁ ≡ o₂)
 map-unique a b =
     let e = sym (a .is) ∙ b .is in (
-      ap (λ (x : book.Written). record { number = x .refusal .number; place = x .refusal .place; kind = x .refusal .kind; length = x .length }) e,
-      ap (λ (x : book.Written). x .output) e,
+      ap (λ (x : output.Written). record { number = x .refusal .number; place = x .refusal .place; kind = x .refusal .kind; length = x .length }) e,
+      ap (λ (x : output.Written). x .output) e,
     )
 
 pub compile-unique : {k : ℕ} {s o o₁ o₂ : List ℕ} {r q : Written} → Compiles k s o o₁ r → Compiles k s o o₂ q → (r ≡ q) × (o₁ ≡ o₂)
 compile-unique a b =
     let e = sym (a .is) ∙ b .is in (
-      ap (λ (x : book.Written). record { number = x .refusal .number; place = x .refusal .place; kind = x .refusal .kind; length = x .length }) e,
-      ap (λ (x : book.Written). x .output) e,
+      ap (λ (x : output.Written). record { number = x .refusal .number; place = x .refusal .place; kind = x .refusal .kind; length = x .length }) e,
+      ap (λ (x : output.Written). x .output) e,
     )
 
 -- run, with `running` for the outcome that is asked, and bench, with `benching`

@@ -13,7 +13,7 @@ use Rattle.rules_object.specs.Object.{Object}
 use Rattle.rules_object.specs.Machine.{State, ruleOf, act, step}
 use Rattle.rules_object.specs.Check.{instruction, benchStep}
 use Rattle.rules_object.specs.Calls.{taken, sequenceOf, ran, halted, runFrom}
-use Rattle.rules_object.specs.Calls as book
+use Rattle.rules_shared.specs.Refusals.{accepted}
 use Rattle.rules_object.specs.Safe.{Right, Faultless}
 use Rattle.object.specs.declared.Layout.{Layout}
 use Rattle.object.specs.Layout.{objectAt}
@@ -63,7 +63,7 @@ module _ (e : Layout) (s : List ℕ) (p : ℕ) where
     pub answer-is : (h n : ℕ) → answer o (ranAs h n r) st so ≡ halted h n o t
     unfolding taken
     answer-is h n =
-        ap (λ l. record { refusal = book.accepted; halt = h; steps = n; sequence = sequenceOf (o .lines) (r .mark); lent = l; store = so })
+        ap (λ l. record { refusal = accepted; halt = h; steps = n; sequence = sequenceOf (o .lines) (r .mark); lent = l; store = so })
         (sym (given-back (r .height) st (held .forty) (held .low) (held .clean) (r .index) (r .mark) so))
 
     -- a step as the code does it, and the book's

@@ -12,7 +12,7 @@ use Rattle.rules_object.specs.Writable.{IsByte}
 use Rattle.rules_shared.specs.Refusals.{accepted}
 use Rattle.rules_shared.specs.Output.{write}
 use Rattle.rules_object.specs.Calls.{mapOf}
-use Rattle.rules_object.specs.Calls as book
+use Rattle.rules_shared.specs.Output as output
 use Rattle.rules_shared.specs.Lists.{Each, each-none, each-more}
 use Rattle.rules_shared.proofs.EachLaws.{each-drop}
 use Rattle.rules_object.proofs.Words.{each-word, length-words, bytes-words}
@@ -63,7 +63,7 @@ module _ (e : Layout) (s : List ℕ) (bytes : (i : ℕ) → getD s i 0 < 256) (p
 
 -- ---- written, or too short
 
-abbrev written-as : ℕ → List ℕ → book.Written
+abbrev written-as : ℕ → List ℕ → output.Written
 written-as n output = record { refusal = accepted; length = n; output = output }
 
 module _ (e : Layout) (s : List ℕ) (bytes : (i : ℕ) → getD s i 0 < 256) (p : Placed e s) (output : List ℕ) where

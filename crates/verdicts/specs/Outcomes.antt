@@ -6,7 +6,7 @@ use Prim.Native.Nat.{ℕ}
 use Rattle.rules_shared.specs.Refusals.{refusal}
 use Rattle.rules_shared.specs.Output.{write}
 use Rattle.rules_object.specs.Calls.{checking, mapping}
-use Rattle.rules_object.specs.Calls as book
+use Rattle.rules_shared.specs.Output as output
 use Rattle.verdicts.specs.declared.Refusal.{Refusal}
 use Rattle.verdicts.specs.declared.Written.{Written}
 
@@ -14,7 +14,7 @@ pub record Checks (bytes : List ℕ) (r : Refusal) : Type 0 where
   pub is : checking bytes ≡ refusal (r .number) (r .place) (r .kind)
 
 -- with the output as it is left
-abbrev pub writtenOf : Written → List ℕ → book.Written
+abbrev pub writtenOf : Written → List ℕ → output.Written
 writtenOf r output = record { refusal = refusal (r .number) (r .place) (r .kind); length = r .length; output = output }
 
 pub record Writes (bytes output output′ : List ℕ) (r : Written) : Type 0 where
