@@ -2,7 +2,7 @@
 -- Assumes nothing.
 use mathlib.Core.Path.{_≡_, refl, sym, ap, _∙_, subst}
 use Prim.Native.Nat.{ℕ, suc, _<_, _^_, _≤_}
-use mathlib.Core.List.{List, _++_}
+use mathlib.Core.List.{List, _++_, []}
 use mathlib.Core.Option.{Option, none, some}
 use native.Mathlib.Omega.{arith}
 use lib.ListN.{length, getElem?}
@@ -53,7 +53,7 @@ use Rattle.writer.specs.Answer as written
 
 -- ---- the names that a deck sets are told by their words: they have cells
 
-target-plain : {v : Name} (t : Target) (more : List Name) → Among v (targetSets t) → Among v (targetPlain t ++ more)
+target-plain : {v : Name} (t : Target) (more : List Name) → Among v (targetSets t ++ []) → Among v (targetPlain t ++ more)
 target-plain (cell w) more here = here
 
 sets-plain : {v : Name} (f : Form) → Among v (formSets f) → Among v (formPlain f)

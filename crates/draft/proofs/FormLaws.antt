@@ -78,12 +78,6 @@ all-both test (x ∷ a) b = go (test x) (all-both test a b)
     go true e = e
     go false e = refl
 
-and-turn : (a b : Bool) → (a && b) ≡ (b && a)
-and-turn true true = refl
-and-turn true false = refl
-and-turn false true = refl
-and-turn false false = refl
-
 and-swap : (a b c d : Bool) → ((a && b) && (c && d)) ≡ ((a && c) && (b && d))
 and-swap true true c d = refl
 and-swap true false true d = refl
@@ -98,11 +92,10 @@ loop-references : (p q : Expr) (r : Option Expr) → exprReferences p ++ (exprRe
 loop-references p q r =
     rw (references-append (itemsOf p) (itemsOf q ++ itemsOf (third r)), references-append (itemsOf q) (itemsOf (third r)), expr-references p, expr-references q, written-references r)
 
--- which comes first does not matter
 pub all-references : (test : Reference → Bool) (f : Form) → all test (formReferences f) ≡ (all test (itemsReferences (formFirst f)) && all test (itemsReferences (formItems f)))
 unfolding formReferences
 all-references test (assign t e) =
-    all-both test (exprReferences e) (targetReferences t) ∙ and-turn (all test (exprReferences e)) (all test (targetReferences t)) ∙
+    all-both test (targetReferences t) (exprReferences e) ∙
     rw (target-references t, expr-references e, append-nil (itemReferences (targetItem t)))
 all-references test (goTo n) = refl
 all-references test (computed ns v) = refl

@@ -63,7 +63,7 @@ module _ (held : List Held) (dims : Name → Dims) where
   pub form-brings : (address : ℕ → ℕ) (entry : Instr) → Quiet entry → (f : Form) → Brings (formCode held dims address entry f) (formPooled f) (length (formReferences f)) (formExitWords f)
   unfolding formPooled formReferences formExitWords
   form-brings address entry quiet (assign t e) =
-      brings-as (exprPooled e) (length (exprReferences e ++ targetReferences t)) 0 (brings-both (expr-brings held dims e) (target-brings t)) (append-nil (exprPooled e))
+      brings-as (exprPooled e) (length (targetReferences t ++ exprReferences e)) 0 (brings-both (expr-brings held dims e) (target-brings t)) (append-nil (exprPooled e))
       (simp length-append (omega arith)) (omega arith)
   form-brings address entry quiet (goTo n) = quiet-jump _
   form-brings address entry quiet (computed ns v) =

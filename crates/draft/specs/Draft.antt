@@ -6,8 +6,9 @@ use mathlib.Core.List.{List, [], _∷_, _++_, map}
 use lib.ListN.{length}
 use Rattle.rules_object.specs.Object.{Loop}
 use Rattle.rules_object.specs.Machine.{Instr, NEG, DOI}
-use Rattle.rules_deck.specs.Trees.{valueOf, Target, cell, element, Form, assign, goTo, computed, ifs, loop, continue, stop, end, dimension, Statement, formExits, formLast}
+use Rattle.rules_deck.specs.Trees.{Name, valueOf, Form, assign, goTo, computed, ifs, loop, continue, stop, end, dimension, Statement, formExits, formLast, Range, partsOf, gathered}
 use Rattle.rules_deck.specs.Translation.{Held, cellOf, limitOf, brings, formCode, Tables, noTables, emit, tablesOf}
+use Rattle.rules_deck.specs.Whole.{formSets}
 use Rattle.tokens.specs.Words.{nameWord}
 use Rattle.draft.specs.Names.{dimsHeld}
 
@@ -24,21 +25,14 @@ kindOf stop = 6
 kindOf end = 7
 kindOf (dimension arrays) = 8
 
--- the name that a statement sets, 0 for none
-abbrev pub targetSet : Target → ℕ
-targetSet (cell v) = nameWord v
-targetSet (element v s) = 0
+-- the first of some names, 0 for none
+abbrev pub firstWord : List Name → ℕ
+firstWord [] = 0
+firstWord (v ∷ vs) = nameWord v
 
+-- the name that a statement sets
 abbrev pub setWord : Form → ℕ
-setWord (assign t e) = targetSet t
-setWord (goTo n) = 0
-setWord (computed ns v) = 0
-setWord (ifs e a b c) = 0
-setWord (loop n v p q r) = nameWord v
-setWord continue = 0
-setWord stop = 0
-setWord end = 0
-setWord (dimension arrays) = 0
+setWord f = firstWord (formSets f)
 
 -- the numbers that it jumps to, or a DO's last
 abbrev pub jumpWords : Form → List ℕ
@@ -54,29 +48,16 @@ rowWords s = s .number ∷ kindOf (s .form) ∷ setWord (s .form) ∷ ownWords (
 
 -- a DO's position, and where the number of its last statement stands in the jumps
 abbrev pub loopWords : ℕ → ℕ → Form → List ℕ
-loopWords q j (assign t e) = []
-loopWords q j (goTo n) = []
-loopWords q j (computed ns v) = []
-loopWords q j (ifs e a b c) = []
-loopWords q j (loop n v p₁ p₂ p₃) = q ∷ j ∷ []
-loopWords q j continue = []
-loopWords q j stop = []
-loopWords q j end = []
-loopWords q j (dimension arrays) = []
+loopWords q j f = gathered (λ (d : Range). q ∷ j ∷ []) (partsOf f .opens)
 
 -- ---- the draft
 
 -- a DO's entry; its body is not known yet
+abbrev pub entryFor : List Held → ℕ → Range → Loop
+entryFor held q d = record { variable = cellOf held (d .variable); limit = limitOf held q; step = suc (limitOf held q); body = 0 }
+
 abbrev pub entriesOf : List Held → ℕ → Form → List Loop
-entriesOf held q (assign t e) = []
-entriesOf held q (goTo n) = []
-entriesOf held q (computed ns v) = []
-entriesOf held q (ifs e a b c) = []
-entriesOf held q (loop n v p₁ p₂ p₃) = record { variable = cellOf held v; limit = limitOf held q; step = suc (limitOf held q); body = 0 } ∷ []
-entriesOf held q continue = []
-entriesOf held q stop = []
-entriesOf held q end = []
-entriesOf held q (dimension arrays) = []
+entriesOf held q f = map (entryFor held q) (partsOf f .opens)
 
 abbrev pub noLoop : Loop
 noLoop = record { variable = 0; limit = 0; step = 0; body = 0 }

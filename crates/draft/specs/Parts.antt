@@ -6,7 +6,7 @@ use mathlib.Core.Bool.{Bool, _&&_, not}
 use mathlib.Core.List.{List, [], _∷_, _++_, map}
 use Rattle.number.specs.Number.{Op}
 use Rattle.rules_object.specs.Machine.{Instr, HLT, CON, LOD, LDE, OP, NEG, JMP, BR3, BRC}
-use Rattle.rules_deck.specs.Trees.{Name, Digits, valueOf, Subscripts, subscriptsNames, subscriptsConstants, Expr, con, var, elm, neg, par, bin, Target, cell, element, Form, assign, goTo, computed, ifs, loop, continue, stop, end, dimension}
+use Rattle.rules_deck.specs.Trees.{Name, Digits, valueOf, Subscripts, subscriptsNames, subscriptsConstants, Expr, con, var, elm, neg, par, bin, Target, cell, element, Form, assign, goTo, computed, ifs, loop, continue, stop, end, dimension, Phrase, sets, chooses, computes, steps, declares, partsOf, gathered}
 use Rattle.rules_deck.specs.Deck.{Dims}
 use Rattle.rules_deck.specs.Meaning.{third}
 use Rattle.rules_shared.specs.Lists.{all}
@@ -119,28 +119,26 @@ targetItem (cell v) = plain v
 targetItem (element v s) = place v s
 
 -- a target, a DO's variable or a computed GO TO's: its names stand first in the text
+abbrev pub phraseFirst : Phrase → List Item
+phraseFirst (sets t) = targetItem t ∷ []
+phraseFirst (chooses v) = plain v ∷ []
+phraseFirst (computes e) = []
+phraseFirst (steps r) = []
+phraseFirst (declares arrays) = []
+
 abbrev pub formFirst : Form → List Item
-formFirst (assign t e) = targetItem t ∷ []
-formFirst (goTo n) = []
-formFirst (computed ns v) = plain v ∷ []
-formFirst (ifs e a b c) = []
-formFirst (loop n v p q r) = plain v ∷ []
-formFirst continue = []
-formFirst stop = []
-formFirst end = []
-formFirst (dimension arrays) = []
+formFirst f = gathered phraseFirst (partsOf f .text)
 
 -- what the expressions compute
+abbrev pub phraseItems : Phrase → List Item
+phraseItems (sets t) = []
+phraseItems (chooses v) = []
+phraseItems (computes e) = itemsOf e
+phraseItems (steps r) = itemsOf (third r)
+phraseItems (declares arrays) = []
+
 abbrev pub formItems : Form → List Item
-formItems (assign t e) = itemsOf e
-formItems (goTo n) = []
-formItems (computed ns v) = []
-formItems (ifs e a b c) = itemsOf e
-formItems (loop n v p q r) = itemsOf p ++ (itemsOf q ++ itemsOf (third r))
-formItems continue = []
-formItems stop = []
-formItems end = []
-formItems (dimension arrays) = []
+formItems f = gathered phraseItems (partsOf f .text)
 
 -- what comes after them; statement numbers stand for addresses
 abbrev pub formEnding : List Held → (Name → Dims) → Instr → Form → List Instr

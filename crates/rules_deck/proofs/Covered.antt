@@ -57,17 +57,17 @@ target-covered (cell w) a = plainly a
 target-covered (element w s) a = covered-element w s a
 
 covered-assign : {v : Name} (t : Target) (e : Expr) → Among v (targetNames t) ⊎ Among v (exprNames e)
-    → Covered (targetPlain t ++ exprPlain e) (exprReferences e ++ targetReferences t) v
+    → Covered (targetPlain t ++ exprPlain e) (targetReferences t ++ exprReferences e) v
 covered-assign t e (inl a) = go (target-covered t a)
   where
-    go : {v : Name} → Covered (targetPlain t) (targetReferences t) v → Covered (targetPlain t ++ exprPlain e) (exprReferences e ++ targetReferences t) v
+    go : {v : Name} → Covered (targetPlain t) (targetReferences t) v → Covered (targetPlain t ++ exprPlain e) (targetReferences t ++ exprReferences e) v
     go (plainly b) = plainly (among-left (exprPlain e) b)
-    go (of-element r i b) = of-element r i (among-right (exprReferences e) b)
+    go (of-element r i b) = of-element r i (among-left (exprReferences e) b)
 covered-assign t e (inr a) = go (expr-covered e a)
   where
-    go : {v : Name} → Covered (exprPlain e) (exprReferences e) v → Covered (targetPlain t ++ exprPlain e) (exprReferences e ++ targetReferences t) v
+    go : {v : Name} → Covered (exprPlain e) (exprReferences e) v → Covered (targetPlain t ++ exprPlain e) (targetReferences t ++ exprReferences e) v
     go (plainly b) = plainly (among-right (targetPlain t) b)
-    go (of-element r i b) = of-element r i (among-left (targetReferences t) b)
+    go (of-element r i b) = of-element r i (among-right (targetReferences t) b)
 
 -- every name of a statement
 pub form-covered : {v : Name} (f : Form) → Among v (formNames f) → Covered (formPlain f) (formReferences f) v ⊎ Among v (arrayNames (arraysIn f))

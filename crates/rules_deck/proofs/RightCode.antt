@@ -133,8 +133,8 @@ module _ (held : List Held) (dims : Name → Dims) (m n cells : ℕ) where
       unfolding formConstants formPlain formReferences formExits
       form-right entry (assign t e) hc hn hr hx s h =
           each-append
-          (expr-right e (each-right (targetConstants t) (exprConstants e) hc) (each-right (targetPlain t) (exprPlain e) hn) (each-left (exprReferences e) (targetReferences t) hr))
-          (each-one (store-right t (each-left (targetConstants t) (exprConstants e) hc) (each-left (targetPlain t) (exprPlain e) hn) (each-right (exprReferences e) (targetReferences t) hr)))
+          (expr-right e (each-right (targetConstants t) (exprConstants e) hc) (each-right (targetPlain t) (exprPlain e) hn) (each-right (targetReferences t) (exprReferences e) hr))
+          (each-one (store-right t (each-left (targetConstants t) (exprConstants e) hc) (each-left (targetPlain t) (exprPlain e) hn) (each-left (targetReferences t) (exprReferences e) hr)))
       form-right entry (goTo x) hc hn hr hx s h = each-one (hx x here)
       form-right entry (computed xs v) hc hn hr hx s h =
           let l = length-map xs (λ x. address (valueOf x)) in

@@ -118,7 +118,7 @@ module _ (held : List Held) (dims : Name → Dims) where
   form-brings : (address : ℕ → ℕ) (entry : Instr) → Quiet entry → (f : Form) → Brings (formCode held dims address entry f) (formPooled f) (length (formReferences f)) (formExitWords f)
   unfolding formPooled formReferences formExitWords
   form-brings address entry quiet (assign t e) =
-      brings-as (exprPooled e) (length (exprReferences e ++ targetReferences t)) 0 (brings-both (expr-brings e) (target-brings t)) (append-nil (exprPooled e)) (simp length-append (omega arith)) (omega arith)
+      brings-as (exprPooled e) (length (targetReferences t ++ exprReferences e)) 0 (brings-both (expr-brings e) (target-brings t)) (append-nil (exprPooled e)) (simp length-append (omega arith)) (omega arith)
   form-brings address entry quiet (goTo n) = brings-quiet jmp
   form-brings address entry quiet (computed ns v) =
       brings-as [] 0 (suc (length ns)) (brings-both (brings-quiet (lod {a = _})) (brings-many (map (λ n. address (valueOf n)) ns))) refl (omega arith)

@@ -5,7 +5,7 @@ use mathlib.Core.Bool.{Bool, true, false, _&&_, cond}
 use mathlib.Core.List.{List, [], _∷_, _++_, map, reverse}
 use mathlib.Core.Option.{Option, none, some}
 use lib.Dec.{eqb}
-use Rattle.rules_deck.specs.Trees.{Name, Digits, valueOf, Array, array, Form, assign, goTo, computed, ifs, loop, continue, stop, end, dimension, Statement}
+use Rattle.rules_deck.specs.Trees.{Name, Digits, valueOf, Array, array, Form, Statement, Phrase, sets, chooses, computes, steps, declares, Range, partsOf, gathered}
 
 abbrev pub sameName : Name → Name → Bool
 sameName [] [] = true
@@ -26,16 +26,11 @@ pub record Do : Type 0 where
   pub last : ℕ
   pub variable : Name
 
+abbrev pub doAt : ℕ → Range → Do
+doAt q d = record { position = q; last = valueOf (d .last); variable = d .variable }
+
 abbrev pub doOf : ℕ → Form → List Do
-doOf q (assign t e) = []
-doOf q (goTo n) = []
-doOf q (computed ns v) = []
-doOf q (ifs e a b c) = []
-doOf q (loop n v p₁ p₂ p₃) = record { position = q; last = valueOf n; variable = v } ∷ []
-doOf q continue = []
-doOf q stop = []
-doOf q end = []
-doOf q (dimension arrays) = []
+doOf q f = map (doAt q) (partsOf f .opens)
 
 abbrev pub dosFrom : ℕ → List Statement → List Do
 dosFrom q [] = []
@@ -72,16 +67,15 @@ pub record Declared : Type 0 where
 abbrev pub declare : Array → Declared
 declare (array v r c) = record { name = v; dims = record { rows = valueOf r; columns = columnsOf c } }
 
+abbrev pub phraseArrays : Phrase → List Array
+phraseArrays (sets t) = []
+phraseArrays (chooses v) = []
+phraseArrays (computes e) = []
+phraseArrays (steps r) = []
+phraseArrays (declares arrays) = arrays
+
 abbrev pub arraysIn : Form → List Array
-arraysIn (assign t e) = []
-arraysIn (goTo n) = []
-arraysIn (computed ns v) = []
-arraysIn (ifs e a b c) = []
-arraysIn (loop n v p₁ p₂ p₃) = []
-arraysIn continue = []
-arraysIn stop = []
-arraysIn end = []
-arraysIn (dimension arrays) = arrays
+arraysIn f = gathered phraseArrays (partsOf f .text)
 
 abbrev pub arraysOf : List Statement → List Declared
 arraysOf [] = []

@@ -9,7 +9,7 @@ use lib.ListN.{length}
 use Rattle.rules_shared.specs.Limits.{limits}
 use Rattle.rules_shared.specs.Refusals.{orElse}
 use Rattle.rules_shared.specs.Lists.{all}
-use Rattle.rules_deck.specs.Trees.{Name, valueOf, Subscripts, one, two, Array, array, Expr, con, var, elm, neg, par, bin, Target, cell, element, written, Form, assign, goTo, computed, ifs, loop, continue, stop, end, dimension, formNames, formConstants, formExits, formLast, formLevels}
+use Rattle.rules_deck.specs.Trees.{Name, valueOf, Subscripts, one, two, Array, array, Expr, con, var, elm, neg, par, bin, Target, cell, element, written, Form, assign, goTo, computed, ifs, loop, continue, stop, end, dimension, formNames, formConstants, formExits, formLast, formLevels, Phrase, sets, chooses, computes, steps, declares, partsOf, gathered}
 use Rattle.rules_deck.specs.Deck.{sameName, Dims, declare, arraysIn}
 use Rattle.rules_deck.specs.Meaning.{third}
 use Rattle.rules_deck.specs.Translation.{Held, name, hidden, cellCount, isName, isArray, holds, brings, formPlain, pool}
@@ -75,17 +75,15 @@ abbrev pub targetReferences : Target → List Reference
 targetReferences (cell v) = []
 targetReferences (element v s) = record { name = v; subscripts = s } ∷ []
 
--- in order of emission: the expression's before the target's
+abbrev pub phraseReferences : Phrase → List Reference
+phraseReferences (sets t) = targetReferences t
+phraseReferences (chooses v) = []
+phraseReferences (computes e) = exprReferences e
+phraseReferences (steps r) = written exprReferences r
+phraseReferences (declares arrays) = []
+
 unfoldable pub formReferences : Form → List Reference
-formReferences (assign t e) = exprReferences e ++ targetReferences t
-formReferences (goTo n) = []
-formReferences (computed ns v) = []
-formReferences (ifs e a b c) = exprReferences e
-formReferences (loop n v p₁ p₂ p₃) = exprReferences p₁ ++ (exprReferences p₂ ++ written exprReferences p₃)
-formReferences continue = []
-formReferences stop = []
-formReferences end = []
-formReferences (dimension arrays) = []
+formReferences f = gathered phraseReferences (partsOf f .text)
 
 -- as many subscripts as dimensions: columns 0 stand for one
 abbrev pub rightCount : Dims → Subscripts → Bool
@@ -124,16 +122,15 @@ exprPooled (neg e) = exprPooled e
 exprPooled (par e) = exprPooled e
 exprPooled (bin o a b) = exprPooled a ++ exprPooled b
 
+abbrev pub phrasePooled : Phrase → List ℕ
+phrasePooled (sets t) = []
+phrasePooled (chooses v) = []
+phrasePooled (computes e) = exprPooled e
+phrasePooled (steps r) = exprPooled (third r)
+phrasePooled (declares arrays) = []
+
 unfoldable pub formPooled : Form → List ℕ
-formPooled (assign t e) = exprPooled e
-formPooled (goTo n) = []
-formPooled (computed ns v) = []
-formPooled (ifs e a b c) = exprPooled e
-formPooled (loop n v p₁ p₂ p₃) = exprPooled p₁ ++ (exprPooled p₂ ++ exprPooled (third p₃))
-formPooled continue = []
-formPooled stop = []
-formPooled end = []
-formPooled (dimension arrays) = []
+formPooled f = gathered phrasePooled (partsOf f .text)
 
 abbrev pub poolAll : List ℕ → List ℕ → List ℕ
 poolAll pooled [] = pooled

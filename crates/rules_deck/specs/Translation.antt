@@ -1,7 +1,7 @@
 -- The translation of a deck: its cells, its code as instructions, and the object's seven lists. 01 "Translation".
 -- Assumes nothing.
 use Prim.Native.Nat.{ℕ, zero, suc, _+_, _*_, _^_}
-use mathlib.Core.Bool.{Bool, true, false, _||_, cond}
+use mathlib.Core.Bool.{Bool, false, _||_, cond}
 use mathlib.Core.List.{List, [], _∷_, _++_, map}
 use lib.Dec.{eqb, ltb}
 use lib.ListN.{length, take, replicate}
@@ -9,8 +9,8 @@ use lib.IntN.{pos}
 use Rattle.rules_object.specs.Object.{SubscriptEntry, Element, Loop, Line, Named, Object}
 use Rattle.rules_object.specs.Machine.{Instr, HLT, CON, LOD, STO, LDE, STE, OP, NEG, JMP, BR3, BRC, DOI, DOE}
 use Rattle.rules_object.specs.Check.{operationNumber}
-use Rattle.rules_deck.specs.Trees.{Name, valueOf, Subscript, constant, linear, Subscripts, one, two, subscriptsNames, Expr, con, var, elm, neg, par, bin, Target, cell, element, written, Form, assign, goTo, computed, ifs, loop, continue, stop, end, dimension, Statement}
-use Rattle.rules_deck.specs.Deck.{sameName, positionOf, Do, dosOf, endings, Dims, Declared, declare, arraysIn, dimsOf, width}
+use Rattle.rules_deck.specs.Trees.{Name, valueOf, Subscript, constant, linear, Subscripts, one, two, subscriptsNames, Expr, con, var, elm, neg, par, bin, Target, cell, element, written, Form, assign, goTo, computed, ifs, loop, continue, stop, end, dimension, Statement, Phrase, sets, chooses, computes, steps, declares, Range, partsOf, gathered}
+use Rattle.rules_deck.specs.Deck.{sameName, positionOf, Do, doAt, dosOf, endings, Dims, Declared, declare, arraysIn, dimsOf, width}
 use Rattle.rules_deck.specs.Meaning.{times, addend, third}
 
 -- ---- cells go in order of first appearance in the text
@@ -86,28 +86,19 @@ abbrev pub targetPlain : Target → List Name
 targetPlain (cell v) = v ∷ []
 targetPlain (element v s) = subscriptsNames s
 
+abbrev pub phrasePlain : Phrase → List Name
+phrasePlain (sets t) = targetPlain t
+phrasePlain (chooses v) = v ∷ []
+phrasePlain (computes e) = exprPlain e
+phrasePlain (steps r) = written exprPlain r
+phrasePlain (declares arrays) = []
+
 unfoldable pub formPlain : Form → List Name
-formPlain (assign t e) = targetPlain t ++ exprPlain e
-formPlain (goTo n) = []
-formPlain (computed ns v) = v ∷ []
-formPlain (ifs e a b c) = exprPlain e
-formPlain (loop n v p₁ p₂ p₃) = v ∷ (exprPlain p₁ ++ (exprPlain p₂ ++ written exprPlain p₃))
-formPlain continue = []
-formPlain stop = []
-formPlain end = []
-formPlain (dimension arrays) = []
+formPlain f = gathered phrasePlain (partsOf f .text)
 
 -- a DO's hidden cells come after its names, an array's cells at its DIMENSION
 abbrev pub hiddenIn : ℕ → Form → List Held
-hiddenIn q (assign t e) = []
-hiddenIn q (goTo n) = []
-hiddenIn q (computed ns v) = []
-hiddenIn q (ifs e a b c) = []
-hiddenIn q (loop n v p₁ p₂ p₃) = hidden q ∷ []
-hiddenIn q continue = []
-hiddenIn q stop = []
-hiddenIn q end = []
-hiddenIn q (dimension arrays) = []
+hiddenIn q f = map (λ (d : Range). hidden q) (partsOf f .opens)
 
 abbrev pub brings : ℕ → Form → List Held → List Held
 brings q f held = appear held (formPlain f) ++ (hiddenIn q f ++ map (λ a. array (declare a)) (arraysIn f))
@@ -203,16 +194,12 @@ module _ (deck : List Statement) where
   doInstr f d = f (doNumber (dosOf deck) (d .position)) (loopEntry d)
 
   -- the DOI of a DO at position q
+  abbrev pub doiFor : ℕ → List Range → Instr
+  doiFor q [] = NEG
+  doiFor q (d ∷ ds) = doInstr DOI (doAt q d)
+
   abbrev pub enterCode : ℕ → Form → Instr
-  enterCode q (assign t e) = NEG
-  enterCode q (goTo n) = NEG
-  enterCode q (computed ns v) = NEG
-  enterCode q (ifs e a b c) = NEG
-  enterCode q (loop n v p₁ p₂ p₃) = doInstr DOI (record { position = q; last = valueOf n; variable = v })
-  enterCode q continue = NEG
-  enterCode q stop = NEG
-  enterCode q end = NEG
-  enterCode q (dimension arrays) = NEG
+  enterCode q f = doiFor q (partsOf f .opens)
 
   -- a statement's code; after a last statement, its DOEs, innermost first
   abbrev pub statementCode : ℕ → Statement → List Instr
@@ -297,15 +284,7 @@ tablesOf T (i ∷ is) = tablesOf (tablesAfter T i) is
 -- ---- body 6: executable statements and END; body 7: names in cell order
 
 abbrev pub executable : Form → Bool
-executable (assign t e) = true
-executable (goTo n) = true
-executable (computed ns v) = true
-executable (ifs e a b c) = true
-executable (loop n v p₁ p₂ p₃) = true
-executable continue = true
-executable stop = true
-executable end = true
-executable (dimension arrays) = false
+executable f = partsOf f .executable
 
 abbrev pub linesFrom : List Statement → ℕ → List Statement → List Line
 linesFrom deck q [] = []

@@ -1,7 +1,8 @@
 -- A deck's statements as trees. Names, constants and numbers stand in them as written. 01 "Statements".
 -- Assumes nothing.
 use Prim.Native.Nat.{ℕ, suc, _+_, _-_, _*_, max}
-use mathlib.Core.List.{List, [], _∷_, _++_}
+use mathlib.Core.Bool.{Bool, true, false}
+use mathlib.Core.List.{List, [], _∷_, _++_, map}
 use mathlib.Core.Option.{Option, none, some}
 use Rattle.number.specs.Number.{Op}
 
@@ -96,17 +97,6 @@ abbrev pub arrayNames : List Array → List Name
 arrayNames [] = []
 arrayNames (array v r c ∷ more) = v ∷ arrayNames more
 
-unfoldable pub formNames : Form → List Name
-formNames (assign t e) = targetNames t ++ exprNames e
-formNames (goTo n) = []
-formNames (computed ns v) = v ∷ []
-formNames (ifs e a b c) = exprNames e
-formNames (loop n v p q r) = v ∷ (exprNames p ++ (exprNames q ++ written exprNames r))
-formNames continue = []
-formNames stop = []
-formNames end = []
-formNames (dimension arrays) = arrayNames arrays
-
 abbrev pub addendConstants : Addend → List Digits
 addendConstants nothing = []
 addendConstants (plus c) = c ∷ []
@@ -140,42 +130,6 @@ abbrev pub arrayConstants : List Array → List Digits
 arrayConstants [] = []
 arrayConstants (array v r c ∷ more) = r ∷ (optional c ++ arrayConstants more)
 
--- every c, wherever it stands
-unfoldable pub formConstants : Form → List Digits
-formConstants (assign t e) = targetConstants t ++ exprConstants e
-formConstants (goTo n) = []
-formConstants (computed ns v) = []
-formConstants (ifs e a b c) = exprConstants e
-formConstants (loop n v p q r) = exprConstants p ++ (exprConstants q ++ written exprConstants r)
-formConstants continue = []
-formConstants stop = []
-formConstants end = []
-formConstants (dimension arrays) = arrayConstants arrays
-
--- the numbers that a statement jumps to
-unfoldable pub formExits : Form → List Digits
-formExits (assign t e) = []
-formExits (goTo n) = n ∷ []
-formExits (computed ns v) = ns
-formExits (ifs e a b c) = a ∷ b ∷ c ∷ []
-formExits (loop n v p q r) = []
-formExits continue = []
-formExits stop = []
-formExits end = []
-formExits (dimension arrays) = []
-
--- the number of a DO's last statement
-unfoldable pub formLast : Form → List Digits
-formLast (assign t e) = []
-formLast (goTo n) = []
-formLast (computed ns v) = []
-formLast (ifs e a b c) = []
-formLast (loop n v p q r) = n ∷ []
-formLast continue = []
-formLast stop = []
-formLast end = []
-formLast (dimension arrays) = []
-
 -- how deep an expression's own parentheses go
 abbrev pub levels : Expr → ℕ
 levels (con c) = 0
@@ -185,14 +139,111 @@ levels (neg e) = levels e
 levels (par e) = suc (levels e)
 levels (bin o a b) = max (levels a) (levels b)
 
+-- ---- what a form has, told once by cases; what else is asked of a form is read off this, but for its spelling, its meaning, its code and their counts
+
+-- what stands in its text beside statement numbers
+pub data Phrase : Type 0 where
+  -- a target, or a DO's variable
+  sets : Target → Phrase
+  -- a computed GO TO's variable
+  chooses : Name → Phrase
+  computes : Expr → Phrase
+  -- a DO's third parameter
+  steps : Option Expr → Phrase
+  declares : List Array → Phrase
+
+-- what a DO opens
+pub record Range : Type 0 where
+  pub last : Digits
+  pub variable : Name
+
+pub record Parts : Type 0 where
+  -- in its order
+  pub text : List Phrase
+  -- the numbers that it jumps to
+  pub exits : List Digits
+  pub opens : List Range
+  -- a run comes to it
+  pub executable : Bool
+  -- it may be a DO's last statement
+  pub mayEnd : Bool
+  pub isEnd : Bool
+  pub isDimension : Bool
+
+abbrev pub partsOf : Form → Parts
+partsOf (assign t e) =
+    record { text = sets t ∷ computes e ∷ []; exits = []; opens = []; executable = true; mayEnd = true; isEnd = false; isDimension = false }
+partsOf (goTo n) = record { text = []; exits = n ∷ []; opens = []; executable = true; mayEnd = false; isEnd = false; isDimension = false }
+partsOf (computed ns v) =
+    record { text = chooses v ∷ []; exits = ns; opens = []; executable = true; mayEnd = false; isEnd = false; isDimension = false }
+partsOf (ifs e a b c) =
+    record { text = computes e ∷ []; exits = a ∷ b ∷ c ∷ []; opens = []; executable = true; mayEnd = false; isEnd = false; isDimension = false }
+partsOf (loop n v p q r) =
+    record {
+      text = sets (cell v) ∷ computes p ∷ computes q ∷ steps r ∷ [];
+      exits = [];
+      opens = record { last = n; variable = v } ∷ [];
+      executable = true;
+      mayEnd = false;
+      isEnd = false;
+      isDimension = false;
+    }
+partsOf continue = record { text = []; exits = []; opens = []; executable = true; mayEnd = true; isEnd = false; isDimension = false }
+partsOf stop = record { text = []; exits = []; opens = []; executable = true; mayEnd = false; isEnd = false; isDimension = false }
+partsOf end = record { text = []; exits = []; opens = []; executable = true; mayEnd = true; isEnd = true; isDimension = false }
+partsOf (dimension arrays) =
+    record { text = declares arrays ∷ []; exits = []; opens = []; executable = false; mayEnd = true; isEnd = false; isDimension = true }
+
+-- what each gives, one after the other
+abbrev pub gathered : {A B : Type 0} → (A → List B) → List A → List B
+gathered f [] = []
+gathered f (x ∷ []) = f x
+gathered f (x ∷ y ∷ more) = f x ++ gathered f (y ∷ more)
+
+abbrev pub phraseNames : Phrase → List Name
+phraseNames (sets t) = targetNames t
+phraseNames (chooses v) = v ∷ []
+phraseNames (computes e) = exprNames e
+phraseNames (steps r) = written exprNames r
+phraseNames (declares arrays) = arrayNames arrays
+
+unfoldable pub formNames : Form → List Name
+formNames f = gathered phraseNames (partsOf f .text)
+
+abbrev pub phraseConstants : Phrase → List Digits
+phraseConstants (sets t) = targetConstants t
+phraseConstants (chooses v) = []
+phraseConstants (computes e) = exprConstants e
+phraseConstants (steps r) = written exprConstants r
+phraseConstants (declares arrays) = arrayConstants arrays
+
+-- every c, wherever it stands
+unfoldable pub formConstants : Form → List Digits
+formConstants f = gathered phraseConstants (partsOf f .text)
+
+-- the numbers that a statement jumps to
+unfoldable pub formExits : Form → List Digits
+formExits f = partsOf f .exits
+
+-- the number of a DO's last statement
+unfoldable pub formLast : Form → List Digits
+formLast f = map (λ (d : Range). d .last) (partsOf f .opens)
+
+abbrev pub phraseExprs : Phrase → List Expr
+phraseExprs (sets t) = []
+phraseExprs (chooses v) = []
+phraseExprs (computes e) = e ∷ []
+phraseExprs (steps r) = written (λ e. e ∷ []) r
+phraseExprs (declares arrays) = []
+
+-- the most levels, where some expressions have n
+abbrev pub deepest : ℕ → List Expr → ℕ
+deepest n [] = n
+deepest n (e ∷ es) = deepest (max n (levels e)) es
+
+abbrev pub levelsOf : List Expr → ℕ
+levelsOf [] = 0
+levelsOf (e ∷ es) = deepest (levels e) es
+
 unfoldable pub formLevels : Form → ℕ
-formLevels (assign t e) = levels e
-formLevels (goTo n) = 0
-formLevels (computed ns v) = 0
-formLevels (ifs e a b c) = levels e
-formLevels (loop n v p q none) = max (levels p) (levels q)
-formLevels (loop n v p q (some r)) = max (max (levels p) (levels q)) (levels r)
-formLevels continue = 0
-formLevels stop = 0
-formLevels end = 0
-formLevels (dimension arrays) = 0
+formLevels f = levelsOf (gathered phraseExprs (partsOf f .text))

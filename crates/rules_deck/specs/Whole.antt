@@ -9,7 +9,7 @@ use lib.ListN.{length, getElem?}
 use Rattle.rules_shared.specs.Limits.{limits}
 use Rattle.rules_shared.specs.Refusals.{Refusal, refusal, orElse}
 use Rattle.rules_shared.specs.Lists.{all}
-use Rattle.rules_deck.specs.Trees.{Name, Digits, valueOf, Target, cell, element, Form, assign, goTo, computed, ifs, loop, continue, stop, end, dimension, Statement, formExits, formLast}
+use Rattle.rules_deck.specs.Trees.{Name, Digits, valueOf, Target, cell, element, Form, Statement, formExits, formLast, Phrase, sets, chooses, computes, steps, declares, partsOf, gathered}
 use Rattle.rules_deck.specs.Deck.{sameName, positionOf, Do, dosOf}
 
 -- the first position, counted from q, whose statement fails the test; its sequence number
@@ -20,15 +20,7 @@ firstWrong right q (s ∷ deck) = cond (right q s) (firstWrong right (suc q) dec
 -- ---- 20: END missing or not last; no statement at all
 
 abbrev pub isEnd : Form → Bool
-isEnd (assign t e) = false
-isEnd (goTo n) = false
-isEnd (computed ns v) = false
-isEnd (ifs e a b c) = false
-isEnd (loop n v p₁ p₂ p₃) = false
-isEnd continue = false
-isEnd stop = false
-isEnd end = true
-isEnd (dimension arrays) = false
+isEnd f = partsOf f .isEnd
 
 abbrev pub endsWell : List Statement → Bool
 endsWell [] = false
@@ -43,15 +35,7 @@ refused20 deck =
 -- ---- 21: number defined twice, or on DIMENSION or END
 
 abbrev pub isDimension : Form → Bool
-isDimension (assign t e) = false
-isDimension (goTo n) = false
-isDimension (computed ns v) = false
-isDimension (ifs e a b c) = false
-isDimension (loop n v p₁ p₂ p₃) = false
-isDimension continue = false
-isDimension stop = false
-isDimension end = false
-isDimension (dimension arrays) = true
+isDimension f = partsOf f .isDimension
 
 -- the place is the second
 unfoldable pub right21 : List Statement → ℕ → Statement → Bool
@@ -76,15 +60,7 @@ inRange deck d j = ltb (d .position) j && leb j (lastOf deck d)
 -- ---- 23: DO's last statement not after it, or a GO TO, IF, DO or STOP; ranges cross; over 8 deep
 
 abbrev pub mayEnd : Form → Bool
-mayEnd (assign t e) = true
-mayEnd (goTo n) = false
-mayEnd (computed ns v) = false
-mayEnd (ifs e a b c) = false
-mayEnd (loop n v p₁ p₂ p₃) = false
-mayEnd continue = true
-mayEnd stop = false
-mayEnd end = true
-mayEnd (dimension arrays) = true
+mayEnd f = partsOf f .mayEnd
 
 abbrev pub mayEndAt : Option Statement → Bool
 mayEndAt none = false
@@ -123,16 +99,15 @@ abbrev pub targetSets : Target → List Name
 targetSets (cell v) = v ∷ []
 targetSets (element v s) = []
 
+abbrev pub phraseSets : Phrase → List Name
+phraseSets (sets t) = targetSets t
+phraseSets (chooses v) = []
+phraseSets (computes e) = []
+phraseSets (steps r) = []
+phraseSets (declares arrays) = []
+
 unfoldable pub formSets : Form → List Name
-formSets (assign t e) = targetSets t
-formSets (goTo n) = []
-formSets (computed ns v) = []
-formSets (ifs e a b c) = []
-formSets (loop n v p₁ p₂ p₃) = v ∷ []
-formSets continue = []
-formSets stop = []
-formSets end = []
-formSets (dimension arrays) = []
+formSets f = gathered phraseSets (partsOf f .text)
 
 unfoldable pub right25 : List Statement → ℕ → Statement → Bool
 right25 deck j s = all (λ v. all (λ d. not (inRange deck d j && sameName (d .variable) v)) (dosOf deck)) (formSets (s .form))

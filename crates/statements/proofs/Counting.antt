@@ -11,6 +11,7 @@ use borrow.Author.Tests.{eqb-true, eqb-false, leb-true}
 use Rattle.rules_shared.specs.Lists.{all, Each, each-none, each-more}
 use Rattle.rules_deck.specs.Trees.{Target, cell, element, Form, assign, goTo, computed, ifs, loop, continue, stop, end, dimension, formExits, formLast}
 use Rattle.rules_deck.specs.Judge.{right13}
+use Rattle.rules_deck.specs.Whole.{formSets}
 use Rattle.rules_deck.proofs.Readers.{both-true}
 use Rattle.tokens.specs.Words.{capped}
 use Rattle.elements.specs.Values.{targetValue}
@@ -96,12 +97,12 @@ after {p} {m} {l} {r} f e c s = go (eqb (p .kind) 4) refl
 -- ---- the plan's marks
 
 target-set : (t : Target) → cellWord (targetValue t) ≡ setWord (assign t (Rattle.rules_deck.specs.Trees.Expr.con []))
-unfolding cellWord targetValue
+unfolding cellWord targetValue formSets
 target-set (cell v) = refl
 target-set (element v s) = refl
 
 pub set-word : (f : Form) → setOf (formPlan f) ≡ setWord f
-unfolding setOf formPlan cellWord
+unfolding setOf formPlan cellWord formSets
 set-word (assign t e) = target-set t
 set-word (goTo n) = refl
 set-word (computed ns v) = refl
