@@ -8,6 +8,13 @@ ghost use Rattle.emission.specs.Emits.{Grows};
 ghost use Rattle.endings.specs.Endings.{doesOf, Emitting, EmitsEnding, EmitsPlan};
 use draft::Counts;
 use emission::Emitted;
+use kinds::ASSIGNMENT;
+use kinds::COMPUTED;
+use kinds::DO;
+use kinds::END;
+use kinds::GO_TO;
+use kinds::IF;
+use kinds::STOP;
 use plans::Plan;
 
 // A computed GO TO's variable and branch.
@@ -27,26 +34,26 @@ fn end(p: Plan, names: &[u64], elements: &mut [u32], code: &mut [u32], n: Counts
     requires { ⌜ (length (now names) ≡ 400) × ((length (now elements) ≡ 2304) × ((length (now code) ≡ 4096) × Fit n)) ⌝ }
     ensures { λ r. ⌜ Grows (doesOf p) n r × EmitsEnding p (now (names .entry)) (now (elements .entry)) (now (code .entry)) (now (elements .exit)) (now (code .exit)) n r ⌝ }
 {
-    if p.kind == 0 {
+    if p.kind == ASSIGNMENT {
         let target = p.target;
         return emit_operands::store(target, names, elements, code, n);
     }
-    if p.kind == 1 {
+    if p.kind == GO_TO {
         return emission::jump(p.below, code, n);
     }
-    if p.kind == 2 {
+    if p.kind == COMPUTED {
         return choose_exit(p, names, code, n);
     }
-    if p.kind == 3 {
+    if p.kind == IF {
         return emission::three(code, n);
     }
-    if p.kind == 4 {
+    if p.kind == DO {
         return emission::enter(code, n);
     }
-    if p.kind == 6 {
+    if p.kind == STOP {
         return emission::halt(0, code, n);
     }
-    if p.kind == 7 {
+    if p.kind == END {
         return emission::halt(1, code, n);
     }
     Emitted::Counts(n)

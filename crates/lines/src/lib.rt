@@ -12,9 +12,7 @@ ghost use Rattle.addresses.specs.Given.{Rows, Loops, Rowed, Looped, Starts, Hol
 ghost use Rattle.lines.specs.Lines.{lineOf};
 ghost use Rattle.lines.specs.Names.{Names, Listed, turned};
 ghost use Rattle.draft.specs.Sketch.{openEntry};
-
-// DIMENSION, the one kind of statement that is no line.
-const DIMENSION: u64 = 8;
+use kinds::DIMENSION;
 
 // Each DO's body is the statement after it.
 pub fn bodies(loops: &[u32], n: usize, starts: &[u32], dos: &mut [u32])

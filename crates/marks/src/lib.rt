@@ -7,6 +7,11 @@ ghost use Rattle.rules_shared.specs.Lists.{Each};
 ghost use Rattle.items.specs.Parsed.{Put};
 ghost use Rattle.marks.specs.Marks.{numbersOf, Low, Jumping, cellWord, setOf};
 use elements::Target;
+use kinds::ASSIGNMENT;
+use kinds::COMPUTED;
+use kinds::DO;
+use kinds::GO_TO;
+use kinds::IF;
 use plans::Plan;
 
 fn put(table: &mut [u32], at: usize, word: u32) -> usize
@@ -66,18 +71,18 @@ pub fn put_jumps(p: Plan, items: &[u64], jumps: &mut [u32], from: usize) -> usiz
     requires { ⌜ Jumping p (now items) (now jumps) from ⌝ }
     ensures { λ r. ⌜ Put (now (jumps .entry)) (now (jumps .exit)) from (numbersOf p (now (items .entry))) r ⌝ }
 {
-    if p.kind == 2 {
+    if p.kind == COMPUTED {
         return put_numbers(items, p.listed, jumps, from);
     }
-    if p.kind == 3 {
+    if p.kind == IF {
         let a = put_number(jumps, from, p.below);
         let b = put_number(jumps, a, p.at);
         return put_number(jumps, b, p.above);
     }
-    if p.kind == 1 {
+    if p.kind == GO_TO {
         return put_number(jumps, from, p.below);
     }
-    if p.kind == 4 {
+    if p.kind == DO {
         return put_number(jumps, from, p.below);
     }
     from
@@ -99,10 +104,10 @@ pub fn set_of(p: Plan) -> u64
     ensures { λ r. ⌜ r ≡ setOf p ⌝ }
 {
     let target = p.target;
-    if p.kind == 0 {
+    if p.kind == ASSIGNMENT {
         return cell_word(target);
     }
-    if p.kind == 4 {
+    if p.kind == DO {
         return cell_word(target);
     }
     0

@@ -4,6 +4,8 @@ ghost use mathlib.Core.Path.{_≡_};
 ghost use lib.ListN.{length};
 ghost use Rattle.plans.specs.Plans.{Readied};
 ghost use Rattle.naming.specs.Naming.{RightArrays, RightOperands, TakesCells};
+use kinds::DIMENSION;
+use kinds::DO;
 use names::Grown;
 use plans::Plan;
 
@@ -12,7 +14,7 @@ pub fn right_arrays(p: Plan, first: &[u64], items: &[u64], table: &[u64], n: usi
     requires { ⌜ Readied p (now first) (now items) × (4 * n ≤ length (now table)) ⌝ }
     ensures { λ r. ⌜ RightArrays p (now (items .entry)) (now (table .entry)) n r ⌝ }
 {
-    if p.kind != 8 {
+    if p.kind != DIMENSION {
         return true;
     }
     let m = p.listed;
@@ -51,10 +53,10 @@ pub fn take_cells(
     ) else {
         return Grown::Full;
     };
-    if p.kind == 4 {
+    if p.kind == DO {
         return cells::hide(a, b);
     }
-    if p.kind == 8 {
+    if p.kind == DIMENSION {
         let m = p.listed;
         let words = 4 * m;
         return arrays::declare(&items[0..words], m, table, a, b);

@@ -6,16 +6,14 @@ ghost use Rattle.tables.specs.Rows.{startOf};
 ghost use Rattle.numbers.specs.Numbers.{firstFrom, foundOf, placeOf, endRight, lastEnds, misplacedEnd, ownRight, numberRight, past, Resolves};
 use cards::Number;
 use cards::Sequence;
+use kinds::DIMENSION;
+use kinds::END;
 
 pub enum Found {
     Nothing,
     // A statement; 0 for a deck of no statement.
     At(Sequence),
 }
-
-const END: u64 = 7;
-
-const DIMENSION: u64 = 8;
 
 // The first statement with this number.
 fn place_of(numbers: [Number; 400], count: usize, number: Number) -> Found

@@ -7,9 +7,19 @@ ghost use Rattle.plans.specs.Plans.{made, parametersWords, Planned, firs
 use elements::Target;
 use forms::Do;
 use forms::Statement;
+use kinds::ASSIGNMENT;
+use kinds::COMPUTED;
+use kinds::CONTINUE;
+use kinds::DIMENSION;
+use kinds::DO;
+use kinds::END;
+use kinds::GO_TO;
+use kinds::IF;
+use kinds::NO_FORM;
+use kinds::STOP;
 
 pub struct Plan {
-    // assignment 0, GO TO 1, computed 2, IF 3, DO 4, CONTINUE 5, STOP 6, END 7, DIMENSION 8
+    // one of `kinds`
     pub kind: u64,
     // what stands first: an assignment's target, a computed GO TO's variable or a DO's
     pub target: Target,
@@ -65,20 +75,20 @@ pub fn plan_of(s: Statement, items: &mut [u64]) -> Plan
     match s {
         Statement::Assign(a) => {
             let target = a.target;
-            make(0, target, a.count, 0, 0, 0, 0)
+            make(ASSIGNMENT, target, a.count, 0, 0, 0, 0)
         }
-        Statement::GoTo(n) => make(1, Target::Cell(0), 0, 0, n, 0, 0),
-        Statement::Computed(c) => make(2, Target::Cell(c.name), 0, c.exits, 0, 0, 0),
-        Statement::If(i) => make(3, Target::Cell(0), i.count, 0, i.below, i.at, i.above),
+        Statement::GoTo(n) => make(GO_TO, Target::Cell(0), 0, 0, n, 0, 0),
+        Statement::Computed(c) => make(COMPUTED, Target::Cell(c.name), 0, c.exits, 0, 0, 0),
+        Statement::If(i) => make(IF, Target::Cell(0), i.count, 0, i.below, i.at, i.above),
         Statement::Do(d) => {
             let count = put_parameters(items, d);
-            make(4, Target::Cell(d.name), count, 0, d.last, 0, 0)
+            make(DO, Target::Cell(d.name), count, 0, d.last, 0, 0)
         }
-        Statement::Continue => make(5, Target::Cell(0), 0, 0, 0, 0, 0),
-        Statement::Stop => make(6, Target::Cell(0), 0, 0, 0, 0, 0),
-        Statement::End => make(7, Target::Cell(0), 0, 0, 0, 0, 0),
-        Statement::Dimension(d) => make(8, Target::Cell(0), 0, d.arrays, 0, 0, 0),
-        Statement::Bad => make(9, Target::Cell(0), 0, 0, 0, 0, 0),
+        Statement::Continue => make(CONTINUE, Target::Cell(0), 0, 0, 0, 0, 0),
+        Statement::Stop => make(STOP, Target::Cell(0), 0, 0, 0, 0, 0),
+        Statement::End => make(END, Target::Cell(0), 0, 0, 0, 0, 0),
+        Statement::Dimension(d) => make(DIMENSION, Target::Cell(0), 0, d.arrays, 0, 0, 0),
+        Statement::Bad => make(NO_FORM, Target::Cell(0), 0, 0, 0, 0, 0),
     }
 }
 
@@ -88,13 +98,13 @@ pub fn put_first(p: Plan, first: &mut [u64]) -> usize
     ensures { λ r. ⌜ Put (now (first .entry)) (now (first .exit)) 0 (firstWords p) r ⌝ }
 {
     let target = p.target;
-    if p.kind == 0 {
+    if p.kind == ASSIGNMENT {
         return items::put_target(first, 0, target);
     }
-    if p.kind == 2 {
+    if p.kind == COMPUTED {
         return items::put_target(first, 0, target);
     }
-    if p.kind == 4 {
+    if p.kind == DO {
         return items::put_target(first, 0, target);
     }
     0

@@ -6,12 +6,15 @@ ghost use lib.ListN.{length};
 ghost use Rattle.numbers.specs.Numbers.{allFrom, countFrom, firstFrom, foundOf};
 ghost use Rattle.ranges.specs.Ranges.{doAt, lastAt, Ranged, covering, covers, mayEndKind, uncrossed, apart, doRight, exitsAt, outside, staysOut, jumpsRight, leaves, setRight};
 use cards::Sequence;
+use kinds::ASSIGNMENT;
+use kinds::CONTINUE;
+use kinds::DIMENSION;
+use kinds::DO;
+use kinds::END;
 use numbers::Found;
 use tables::Loops;
 
 const NESTING: usize = 8;
-
-const DO: u64 = 4;
 
 // Whether a DO's range holds a statement: after the DO, through its last statement.
 fn in_range(first: Sequence, last: Sequence, at: Sequence) -> bool
@@ -25,7 +28,7 @@ fn in_range(first: Sequence, last: Sequence, at: Sequence) -> bool
 fn may_end(kind: u64) -> bool
     ensures { λ r. ⌜ r ≡ mayEndKind kind ⌝ }
 {
-    (kind == 0) | ((kind == 5) | ((kind == 7) | (kind == 8)))
+    (kind == ASSIGNMENT) | ((kind == CONTINUE) | ((kind == END) | (kind == DIMENSION)))
 }
 
 // An outer DO around a DO does not end before it.

@@ -9,12 +9,9 @@ ghost use Rattle.items.specs.Parsed.{Put};
 ghost use Rattle.addresses.specs.Given.{Holds};
 ghost use Rattle.addresses.specs.Ends.{endsAt, Lasts};
 ghost use Rattle.settle.specs.Settling.{Settling, Ready, Leading, Led, Aimed, ownWords, endWord, endOf, targets, exitWords};
-
-const GO_TO: u64 = 1;
-
-const COMPUTED: u64 = 2;
-
-const IF: u64 = 3;
+use kinds::COMPUTED;
+use kinds::GO_TO;
+use kinds::IF;
 
 const JMP: u32 = 11;
 

@@ -14,6 +14,7 @@ use cards::Number;
 use draft::Counts;
 use emission::Emitted;
 use forms::Statement;
+use kinds::DO;
 use names::Grown;
 use plans::Plan;
 
@@ -88,7 +89,7 @@ fn enter_do(p: Plan, names: &[u64], dos: &mut [u32], loops: &mut [u32], m: Count
     requires { ⌜ Entering p (now names) (now dos) (now loops) m ⌝ }
     ensures { λ r. ⌜ Counted p m r × Enters p (now (names .entry)) (now (dos .entry)) (now (loops .entry)) (now (dos .exit)) (now (loops .exit)) m r ⌝ }
 {
-    if p.kind != 4 {
+    if p.kind != DO {
         return Emitted::Counts(m);
     }
     if 64 <= m.dos {
