@@ -77,10 +77,10 @@ pub enum GotPlace {
 fn sign_of(c: u8) -> u64
     ensures { λ r. ⌜ r ≡ signNumber c ⌝ }
 {
-    if c == 43 {
+    if c == b'+' {
         return 1;
     }
-    if c == 45 {
+    if c == b'-' {
         return 2;
     }
     0
@@ -162,7 +162,7 @@ fn read_subscript(s: &[u8], from: usize) -> GotSubscript
     let Token::Read { at, word, sizes } = tokens::read_number(s, from) else {
         return read_linear(s, from, 1, tokens::none());
     };
-    if tokens::byte(s, at) == 42 {
+    if tokens::byte(s, at) == b'*' {
         return read_linear(s, at + 1, word, sizes);
     }
     GotSubscript::Read {
@@ -181,7 +181,7 @@ fn read_subscripts(s: &[u8], from: usize) -> GotSubscripts
     requires { ⌜ from ≤ length (now s) ⌝ }
     ensures { λ r. ⌜ ReadsSubscripts (now (s .entry)) from (subscripts (drop from (now (s .entry)))) r ⌝ }
 {
-    if tokens::byte(s, from) != 40 {
+    if tokens::byte(s, from) != b'(' {
         return GotSubscripts::Bad;
     }
     let GotSubscript::Read {
@@ -192,8 +192,8 @@ fn read_subscripts(s: &[u8], from: usize) -> GotSubscripts
     else {
         return GotSubscripts::Bad;
     };
-    if tokens::byte(s, a) != 44 {
-        if tokens::byte(s, a) != 41 {
+    if tokens::byte(s, a) != b',' {
+        if tokens::byte(s, a) != b')' {
             return GotSubscripts::Bad;
         }
         return GotSubscripts::Read {
@@ -214,7 +214,7 @@ fn read_subscripts(s: &[u8], from: usize) -> GotSubscripts
     else {
         return GotSubscripts::Bad;
     };
-    if tokens::byte(s, at) != 41 {
+    if tokens::byte(s, at) != b')' {
         return GotSubscripts::Bad;
     }
     GotSubscripts::Read {
@@ -240,7 +240,7 @@ pub fn read_place(s: &[u8], from: usize) -> GotPlace
     else {
         return GotPlace::Bad;
     };
-    if tokens::byte(s, a) != 40 {
+    if tokens::byte(s, a) != b'(' {
         return GotPlace::Read {
             at: a,
             target: Target::Cell(word),

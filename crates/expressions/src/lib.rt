@@ -13,10 +13,10 @@ use tokens::Sizes;
 fn sign_len(c: u8) -> usize
     ensures { λ r. ⌜ r ≡ signLen c ⌝ }
 {
-    if c == 43 {
+    if c == b'+' {
         return 1;
     }
-    if c == 45 {
+    if c == b'-' {
         return 1;
     }
     0
@@ -26,10 +26,10 @@ fn sign_len(c: u8) -> usize
 fn sum_op(c: u8) -> u64
     ensures { λ r. ⌜ r ≡ opNumber (sumOp c) ⌝ }
 {
-    if c == 43 {
+    if c == b'+' {
         return 6;
     }
-    if c == 45 {
+    if c == b'-' {
         return 7;
     }
     0
@@ -38,10 +38,10 @@ fn sum_op(c: u8) -> u64
 fn product_op(c: u8) -> u64
     ensures { λ r. ⌜ r ≡ opNumber (productOp c) ⌝ }
 {
-    if c == 42 {
+    if c == b'*' {
         return 8;
     }
-    if c == 47 {
+    if c == b'/' {
         return 9;
     }
     0
@@ -74,7 +74,7 @@ pub fn expression(s: &[u8], items: &mut [u64], n: usize) -> Got
     else {
         return Got::Bad;
     };
-    let mut top = put_sign(items, m, c == 45);
+    let mut top = put_sign(items, m, c == b'-');
     let mut at = a + k;
     let mut sizes = z;
     while at < s.len() {
@@ -140,7 +140,7 @@ fn factor(s: &[u8], items: &mut [u64], n: usize) -> Got
     requires { ⌜ n + 4 * length (now s) ≤ length (now items) ⌝ }
     ensures { λ r. ⌜ Parsed (now (s .entry)) (now (items .entry)) (now (items .exit)) n (parse Mode.aFactor (now (s .entry))) r ⌝ }
 {
-    if tokens::byte(s, 0) != 40 {
+    if tokens::byte(s, 0) != b'(' {
         return items::operand(s, items, n);
     }
     let Got::Read {
@@ -152,7 +152,7 @@ fn factor(s: &[u8], items: &mut [u64], n: usize) -> Got
         return Got::Bad;
     };
     let b = k + 1;
-    if tokens::byte(s, b) != 41 {
+    if tokens::byte(s, b) != b')' {
         return Got::Bad;
     }
     Got::Read {

@@ -83,7 +83,7 @@ pub fn read_assignment(text: &[u8], items: &mut [u64]) -> Statement
     else {
         return Statement::Bad;
     };
-    if tokens::byte(text, a) != 61 {
+    if tokens::byte(text, a) != b'=' {
         return Statement::Bad;
     }
     let b = a + 1;
@@ -121,7 +121,7 @@ pub fn read_next(text: &[u8], from: usize) -> Token
     requires { ⌜ from ≤ length (now text) ⌝ }
     ensures { λ r. ⌜ ReadsNumber (now (text .entry)) from (after comma number (drop from (now (text .entry)))) r ⌝ }
 {
-    if tokens::byte(text, from) != 44 {
+    if tokens::byte(text, from) != b',' {
         return Token::Bad;
     }
     tokens::read_number(text, from + 1)
@@ -176,14 +176,14 @@ pub fn read_if(text: &[u8], items: &mut [u64]) -> Statement
     if !tokens::starts_word(text, b"IF") {
         return Statement::Bad;
     }
-    if tokens::byte(text, 2) != 40 {
+    if tokens::byte(text, 2) != b'(' {
         return Statement::Bad;
     }
     let Got::Read { at: k, n, sizes } = expressions::expression(&text[3..], items, 0) else {
         return Statement::Bad;
     };
     let a = k + 3;
-    if tokens::byte(text, a) != 41 {
+    if tokens::byte(text, a) != b')' {
         return Statement::Bad;
     }
     read_exits(text, a + 1, n, sizes)

@@ -52,7 +52,7 @@ fn read_array(text: &[u8], from: usize) -> GotArray
     else {
         return GotArray::Bad;
     };
-    if tokens::byte(text, a) != 40 {
+    if tokens::byte(text, a) != b'(' {
         return GotArray::Bad;
     }
     let Token::Read {
@@ -71,7 +71,7 @@ fn read_columns(text: &[u8], from: usize, name: u64, rows: u64, sizes: Sizes) ->
     requires { ⌜ from ≤ length (now text) ⌝ }
     ensures { λ r. ⌜ ReadsColumns (now (text .entry)) from name rows sizes r ⌝ }
 {
-    if tokens::byte(text, from) == 41 {
+    if tokens::byte(text, from) == b')' {
         return GotArray::Read {
             at: from + 1,
             array: Array {
@@ -91,7 +91,7 @@ fn read_columns(text: &[u8], from: usize, name: u64, rows: u64, sizes: Sizes) ->
     else {
         return GotArray::Bad;
     };
-    if tokens::byte(text, at) != 41 {
+    if tokens::byte(text, at) != b')' {
         return GotArray::Bad;
     }
     GotArray::Read {
@@ -135,7 +135,7 @@ fn read_numbers(text: &[u8], from: usize, items: &mut [u64]) -> GotList
         };
         items[n] = word;
         n += 1;
-        if tokens::byte(text, a) != 44 {
+        if tokens::byte(text, a) != b',' {
             return GotList::Read {
                 at: a,
                 count: n,
@@ -167,7 +167,7 @@ fn read_arrays(text: &[u8], from: usize, items: &mut [u64]) -> GotList
         n = put_array(items, n, array);
         count += 1;
         sizes = tokens::of_both(sizes, z);
-        if tokens::byte(text, a) != 44 {
+        if tokens::byte(text, a) != b',' {
             return GotList::Read {
                 at: a,
                 count,
@@ -184,11 +184,11 @@ fn read_choice(text: &[u8], from: usize, exits: usize) -> Statement
     requires { ⌜ from ≤ length (now text) ⌝ }
     ensures { λ r. ⌜ EndsComputed (now (text .entry)) from exits r ⌝ }
 {
-    if tokens::byte(text, from) != 41 {
+    if tokens::byte(text, from) != b')' {
         return Statement::Bad;
     }
     let a = from + 1;
-    if tokens::byte(text, a) != 44 {
+    if tokens::byte(text, a) != b',' {
         return Statement::Bad;
     }
     let Token::Read {
@@ -218,7 +218,7 @@ pub fn read_computed(text: &[u8], items: &mut [u64]) -> Statement
     if !tokens::starts_word(text, b"GOTO") {
         return Statement::Bad;
     }
-    if tokens::byte(text, 4) != 40 {
+    if tokens::byte(text, 4) != b'(' {
         return Statement::Bad;
     }
     let GotList::Read {

@@ -30,19 +30,19 @@ pub fn byte(s: &[u8], at: usize) -> u8
 fn is_digit(c: u8) -> bool
     ensures { λ r. ⌜ r ≡ isDigit c ⌝ }
 {
-    if c < 48 {
+    if c < b'0' {
         return false;
     }
-    c <= 57
+    c <= b'9'
 }
 
 fn is_letter(c: u8) -> bool
     ensures { λ r. ⌜ r ≡ isLetter c ⌝ }
 {
-    if c < 65 {
+    if c < b'A' {
         return false;
     }
-    c <= 90
+    c <= b'Z'
 }
 
 fn is_letter_or_digit(c: u8) -> bool
@@ -97,7 +97,7 @@ fn digit(c: u8) -> u64
     requires { ⌜ 48 ≤ c ⌝ }
     ensures { λ r. ⌜ r ≡ c - 48 ⌝ }
 {
-    (c - 48) as u64
+    (c - b'0') as u64
 }
 
 fn at_most(v: u64) -> u64
@@ -200,10 +200,10 @@ pub fn of_constant(k: usize) -> Sizes
 fn other_letter(c: u8) -> usize
     ensures { λ r. ⌜ r ≡ cond (leb 73 c && leb c 78) 0 1 ⌝ }
 {
-    if c < 73 {
+    if c < b'I' {
         return 1;
     }
-    if 78 < c {
+    if b'N' < c {
         return 1;
     }
     0
