@@ -12,7 +12,7 @@ use lib.Dec.{eqb}
 use lib.ListN.{length, take, getD, getElem?, length-map}
 use lib.Seq.{take-length}
 use borrow.Author.Tests.{eqb-true, eqb-false, eq-eqb, ne-eqb, lt-ltb, le-ltb}
-use Rattle.rules_object.specs.Machine.{NEG}
+use Rattle.rules_object.specs.Operations.{NEG}
 use Rattle.rules_deck.specs.Trees.{Statement}
 use Rattle.rules_deck.specs.Deck.{positionOf, Do, dosOf, dimsOf, endingWith, endings}
 use Rattle.rules_deck.specs.Whole.{lastOf}

@@ -7,7 +7,7 @@ use mathlib.Core.List.{List, [], _∷_, _++_, map}
 use mathlib.Core.Option.{some}
 use lib.ListN.{length, take, getD, getElem?, length-take, List·getD-append}
 use lib.Seq.{getD-take, getD-append-add}
-use Rattle.rules_object.specs.Machine.{Instr, NEG}
+use Rattle.rules_object.specs.Operations.{Instr, NEG}
 use Rattle.rules_object.specs.Bytes.{concat}
 use Rattle.rules_deck.specs.Trees.{Name, Form, Statement}
 use Rattle.rules_deck.specs.Deck.{Dims}

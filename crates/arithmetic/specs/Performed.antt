@@ -10,7 +10,8 @@ use Rattle.number.specs.Number.{Rule, Result, value, byZero, apply}
 use Rattle.rules_shared.specs.Choose.{sign3, exit, positive, allPositive, again, over, turn, marked}
 use Rattle.rules_shared.specs.Choose as choose
 use Rattle.rules_object.specs.Object.{Loop}
-use Rattle.rules_object.specs.Machine.{Instr, HLT, CON, LOD, STO, LDE, STE, OP, NEG, JMP, BR3, BRC, DOI, DOE, State, cell, placeOf}
+use Rattle.rules_object.specs.Operations.{Instr, HLT, CON, LOD, STO, LDE, STE, OP, NEG, JMP, BR3, BRC, DOI, DOE}
+use Rattle.rules_object.specs.Machine.{State, cell, placeOf}
 use Rattle.rules_object.specs.Calls.{Lent, taken}
 use Rattle.arithmetic.specs.declared.Regs.{Regs}
 use Rattle.arithmetic.specs.declared.Turn.{Turn}

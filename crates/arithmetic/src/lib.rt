@@ -7,7 +7,8 @@ ghost use lib.IntN.{ℤ, natAbs, _+ℤ_, _-ℤ_, _*ℤ_};
 ghost use Rattle.number.specs.Number.{value, keep, drops, divided};
 ghost use Rattle.number.specs.Code.{Both};
 ghost use Rattle.rules_shared.specs.Choose.{marked};
-ghost use Rattle.rules_object.specs.Machine.{NEG, cell};
+ghost use Rattle.rules_object.specs.Operations.{NEG};
+ghost use Rattle.rules_object.specs.Machine.{cell};
 ghost use Rattle.arithmetic.specs.Performed.{after, next, pushed, popped, joined, performed};
 
 // The instruction to be done, how many places of the stack are used, and the drop mark.

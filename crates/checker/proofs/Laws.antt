@@ -11,9 +11,9 @@ use lib.ListN.{length, getD}
 use borrow.Author.Tests.{leb-true}
 use Rattle.number.specs.Number.{ceiling}
 use Rattle.rules_shared.specs.Limits.{limits}
-use Rattle.rules_object.specs.Object.{Object}
-use Rattle.rules_object.specs.Machine.{noElement, noLoop, ruleOf}
-use Rattle.rules_object.specs.Check.{right41, rightConstant, rightElement, rightLoop, rightLine, rightNamed, right43, flowOf}
+use Rattle.rules_object.specs.Object.{Object, ruleOf}
+use Rattle.rules_object.specs.Check.{right41, rightConstant, rightElement, rightLoop, rightLine, rightNamed}
+use Rattle.rules_object.specs.Operations.{noElement, noLoop, right43, flowOf}
 use Rattle.rules_object.specs.Heights.{heights}
 use Rattle.rules_object.specs.Bytes.{readObject}
 use Rattle.rules_shared.specs.Refusals.{Refusal, refusal, atEntry}

@@ -7,7 +7,7 @@ use native.Mathlib.Omega.{arith}
 use mathlib.Core.List.{List, [], _∷_, _++_, append-nil, append-assoc}
 use mathlib.Core.Option.{some}
 use lib.ListN.{length, getElem?, length-append}
-use Rattle.rules_object.specs.Machine.{Instr, DOI}
+use Rattle.rules_object.specs.Operations.{Instr, DOI}
 use Rattle.rules_deck.specs.Trees.{Name, Statement, formLast}
 use Rattle.rules_deck.specs.Deck.{Dims, dimsIn, dimsOf}
 use Rattle.rules_deck.specs.Translation.{Held, brings, heldFrom, heldOf, formCode, Tables, noTables, tablesAfter, tablesOf, wordOf, emit}

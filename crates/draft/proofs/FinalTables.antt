@@ -7,7 +7,7 @@ use mathlib.Core.List.{List, [], _∷_, _++_, map, append-nil, append-assoc}
 use lib.ListN.{length}
 use borrow.Author.Tests.{eq-eqb}
 use Rattle.rules_object.specs.Object.{Loop, Element}
-use Rattle.rules_object.specs.Machine.{Instr, HLT, CON, LOD, STO, LDE, STE, OP, NEG, JMP, BR3, BRC, DOI, DOE}
+use Rattle.rules_object.specs.Operations.{Instr, HLT, CON, LOD, STO, LDE, STE, OP, NEG, JMP, BR3, BRC, DOI, DOE}
 use Rattle.rules_shared.proofs.EachLaws.{each-head}
 use Rattle.rules_deck.specs.Trees.{Name, valueOf, Form, assign, goTo, computed, ifs, loop, continue, stop, end, dimension, Statement, formLast}
 use Rattle.rules_deck.specs.Deck.{Do, Dims, doOf, dosFrom, dosOf, endings, dimsOf}

@@ -9,7 +9,7 @@ use mathlib.Core.Option.{Option, none, some}
 use lib.Dec.{leb}
 use lib.ListN.{length, length-append, length-map}
 use Rattle.rules_shared.specs.Limits.{limits}
-use Rattle.rules_object.specs.Machine.{Instr, HLT, LOD, STO, NEG, JMP, BR3, BRC, DOI}
+use Rattle.rules_object.specs.Operations.{Instr, HLT, LOD, STO, NEG, JMP, BR3, BRC, DOI}
 use Rattle.rules_deck.specs.Trees.{Name, valueOf, Expr, Target, cell, element, written, Form, assign, goTo, computed, ifs, loop, continue, stop, end, dimension, Statement, formExits, formLast}
 use Rattle.rules_deck.specs.Deck.{Dims}
 use Rattle.rules_deck.specs.Meaning.{third}

@@ -5,7 +5,7 @@ use Prim.Native.Nat.{ℕ, suc}
 use mathlib.Core.List.{List, [], _∷_, _++_, map}
 use lib.ListN.{length}
 use Rattle.rules_object.specs.Object.{Loop}
-use Rattle.rules_object.specs.Machine.{Instr, NEG, DOI}
+use Rattle.rules_object.specs.Operations.{Instr, NEG, DOI}
 use Rattle.rules_deck.specs.Trees.{Name, valueOf, Form, assign, goTo, computed, ifs, loop, continue, stop, end, dimension, Statement, formExits, formLast, Range, partsOf, gathered}
 use Rattle.rules_deck.specs.Translation.{Held, cellOf, limitOf, brings, formCode, Tables, noTables, emit, tablesOf}
 use Rattle.rules_deck.specs.Whole.{formSets}

@@ -4,7 +4,7 @@ use Prim.Native.Nat.{ℕ, suc, _+_}
 use mathlib.Core.List.{List, [], _∷_, _++_, map}
 use lib.ListN.{length}
 use Rattle.rules_object.specs.Object.{Loop}
-use Rattle.rules_object.specs.Machine.{Instr, DOI}
+use Rattle.rules_object.specs.Operations.{Instr, DOI}
 use Rattle.rules_object.specs.Bytes.{concat}
 use Rattle.rules_deck.specs.Trees.{Name, Statement, formLast}
 use Rattle.rules_deck.specs.Deck.{Do, Dims, dimsOf}

@@ -7,7 +7,7 @@ use mathlib.Core.Bool.{false}
 use mathlib.Core.List.{List, [], _∷_, _++_, append-assoc}
 use lib.ListN.{length, take, length-append}
 use Rattle.rules_shared.specs.Limits.{limits}
-use Rattle.rules_object.specs.Machine.{Instr}
+use Rattle.rules_object.specs.Operations.{Instr}
 use Rattle.rules_deck.specs.Translation.{Tables, emit, tablesAfter, wordOf, tablesOf}
 use Rattle.rules_deck.proofs.TableLaws.{tables-append}
 use Rattle.draft.specs.declared.Counts.{Counts}

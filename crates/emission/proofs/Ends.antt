@@ -6,7 +6,7 @@ use native.Mathlib.Omega.{arith}
 use native.Mathlib.Nat.{mod-eq-of-lt}
 use mathlib.Core.List.{List, [], _∷_, _++_}
 use lib.ListN.{length, length-append}
-use Rattle.rules_object.specs.Machine.{HLT, JMP, BR3, BRC, DOI}
+use Rattle.rules_object.specs.Operations.{HLT, JMP, BR3, BRC, DOI}
 use Rattle.rules_deck.specs.Translation.{Tables, tablesAfter}
 use Rattle.draft.specs.declared.Counts.{Counts}
 use Rattle.draft.specs.Kept.{Tabled, Fit}

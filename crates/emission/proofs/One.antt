@@ -9,8 +9,7 @@ use mathlib.Core.List.{List, [], _∷_, _++_}
 use lib.ListN.{length, take, set}
 use lib.Seq.{take-suc-set}
 use Rattle.rules_shared.specs.Limits.{limits}
-use Rattle.rules_object.specs.Machine.{Instr}
-use Rattle.rules_object.specs.Check.{operationNumber}
+use Rattle.rules_object.specs.Operations.{Instr, operationNumber}
 use Rattle.rules_deck.specs.Translation.{Tables, tablesAfter, operand, wordOf}
 use Rattle.draft.specs.declared.Counts.{Counts}
 use Rattle.draft.specs.Kept.{Tabled, Fit}

@@ -5,7 +5,7 @@ use Prim.Native.Nat.{ℕ, _<_, _^_}
 use mathlib.Core.List.{List, [], _∷_}
 use lib.ListN.{length}
 use Rattle.rules_object.specs.Object.{Loop}
-use Rattle.rules_object.specs.Machine.{Instr, HLT, JMP, BR3, BRC, DOI}
+use Rattle.rules_object.specs.Operations.{Instr, HLT, JMP, BR3, BRC, DOI}
 use Rattle.rules_deck.specs.Translation.{Tables}
 use Rattle.draft.specs.declared.Counts.{Counts}
 use Rattle.draft.specs.Kept.{Tabled}

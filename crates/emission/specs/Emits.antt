@@ -6,7 +6,7 @@ use mathlib.Core.Bool.{false}
 use mathlib.Core.List.{List, [], _∷_, _++_}
 use lib.ListN.{length, take}
 use Rattle.rules_shared.specs.Limits.{limits}
-use Rattle.rules_object.specs.Machine.{Instr}
+use Rattle.rules_object.specs.Operations.{Instr}
 use Rattle.rules_deck.specs.Translation.{Tables, emit, tablesOf}
 use Rattle.draft.specs.declared.Counts.{Counts}
 use Rattle.draft.specs.Kept.{Tabled, tablesFit, Fit}

@@ -6,7 +6,7 @@ use native.Mathlib.Omega.{arith}
 use mathlib.Core.List.{List, [], _∷_, _++_, append-assoc, append-nil}
 use lib.ListN.{length, getD, take, drop, length-drop}
 use Rattle.rules_shared.specs.Limits.{limits}
-use Rattle.rules_object.specs.Machine.{Instr}
+use Rattle.rules_object.specs.Operations.{Instr}
 use Rattle.rules_deck.specs.Translation.{Held, Tables, tablesOf}
 use Rattle.draft.specs.declared.Counts.{Counts}
 use Rattle.draft.specs.Parts.{Item, itemsWords, itemCode, itemsCode, Worded}

@@ -7,7 +7,7 @@ use native.Mathlib.Nat.{mod-eq-of-lt}
 use mathlib.Core.List.{List, _++_}
 use lib.ListN.{length, getD}
 use Rattle.number.specs.Number.{add, sub, mul, div}
-use Rattle.rules_object.specs.Machine.{LDE, OP, NEG}
+use Rattle.rules_object.specs.Operations.{LDE, OP, NEG}
 use Rattle.rules_shared.proofs.EachLaws.{each-head}
 use Rattle.rules_deck.specs.Translation.{elementEntry}
 use Rattle.elements.specs.declared.Subscript.{Subscript}

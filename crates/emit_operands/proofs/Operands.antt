@@ -6,7 +6,7 @@ use native.Mathlib.Omega.{arith}
 use native.Mathlib.Nat.{mod-eq-of-lt}
 use mathlib.Core.List.{List, [], _∷_, _++_, map, append-assoc, append-nil}
 use lib.ListN.{length, take, length-append}
-use Rattle.rules_object.specs.Machine.{CON, LOD, STO, STE}
+use Rattle.rules_object.specs.Operations.{CON, LOD, STO, STE}
 use Rattle.rules_object.specs.Bytes.{concat, elementWords}
 use Rattle.rules_shared.proofs.EachLaws.{each-head, each-both}
 use Rattle.rules_deck.specs.Trees.{Digits, valueOf}

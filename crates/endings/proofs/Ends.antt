@@ -8,7 +8,7 @@ use mathlib.Core.List.{List, [], _∷_, map}
 use lib.Dec.{leb, eqb}
 use lib.ListN.{length, length-map}
 use borrow.Author.Tests.{eq-eqb, ne-eqb, leb-true}
-use Rattle.rules_object.specs.Machine.{Instr, LOD, BRC, DOI}
+use Rattle.rules_object.specs.Operations.{Instr, LOD, BRC, DOI}
 use Rattle.rules_shared.proofs.EachLaws.{each-head}
 use Rattle.rules_deck.specs.Trees.{Name, Digits, valueOf, Form, goTo, computed, formExits, formLast}
 use Rattle.rules_deck.specs.Translation.{Held, isName, holds, cellOf, Tables}

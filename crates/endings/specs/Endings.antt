@@ -6,7 +6,7 @@ use mathlib.Core.Bool.{true, cond}
 use mathlib.Core.List.{List}
 use lib.Dec.{eqb}
 use lib.ListN.{length, take}
-use Rattle.rules_object.specs.Machine.{DOI}
+use Rattle.rules_object.specs.Operations.{DOI}
 use Rattle.rules_deck.specs.Trees.{Form, formLast}
 use Rattle.rules_deck.specs.Translation.{Held, Tables}
 use Rattle.rules_deck.specs.Judge.{right13}

@@ -8,8 +8,8 @@ use lib.Dec.{leb}
 use lib.ListN.{length, getD}
 use borrow.Author.Tests.{lt-ltb, le-ltb, lt-leb, le-leb}
 use Rattle.rules_object.specs.Object.{Object}
-use Rattle.rules_object.specs.Machine.{operationOf, operandOf, meant, decode}
-use Rattle.rules_object.specs.Check.{inCode, right43, entryRight, operandTests, unknownOperation, popsTable, pushesTable, operationNumber, pops, pushes, instruction}
+use Rattle.rules_object.specs.Check.{inCode}
+use Rattle.rules_object.specs.Operations.{operationOf, operandOf, meant, decode, right43, entryRight, operationAt, operationNumber, pops, pushes, instruction}
 use Rattle.word.specs.Word.{wordAt}
 use Rattle.object.specs.declared.Layout.{Layout}
 use Rattle.object.specs.Layout.{objectAt}
@@ -20,7 +20,7 @@ use Rattle.guards.specs.Guarding.{roomFor, wordOf, guardOf}
 
 -- an operation whose operand is right is one of the sixteen, and its number is its own
 module _ (o : Object) where
-  pub sixteen : (op x : ℕ) → getD operandTests op unknownOperation o x ≡ true → (op < 16) × (operationNumber (meant o op x) ≡ op)
+  pub sixteen : (op x : ℕ) → operationAt op .operandRight o x ≡ true → (op < 16) × (operationNumber (meant o op x) ≡ op)
   sixteen zero x e = (omega arith, refl)
   sixteen (suc zero) x e = (omega arith, refl)
   sixteen (suc (suc zero)) x e = (omega arith, refl)
@@ -93,10 +93,10 @@ module _ (e : Layout) (s : List ℕ) (i h : ℕ) where
         ap₂ (λ t u. cond (t && (true && u)) (roomFor (pops (instruction o i)) (pushes (instruction o i)) h) 8) (sym (inside-is l)) (sym g ∙ ap (entryRight o) W-is)
         ∙ ap (λ u. cond (inCode o i && (u && entryRight o W)) (roomFor (pops (instruction o i)) (pushes (instruction o i)) h) 8) (sym f ∙ ap (right43 o) W-is)
 
-    pub guard-room : right43 o w ≡ true → entryRight o w ≡ true → (op : ℕ) → op ≡ w / 2 ^ 24 → roomFor (getD popsTable op 0) (getD pushesTable op 0) h ≡ guardOf o i h
+    pub guard-room : right43 o w ≡ true → entryRight o w ≡ true → (op : ℕ) → op ≡ w / 2 ^ 24 → roomFor (operationAt op .pops) (operationAt op .pushes) h ≡ guardOf o i h
     unfolding guardOf
     guard-room f g op q =
         let n : op ≡ operationNumber (instruction o i) = q ∙ sym (word-sixteen o w f .1) ∙ ap (λ v. operationNumber (decode o v)) W-is in
-        ap (λ m. roomFor (getD popsTable m 0) (getD pushesTable m 0) h) n
+        ap (λ m. roomFor (operationAt m .pops) (operationAt m .pushes) h) n
         ∙ ap₂ (λ t u. cond (t && (true && u)) (roomFor (pops (instruction o i)) (pushes (instruction o i)) h) 8) (sym (inside-is l)) (sym g ∙ ap (entryRight o) W-is)
         ∙ ap (λ u. cond (inCode o i && (u && entryRight o W)) (roomFor (pops (instruction o i)) (pushes (instruction o i)) h) 8) (sym f ∙ ap (right43 o) W-is)

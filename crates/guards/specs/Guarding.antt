@@ -7,7 +7,8 @@ use mathlib.Core.List.{List}
 use lib.Dec.{leb}
 use lib.ListN.{getD}
 use Rattle.rules_object.specs.Object.{Object}
-use Rattle.rules_object.specs.Check.{inCode, right43, entryRight, pops, pushes, instruction}
+use Rattle.rules_object.specs.Check.{inCode}
+use Rattle.rules_object.specs.Operations.{right43, entryRight, pops, pushes, instruction}
 
 -- 7 where the stack has too few numbers or too little room, else 0
 unfoldable pub roomFor : ℕ → ℕ → ℕ → ℕ

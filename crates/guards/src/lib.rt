@@ -3,7 +3,7 @@ ghost use mathlib.Core.Path.{_≡_};
 ghost use mathlib.Core.Bool.{false};
 ghost use Prim.Native.Nat.{_+_, _^_, _≤_, _<_};
 ghost use lib.ListN.{getD};
-ghost use Rattle.rules_object.specs.Check.{popsTable, pushesTable};
+ghost use Rattle.rules_object.specs.Operations.{operationAt};
 ghost use Rattle.object.specs.Layout.{objectAt, Placed};
 ghost use Rattle.guards.specs.Guarding.{roomFor, guardOf, Sees};
 use arithmetic::Regs;
@@ -20,7 +20,7 @@ fn wide(n: u8) -> usize
 
 fn room(op: usize, h: usize) -> u32
     requires { ⌜ (op < 16) × (h ≤ 40) ⌝ }
-    ensures { λ r. ⌜ r ≡ roomFor (getD popsTable op 0) (getD pushesTable op 0) h ⌝ }
+    ensures { λ r. ⌜ r ≡ roomFor (operationAt op .pops) (operationAt op .pushes) h ⌝ }
 {
     let pops = wide(operands::pops_of(op));
     if h < pops {

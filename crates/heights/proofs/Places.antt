@@ -10,8 +10,8 @@ use lib.ListN.{length, getD}
 use borrow.Author.Tests.{leb-true}
 use Rattle.rules_shared.specs.Limits.{limits}
 use Rattle.rules_object.specs.Object.{Object}
-use Rattle.rules_object.specs.Machine.{Instr, operationOf, operandOf, meant, decode}
-use Rattle.rules_object.specs.Check.{right41, right43, popsTable, pushesTable, operationNumber, successors, instruction, flowOf}
+use Rattle.rules_object.specs.Check.{right41}
+use Rattle.rules_object.specs.Operations.{Instr, operationOf, operandOf, meant, decode, right43, operationAt, operationNumber, successors, instruction, flowOf}
 use Rattle.rules_object.specs.Heights.{waiting}
 use Rattle.rules_object.specs.Filling.{Filling}
 use Rattle.rules_object.proofs.Fills.{there}
@@ -71,13 +71,13 @@ module _ {e : Layout} {s : List ℕ} {a op x : ℕ} (d : Decoded e s a op x) whe
   numbered : op ≡ operationNumber (instruction (objectAt e s) a)
   numbered = sym (number-is (objectAt e s) op x op-known) ∙ ap operationNumber (d .means)
 
-  pub takes-is : (p : ℕ) → p ≡ getD popsTable op 0 → p ≡ flowOf (objectAt e s) .takes a
+  pub takes-is : (p : ℕ) → p ≡ operationAt op .pops → p ≡ flowOf (objectAt e s) .takes a
   unfolding flowOf
-  takes-is p q = q ∙ ap (λ (y : ℕ). getD popsTable y 0) numbered
+  takes-is p q = q ∙ ap (λ (y : ℕ). operationAt y .pops) numbered
 
-  pub gives-is : (p : ℕ) → p ≡ getD pushesTable op 0 → p ≡ flowOf (objectAt e s) .gives a
+  pub gives-is : (p : ℕ) → p ≡ operationAt op .pushes → p ≡ flowOf (objectAt e s) .gives a
   unfolding flowOf
-  gives-is p q = q ∙ ap (λ (y : ℕ). getD pushesTable y 0) numbered
+  gives-is p q = q ∙ ap (λ (y : ℕ). operationAt y .pushes) numbered
 
   pub width-is : (n : ℕ) → n ≡ length (successors a (meant (objectAt e s) op x)) → n ≡ flowOf (objectAt e s) .width a
   unfolding flowOf

@@ -6,7 +6,8 @@ use mathlib.Core.List.{List}
 use mathlib.Core.Option.{Option, none, some}
 use Prim.Native.Nat.{ℕ, _<_}
 use lib.ListN.{length, getD, take}
-use Rattle.rules_object.specs.Check.{right41, right43}
+use Rattle.rules_object.specs.Check.{right41}
+use Rattle.rules_object.specs.Operations.{right43}
 use Rattle.rules_object.specs.Filling.{Blank}
 use Rattle.object.specs.Layout.{Placed, objectAt}
 use Rattle.object.specs.declared.Layout.{Layout}

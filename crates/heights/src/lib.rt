@@ -2,7 +2,7 @@
 ghost use mathlib.Core.Path.{_≡_};
 ghost use Prim.Native.Nat.{_+_, _≤_, _<_};
 ghost use lib.ListN.{length};
-ghost use Rattle.rules_object.specs.Check.{flowOf};
+ghost use Rattle.rules_object.specs.Operations.{flowOf};
 ghost use Rattle.rules_object.specs.Heights.{heights, waiting};
 ghost use Rattle.rules_object.specs.Filling.{nevers, Filling};
 ghost use Rattle.object.specs.Layout.{objectAt};

@@ -9,8 +9,8 @@ use mathlib.Core.List.{List, [], _∷_}
 use mathlib.Core.Option.{Option, none, some}
 use lib.ListN.{length, getD}
 use Rattle.rules_object.specs.Object.{Object}
-use Rattle.rules_object.specs.Machine.{noElement, noLoop}
 use Rattle.rules_object.specs.Check.{rightConstant, rightElement, rightLoop, rightLine, rightNamed}
+use Rattle.rules_object.specs.Operations.{noElement, noLoop}
 use Rattle.rules_shared.specs.Refusals.{Refusal, atEntry, orElse}
 use Rattle.rules_shared.specs.Lists.{firstBad}
 use Rattle.rules_object.specs.Calls.{refused42}

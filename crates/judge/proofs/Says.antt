@@ -12,8 +12,9 @@ use lib.IntN.{natAbs}
 use borrow.Author.Tests.{lt-ltb, le-ltb}
 use Rattle.number.specs.Number.{ceiling, fits}
 use Rattle.rules_object.specs.Bytes.{signedOf}
-use Rattle.rules_object.specs.Machine.{noElement, noLoop, ruleOf}
+use Rattle.rules_object.specs.Object.{ruleOf}
 use Rattle.rules_object.specs.Check.{rightConstant, rightElement, rightLoop, rightLine}
+use Rattle.rules_object.specs.Operations.{noElement, noLoop}
 use Rattle.word.specs.Word.{wordAt}
 use Rattle.object.specs.declared.Layout.{Layout}
 use Rattle.object.specs.Layout.{elementAt, loopAt, lineAt, objectAt}

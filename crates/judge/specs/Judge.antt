@@ -8,9 +8,9 @@ use lib.Dec.{ltb}
 use lib.ListN.{getD}
 use lib.IntN.{natAbs}
 use Rattle.rules_object.specs.Object.{Line, Object}
+use Rattle.rules_object.specs.Check.{rightConstant, rightElement, rightLoop, rightLine, rightNamed}
+use Rattle.rules_object.specs.Operations.{noElement, noLoop, noEntry}
 use Rattle.rules_object.specs.Bytes.{signedOf}
-use Rattle.rules_object.specs.Machine.{noElement, noLoop}
-use Rattle.rules_object.specs.Check.{rightConstant, rightElement, rightLoop, rightLine, rightNamed, noEntry}
 use Rattle.rules_shared.specs.Refusals.{Refusal, refusal}
 use Rattle.word.specs.Word.{wordAt}
 use Rattle.object.specs.declared.Layout.{Layout}

@@ -13,12 +13,14 @@ use lib.IntN.{ℤ, pos, negsuc, negℤ}
 use borrow.Author.Tests.{ltb-true, leb-true}
 use Rattle.number.specs.Number.{Rule, Op, add, sub, mul, div, Result, value, byZero, apply}
 use Rattle.rules_shared.specs.Limits.{limits}
-use Rattle.rules_object.specs.Object.{Element, Loop, Object}
+use Rattle.rules_shared.specs.Lists.{Each, each-none, each-more}
+use Rattle.rules_object.specs.Object.{Element, Loop, Object, ruleOf}
+use Rattle.rules_object.specs.Check.{inCode, inCells, rightLoop}
+use Rattle.rules_object.specs.Operations.{Instr, HLT, CON, LOD, STO, LDE, STE, OP, NEG, JMP, BR3, BRC, DOI, DOE, operationOf, operandOf, noLoop, Operation, operations, unknown, decode, targets, exitAt, right43, entryRight, pops, pushes, instruction}
+use Rattle.rules_object.specs.Machine.{State, state, top, under, cell, operated, placeOf, elementLoaded, elementStored, branched, begun, turned, ended, act, step, room, benchStep}
 use Rattle.rules_shared.specs.Runs.{go, halt, then, run, steps}
 use Rattle.rules_object.specs.Halts.{badStack, badInstruction, Out}
 use Rattle.rules_shared.specs.Choose.{sign3, exit, positive, allPositive, Turn, again, over, turn}
-use Rattle.rules_object.specs.Machine.{Instr, HLT, CON, LOD, STO, LDE, STE, OP, NEG, JMP, BR3, BRC, DOI, DOE, operationOf, operandOf, noLoop, meanings, unknown, decode, State, state, top, under, cell, operated, placeOf, elementLoaded, elementStored, branched, begun, turned, ended, act, ruleOf, step}
-use Rattle.rules_object.specs.Check.{inCode, inCells, targets, exitAt, rightLoop, operandTests, unknownOperation, right43, noEntry, entryTests, entryRight, pops, pushes, instruction, room, benchStep}
 use Rattle.rules_object.specs.Calls.{Lent, given, ran, runFrom}
 use Rattle.rules_object.proofs.Passed.{both}
 
@@ -143,16 +145,13 @@ module _ (o : Object) where
 
   -- ---- by operation: the tests of 43 and 42 keep every target in the code
 
-  data Rows : List (Object → ℕ → Bool) → List (Object → ℕ → Bool) → List (Object → ℕ → Instr) → Type 0 where
-    end : Rows [] [] []
-    row : {f e : Object → ℕ → Bool} {m : Object → ℕ → Instr} {fs es : List (Object → ℕ → Bool)} {ms : List (Object → ℕ → Instr)}
-        → ((x : ℕ) → f o x ≡ true → e o x ≡ true → Near (m o x)) → Rows fs es ms → Rows (f ∷ fs) (e ∷ es) (m ∷ ms)
+  abbrev StaysNear : Operation → Type 0
+  StaysNear p = (x : ℕ) → p .operandRight o x ≡ true → p .entryRight o x ≡ true → Near (p .says o x)
 
-  rows-at : {fs es : List (Object → ℕ → Bool)} {ms : List (Object → ℕ → Instr)} → Rows fs es ms → (op x : ℕ) → getD fs op unknownOperation o x ≡ true → getD es op noEntry o x ≡ true
-      → Near (getD ms op unknown o x)
-  rows-at end op x f e = tt
-  rows-at (row g r) zero x f e = g x f e
-  rows-at (row g r) (suc op) x f e = rows-at r op x f e
+  near-at : (ps : List Operation) → Each StaysNear ps → (op : ℕ) → StaysNear (getD ps op unknown)
+  near-at [] n op x f e = tt
+  near-at (p ∷ ps) (each-more g r) zero x f e = g x f e
+  near-at (p ∷ ps) (each-more g r) (suc op) x f e = near-at ps r op x f e
 
   three : (x : ℕ) → (ltb (x + 2) (length (o .exits)) && targets o (take 3 (drop x (o .exits)))) ≡ true
       → Near (BR3 (getD (o .exits) x 0) (getD (o .exits) (x + 1) 0) (getD (o .exits) (x + 2) 0))
@@ -178,24 +177,24 @@ module _ (o : Object) where
   unfolding rightLoop
   body-in d q = ltb-true _ _ (both (inCells o (d .step)) _ (both (inCells o (d .limit)) _ (both (inCells o (d .variable)) _ q .1) .1) .1)
 
-  rows : Rows operandTests entryTests meanings
-  rows =
-      row (λ x f e. tt)
-      (row (λ x f e. tt)
-      (row (λ x f e. tt)
-      (row (λ x f e. tt)
-      (row (λ x f e. tt)
-      (row (λ x f e. tt)
-      (row (λ x f e. tt)
-      (row (λ x f e. tt)
-      (row (λ x f e. tt)
-      (row (λ x f e. tt)
-      (row (λ x f e. tt)
-      (row (λ x f e. ltb-true _ _ f)
-      (row (λ x f e. three x f)
-      (row (λ x f e. many x (exitAt o x) (leb (limits .fewestExits) (exitAt o x)) (leb (exitAt o x) (limits .mostExits)) (ltb (x + exitAt o x) (length (o .exits))) f)
-      (row (λ x f e. tt)
-      (row (λ x f e. body-in (getD (o .dos) x noLoop) e) end)))))))))))))))
+  all-near : Each StaysNear operations
+  all-near =
+      each-more (λ x f e. tt)
+      (each-more (λ x f e. tt)
+      (each-more (λ x f e. tt)
+      (each-more (λ x f e. tt)
+      (each-more (λ x f e. tt)
+      (each-more (λ x f e. tt)
+      (each-more (λ x f e. tt)
+      (each-more (λ x f e. tt)
+      (each-more (λ x f e. tt)
+      (each-more (λ x f e. tt)
+      (each-more (λ x f e. tt)
+      (each-more (λ x f e. ltb-true _ _ f)
+      (each-more (λ x f e. three x f)
+      (each-more (λ x f e. many x (exitAt o x) (leb (limits .fewestExits) (exitAt o x)) (leb (exitAt o x) (limits .mostExits)) (ltb (x + exitAt o x) (length (o .exits))) f)
+      (each-more (λ x f e. tt)
+      (each-more (λ x f e. body-in (getD (o .dos) x noLoop) e) each-none)))))))))))))))
 
   -- ---- a step, and a run
 
@@ -205,7 +204,7 @@ module _ (o : Object) where
   step-in t l a f e r =
       let w : ℕ = getD (o .code) (t .index) 0 in
       let b = both (leb (pops (instruction o (t .index))) (length (t .stack))) _ r in
-      act-in t (ltb-true _ _ a) (l .height) (ruleOf o) (decode o w) (rows-at rows (operationOf w) (operandOf w) f e) (leb-true _ _ (b .0)) (leb-true _ _ (b .1))
+      act-in t (ltb-true _ _ a) (l .height) (ruleOf o) (decode o w) (near-at operations all-near (operationOf w) (operandOf w) f e) (leb-true _ _ (b .0)) (leb-true _ _ (b .1))
 
   bench-in : (t : State) → Low t → Inside (benchStep o t)
   unfolding benchStep

@@ -13,8 +13,8 @@ use lib.Seq.{drop-cons, getD-take, getD-set-same, getD-set-other, ext-getD}
 use lib.IntN.{ℤ, pos, natAbs}
 use borrow.Author.Tests.{lt-ltb, le-ltb, le-leb, lt-leb, eq-eqb, ne-eqb}
 use Rattle.number.specs.Number.{Rule, ceiling, fits}
-use Rattle.rules_object.specs.Object.{Object}
-use Rattle.rules_object.specs.Machine.{cell, ruleOf}
+use Rattle.rules_object.specs.Object.{Object, ruleOf}
+use Rattle.rules_object.specs.Machine.{cell}
 use Rattle.rules_object.specs.Flow.{heightAt}
 use Rattle.rules_shared.specs.Refusals.{Refusal, refusal, orElse, unless}
 use Rattle.rules_shared.specs.Lists.{all}

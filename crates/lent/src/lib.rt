@@ -5,7 +5,7 @@ ghost use Prim.Native.Nat.{ℕ, _+_, _≤_};
 ghost use lib.ListN.{length, take, drop};
 ghost use lib.IntN.{ℤ};
 ghost use Rattle.number.specs.Number.{Rule, ceiling, fits};
-ghost use Rattle.rules_object.specs.Machine.{ruleOf};
+ghost use Rattle.rules_object.specs.Object.{ruleOf};
 ghost use Rattle.rules_shared.specs.Lists.{all};
 ghost use Rattle.rules_object.specs.Calls.{right52, refused50to52};
 ghost use Rattle.object.specs.Layout.{objectAt};

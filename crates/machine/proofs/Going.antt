@@ -9,9 +9,9 @@ use lib.IntN.{ℤ}
 use Rattle.number.specs.Number.{ceiling}
 use Rattle.rules_shared.specs.Runs.{go, halt, then, run, stepsFrom, steps}
 use Rattle.rules_object.specs.Halts.{haltNumber, Out}
-use Rattle.rules_object.specs.Object.{Object}
-use Rattle.rules_object.specs.Machine.{State, ruleOf, act, step}
-use Rattle.rules_object.specs.Check.{instruction, benchStep}
+use Rattle.rules_object.specs.Object.{Object, ruleOf}
+use Rattle.rules_object.specs.Operations.{instruction}
+use Rattle.rules_object.specs.Machine.{State, act, step, benchStep}
 use Rattle.rules_object.specs.Calls.{taken, sequenceOf, ran, halted, runFrom}
 use Rattle.rules_shared.specs.Refusals.{accepted}
 use Rattle.rules_object.specs.Safe.{Right, Faultless}

@@ -9,8 +9,9 @@ use borrow.Author.Tests.{ltb-true, leb-true, lt-ltb}
 use Rattle.rules_shared.specs.Runs.{halt}
 use Rattle.rules_object.specs.Halts.{Halt, haltNumber, badStack, badInstruction}
 use Rattle.rules_object.specs.Object.{Object}
-use Rattle.rules_object.specs.Machine.{Instr, State, operationOf, operandOf, meant, decode, step}
-use Rattle.rules_object.specs.Check.{inCode, right43, entryRight, pops, pushes, instruction, benchStep}
+use Rattle.rules_object.specs.Check.{inCode}
+use Rattle.rules_object.specs.Operations.{Instr, operationOf, operandOf, meant, decode, right43, entryRight, pops, pushes, instruction}
+use Rattle.rules_object.specs.Machine.{State, step, benchStep}
 use Rattle.rules_object.specs.Safe.{Right}
 use Rattle.operations.specs.Ready.{Ready}
 use Rattle.operations.proofs.Known.{both}

@@ -11,10 +11,11 @@ use borrow.Author.Tests.{ltb-true, leb-true}
 use Rattle.number.specs.Number.{ceiling}
 use Rattle.number.proofs.Laws.{fits-yes}
 use Rattle.rules_shared.specs.Choose as choose
-use Rattle.rules_object.specs.Object.{Element, Loop, Object}
-use Rattle.rules_object.specs.Machine.{cell, act, meant, ruleOf, noElement, noLoop}
+use Rattle.rules_object.specs.Object.{Element, Loop, Object, ruleOf}
+use Rattle.rules_object.specs.Check.{rightConstant, rightElement, rightLoop}
+use Rattle.rules_object.specs.Operations.{meant, noElement, noLoop, operationAt, noEntry}
+use Rattle.rules_object.specs.Machine.{cell, act}
 use Rattle.rules_object.specs.Machine as book
-use Rattle.rules_object.specs.Check.{rightConstant, rightElement, rightLoop, operandTests, unknownOperation, entryTests, noEntry}
 use Rattle.object.specs.declared.Layout.{Layout}
 use Rattle.object.specs.Layout.{objectAt}
 use Rattle.arithmetic.specs.declared.Regs.{Regs}
@@ -49,7 +50,7 @@ module _ (e : Layout) (s : List ℕ) where
       let q₃ = both (ltb (d .step) (o .cells)) _ (q₂ .1) in
       (ltb-true _ _ (q₁ .0), (ltb-true _ _ (q₂ .0), ltb-true _ _ (q₃ .0)))
 
-  good : (op x : ℕ) → getD operandTests op unknownOperation o x ≡ true → getD entryTests op noEntry o x ≡ true → Good (o .cells) (ceiling (ruleOf o)) (meant o op x)
+  good : (op x : ℕ) → operationAt op .operandRight o x ≡ true → operationAt op .entryRight o x ≡ true → Good (o .cells) (ceiling (ruleOf o)) (meant o op x)
   good zero x a b = leb-true x 1 a
   good (suc zero) x a b = good-constant (getD (o .constants) x 0) b
   good (suc (suc zero)) x a b = ltb-true x (o .cells) a

@@ -8,8 +8,9 @@ use lib.ListN.{length, replicate, length-replicate, getD-replicate, List·getD-e
 use lib.IntN.{ℤ, pos, natAbs}
 use Rattle.number.specs.Number.{ceiling}
 use Rattle.number.proofs.Laws.{ceiling-pos}
-use Rattle.rules_object.specs.Machine.{cell, fresh, ruleOf}
+use Rattle.rules_object.specs.Object.{ruleOf}
 use Rattle.rules_object.specs.Check.{right41}
+use Rattle.rules_object.specs.Machine.{cell, fresh}
 use Rattle.rules_object.specs.Calls.{taken, right50, right51}
 use Rattle.rules_object.specs.Safe.{Within, Stands}
 use Rattle.rules_shared.specs.Lists.{Each, each-more}

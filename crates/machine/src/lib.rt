@@ -1,9 +1,10 @@
 // The run of an object: a step, and the one loop of a run and a bench run.
 ghost use mathlib.Core.Path.{_≡_};
 ghost use mathlib.Core.Bool.{false};
-ghost use Rattle.rules_object.specs.Machine.{ruleOf};
+ghost use Rattle.rules_object.specs.Object.{ruleOf};
+ghost use Rattle.rules_object.specs.Operations.{instruction};
+ghost use Rattle.rules_object.specs.Machine.{benchStep};
 ghost use Rattle.rules_object.specs.Machine as book;
-ghost use Rattle.rules_object.specs.Check.{instruction, benchStep};
 ghost use Rattle.rules_object.specs.Calls.{runFrom, sequenceOf};
 ghost use Rattle.rules_object.specs.Safe.{Faultless};
 ghost use Rattle.object.specs.Layout.{objectAt, Placed};

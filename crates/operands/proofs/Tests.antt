@@ -8,8 +8,7 @@ use mathlib.Core.List.{List}
 use lib.Dec.{ltb}
 use lib.ListN.{getD, List·getD-eq-default}
 use Rattle.rules_object.specs.Object.{Object}
-use Rattle.rules_object.specs.Machine.{operationOf, operandOf}
-use Rattle.rules_object.specs.Check.{operandTests, right43, entryRight}
+use Rattle.rules_object.specs.Operations.{operationOf, operandOf, operations, unknown, right43, entryRight}
 use Rattle.rules_shared.specs.Lists.{firstBad}
 use Rattle.word.specs.Word.{wordAt}
 use Rattle.object.specs.declared.Layout.{Layout}
@@ -43,7 +42,7 @@ module _ (e : Layout) (s : List ℕ) (x : ℕ) where
 
 pub no-operation : (o : Object) (operation x : ℕ) → 16 ≤ operation → false ≡ operandRight o operation x
 unfolding operandRight
-no-operation o operation x h = rw (List·getD-eq-default operandTests (λ (o′ : Object) (x′ : ℕ). false) {n = operation} h)
+no-operation o operation x h = sym (ap (λ p. p .operandRight o x) (List·getD-eq-default operations unknown {n = operation} h))
 
 -- one more number that n is not
 pub above : (n k : ℕ) → k ≤ n → (n ≡ k → ⊥) → k + 1 ≤ n

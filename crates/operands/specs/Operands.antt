@@ -2,12 +2,11 @@
 -- Assumes nothing.
 use Prim.Native.Nat.{ℕ}
 use mathlib.Core.Bool.{Bool}
-use lib.ListN.{getD}
 use Rattle.rules_object.specs.Object.{Object}
-use Rattle.rules_object.specs.Check.{operandTests, unknownOperation, noEntry, entryTests}
+use Rattle.rules_object.specs.Operations.{operationAt}
 
 unfoldable pub operandRight : Object → ℕ → ℕ → Bool
-operandRight o operation x = getD operandTests operation unknownOperation o x
+operandRight o operation x = operationAt operation .operandRight o x
 
 unfoldable pub entryRightAt : Object → ℕ → ℕ → Bool
-entryRightAt o operation x = getD entryTests operation noEntry o x
+entryRightAt o operation x = operationAt operation .entryRight o x

@@ -4,8 +4,8 @@ ghost use mathlib.Core.Bool.{true};
 ghost use Prim.Native.Nat.{_+_, _^_, _≤_, _<_};
 ghost use lib.ListN.{take, drop, getD};
 ghost use Rattle.number.specs.Number.{ceiling};
-ghost use Rattle.rules_object.specs.Machine.{ruleOf};
-ghost use Rattle.rules_object.specs.Check.{targets, right43, entryRight, popsTable, pushesTable};
+ghost use Rattle.rules_object.specs.Object.{ruleOf};
+ghost use Rattle.rules_object.specs.Operations.{targets, right43, entryRight, operationAt};
 ghost use Rattle.rules_object.specs.Calls.{refused43};
 ghost use Rattle.object.specs.Layout.{Placed, objectAt};
 ghost use Rattle.judge.specs.Judge.{refusalOf};
@@ -25,14 +25,14 @@ const PUSHES: [u8; 16] = [0, 1, 1, 0, 1, 0, 1, 1, 1, 1, 1, 0, 0, 0, 0, 0];
 
 pub fn pops_of(operation: usize) -> u8
     requires { ⌜ operation < 16 ⌝ }
-    ensures { λ r. ⌜ r ≡ getD popsTable operation 0 ⌝ }
+    ensures { λ r. ⌜ r ≡ operationAt operation .pops ⌝ }
 {
     POPS[operation]
 }
 
 pub fn pushes_of(operation: usize) -> u8
     requires { ⌜ operation < 16 ⌝ }
-    ensures { λ r. ⌜ (r ≡ getD pushesTable operation 0) × (r ≤ 1) ⌝ }
+    ensures { λ r. ⌜ (r ≡ operationAt operation .pushes) × (r ≤ 1) ⌝ }
 {
     PUSHES[operation]
 }

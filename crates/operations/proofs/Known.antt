@@ -13,10 +13,11 @@ use Rattle.number.specs.Number.{Rule, ceiling}
 use Rattle.number.specs.Code.{Both}
 use Rattle.number.proofs.Laws.{ceiling-pos, ceiling-most, fits-yes}
 use Rattle.rules_shared.specs.Choose.{sign3, exit}
-use Rattle.rules_object.specs.Object.{Object}
-use Rattle.rules_object.specs.Bytes.{signedOf}
-use Rattle.rules_object.specs.Machine.{HLT, meant, noElement, noLoop, cell, ruleOf}
+use Rattle.rules_object.specs.Object.{Object, ruleOf}
 use Rattle.rules_object.specs.Check.{right41, rightConstant, rightSubscript, rightElement, rightLoop}
+use Rattle.rules_object.specs.Operations.{HLT, meant, noElement, noLoop}
+use Rattle.rules_object.specs.Machine.{cell}
+use Rattle.rules_object.specs.Bytes.{signedOf}
 use Rattle.word.specs.Word.{wordAt}
 use Rattle.object.specs.declared.Layout.{Layout}
 use Rattle.object.specs.Layout.{listFrom, elementAt, loopAt, objectAt}

@@ -10,9 +10,10 @@ use lib.ListN.{length, getD}
 use lib.IntN.{ℤ, pos, negsuc, natAbs}
 use Rattle.rules_shared.specs.Choose.{sign3}
 use Rattle.rules_object.specs.Object.{Object}
+use Rattle.rules_object.specs.Check.{right41}
+use Rattle.rules_object.specs.Operations.{meant, operationAt, noEntry, pops, pushes}
+use Rattle.rules_object.specs.Machine.{cell}
 use Rattle.word.specs.Word.{wordAt}
-use Rattle.rules_object.specs.Machine.{cell, meant}
-use Rattle.rules_object.specs.Check.{right41, operandTests, unknownOperation, entryTests, noEntry, pops, pushes}
 use Rattle.object.specs.declared.Layout.{Layout}
 use Rattle.object.specs.Layout.{objectAt, Placed}
 use Rattle.subscripts.specs.Elements.{Cell}
@@ -53,7 +54,7 @@ pub record Held (e : Layout) (s : List ℕ) (p : ℕ) (r : Regs) (st so : List �
 
 -- the operation op with operand x can be done on a stack of height h
 pub record Ready (o : Object) (op x h : ℕ) : Type 0 where
-  pub operand : getD operandTests op unknownOperation o x ≡ true
-  pub entry : getD entryTests op noEntry o x ≡ true
+  pub operand : operationAt op .operandRight o x ≡ true
+  pub entry : operationAt op .entryRight o x ≡ true
   pub popped : pops (meant o op x) ≤ h
   pub pushed : h - pops (meant o op x) + pushes (meant o op x) ≤ 40

@@ -9,8 +9,8 @@ use lib.ListN.{length, take, drop, length-take}
 use lib.IntN.{ℤ, pos, negsuc, natAbs}
 use lib.Signed.{mag}
 use Rattle.rules_object.specs.Object.{Named}
-use Rattle.rules_object.specs.Machine.{cell}
 use Rattle.rules_object.specs.Check.{span}
+use Rattle.rules_object.specs.Machine.{cell}
 use Rattle.rules_program.specs.Text.{valueLine, valueLines, nameLines}
 use Rattle.rules_program.specs.Tidy.{values}
 use Rattle.rules_program.proofs.Lengths.{line-length}

@@ -2,7 +2,7 @@
 -- Assumes nothing.
 use mathlib.Core.Path.{_≡_, ap}
 use native.Mathlib.Omega.{arith}
-use Rattle.rules_object.specs.Check.{flowOf}
+use Rattle.rules_object.specs.Operations.{flowOf}
 use Rattle.rules_shared.specs.Refusals.{Refusal, accepted}
 use Rattle.rules_object.specs.Safe.{freshLent}
 use Rattle.rules_object.proofs.HeightsExact.{table-iff-agree, height-at-reached}

@@ -14,10 +14,11 @@ use Rattle.rules_shared.specs.Runs.{go, halt, run}
 use Rattle.rules_object.specs.Halts.{haltNumber}
 use Rattle.rules_shared.specs.Choose.{positive, place}
 use Rattle.rules_object.specs.Object.{Named, Object}
+use Rattle.rules_object.specs.Check.{span, right41}
+use Rattle.rules_object.specs.Operations.{flowOf}
+use Rattle.rules_object.specs.Machine.{State, cell, step, benchStep}
 use Rattle.rules_object.specs.Bytes.{objectBytes, readObject}
 use Rattle.rules_object.specs.Writable.{IsByte, Writable}
-use Rattle.rules_object.specs.Machine.{State, cell, step}
-use Rattle.rules_object.specs.Check.{span, flowOf, benchStep, right41}
 use Rattle.rules_object.specs.Flow.{heightAt, Valid, NoTable, Reached, PathsAgree}
 use Rattle.rules_object.specs.Heights.{heights}
 use Rattle.rules_shared.specs.Refusals.{refusal, accepted, Refusal}

@@ -1,6 +1,6 @@
 -- An accepted deck's object passes 41, 42 and 43.
 -- Assumes nothing.
-use mathlib.Core.Path.{_≡_, refl, sym, ap, _∙_}
+use mathlib.Core.Path.{_≡_, refl, sym, ap, _∙_, subst}
 use mathlib.Core.Logic.{_⊎_, inl, inr}
 use Prim.Native.Nat.{ℕ, zero, suc, _+_, _*_, _^_, _≤_, _<_}
 use native.Mathlib.Omega.{arith}
@@ -13,9 +13,9 @@ use lib.IntN.{ℤ, pos, natAbs}
 use borrow.Author.Tests.{le-leb, lt-ltb, eq-eqb}
 use Rattle.number.specs.Number.{add, sub, mul, div, ceiling, fits}
 use Rattle.rules_shared.specs.Limits.{limits}
-use Rattle.rules_object.specs.Object.{SubscriptEntry, Element, Loop, Line, Named, Object}
-use Rattle.rules_object.specs.Machine.{Instr, HLT, CON, LOD, STO, LDE, STE, OP, NEG, JMP, BR3, BRC, DOI, DOE, operationOf, operandOf, ruleOf}
-use Rattle.rules_object.specs.Check.{right41, rightConstant, rightSubscript, rightElement, rightLoop, rightLine, blanks, nameTail, rightName, span, rightNamed, targets, exitAt, operandTests, unknownOperation, right43, operationNumber}
+use Rattle.rules_object.specs.Object.{SubscriptEntry, Element, Loop, Line, Named, Object, ruleOf}
+use Rattle.rules_object.specs.Check.{right41, rightConstant, rightSubscript, rightElement, rightLoop, rightLine, blanks, nameTail, rightName, span, rightNamed}
+use Rattle.rules_object.specs.Operations.{Instr, HLT, CON, LOD, STO, LDE, STE, OP, NEG, JMP, BR3, BRC, DOI, DOE, operationOf, operandOf, targets, exitAt, operationAt, right43, operationNumber}
 use Rattle.rules_shared.specs.Refusals.{atEntry}
 use Rattle.rules_shared.specs.Lists.{firstBad, Each, each-none, each-more}
 use Rattle.rules_object.specs.Calls.{refused42, refused43}
@@ -131,7 +131,7 @@ module _ {o : Object} {m n c : ℕ} (sizes : Sizes o m n c) where
   targets-right [] h = refl
   targets-right (t ∷ ts) (each-more h hs) = both (ltb t (length (o .code))) (targets o ts) (in-code t h) (targets-right ts hs)
 
-  operand-right : (i : Instr) (x : ℕ) → Right m n c i → InTables o i x → getD operandTests (operationNumber i) unknownOperation o x ≡ true
+  operand-right : (i : Instr) (x : ℕ) → Right m n c i → InTables o i x → operationAt (operationNumber i) .operandRight o x ≡ true
   operand-right (HLT y) x r h = le-leb x 1 (omega arith)
   operand-right (CON v) x r h = lt-ltb x (length (o .constants)) (at-before (o .constants) x (at-head h))
   operand-right (LOD a) x r h = in-cells x (omega arith)
@@ -213,4 +213,4 @@ module _ {k : ℕ} {deck : List Statement} (accepted : Accepted k deck) where
   passes-43 =
       ap (atEntry 43 5) (none-bad (right43 (translate k deck)) (translate k deck .code) 0 (each-place (translate k deck .code) (λ a w e.
       let x = coded a w e in
-      rw (x .2) (operand-right sizes (x .0) (operandOf w) (x .1) (x .3)))))
+      subst (λ n. operationAt n .operandRight (translate k deck) (operandOf w) ≡ true) (sym (x .2)) (operand-right sizes (x .0) (operandOf w) (x .1) (x .3)))))

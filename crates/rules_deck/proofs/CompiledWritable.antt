@@ -12,10 +12,10 @@ use lib.IntN.{ℤ, pos, negsuc, natAbs}
 use Rattle.number.specs.Number.{add, sub, mul, div}
 use Rattle.rules_shared.specs.Limits.{limits}
 use Rattle.rules_object.specs.Object.{SubscriptEntry, Element, Loop, Line, Named, Object}
+use Rattle.rules_object.specs.Check.{span, isLetter, isDigit}
+use Rattle.rules_object.specs.Operations.{Instr, HLT, CON, LOD, STO, LDE, STE, OP, NEG, JMP, BR3, BRC, DOI, DOE, operationOf, operationNumber, flowOf}
 use Rattle.rules_object.specs.Bytes.{objectBytes, readObject}
-use Rattle.rules_object.specs.Machine.{Instr, HLT, CON, LOD, STO, LDE, STE, OP, NEG, JMP, BR3, BRC, DOI, DOE, operationOf}
 use Rattle.rules_object.specs.Flow.{Reached}
-use Rattle.rules_object.specs.Check.{span, operationNumber, flowOf, isLetter, isDigit}
 use Rattle.rules_object.specs.Calls.{passed, checked, verdict, checking}
 use Rattle.rules_object.specs.Writable.{IsByte, IsWord, IsSigned, WritableSubscript, WritableElement, WritableLoop, WritableLine, WritableNamed, Writable}
 use Rattle.rules_shared.specs.Lists.{Each, each-none, each-more}

@@ -8,7 +8,7 @@ use mathlib.Core.List.{List, [], _∷_, map}
 use mathlib.Core.Option.{some}
 use lib.ListN.{length, getElem?, getD, length-map}
 use Rattle.rules_object.specs.Object.{Object}
-use Rattle.rules_object.specs.Machine.{Instr, DOE, decode}
+use Rattle.rules_object.specs.Operations.{Instr, DOE, decode}
 use Rattle.rules_shared.specs.Lists.{Each, each-none, each-more}
 use Rattle.rules_shared.proofs.EachLaws.{each-one, each-append}
 use Rattle.rules_deck.specs.Trees.{Name, valueOf, Expr, con, var, elm, neg, par, bin, Target, cell, element, Form, assign, goTo, computed, ifs, loop, continue, stop, end, dimension, Statement}

@@ -10,7 +10,8 @@ use lib.ListN.{length, getElem?}
 use lib.IntN.{ℤ}
 use Rattle.rules_shared.specs.Runs.{Outcome, go, halt}
 use Rattle.rules_shared.specs.Choose.{positive, Turn, again, over, turn}
-use Rattle.rules_object.specs.Machine.{DOE, State, state}
+use Rattle.rules_object.specs.Operations.{DOE}
+use Rattle.rules_object.specs.Machine.{State, state}
 use Rattle.rules_object.specs.Machine
 use Rattle.rules_deck.specs.Trees.{cell, Statement}
 use Rattle.rules_deck.specs.Deck.{Do, dosOf}

@@ -10,7 +10,7 @@ use lib.Dec.{leb, eqb}
 use lib.ListN.{length, getElem?, length-append, length-map, length-reverse}
 use borrow.Author.Tests.{leb-true, eqb-true}
 use Rattle.rules_shared.specs.Limits.{limits}
-use Rattle.rules_object.specs.Machine.{Instr, DOE}
+use Rattle.rules_object.specs.Operations.{Instr, DOE}
 use Rattle.rules_deck.specs.Trees.{Form, assign, goTo, computed, ifs, loop, continue, stop, end, dimension, Statement, formLast}
 use Rattle.rules_deck.specs.Deck.{positionOf, Do, doOf, dosFrom, dosOf, endingWith, endings, dimsOf}
 use Rattle.rules_deck.specs.Translation.{Held, name, array, hidden, arraySize, cellCount, heldOf, enterCode, addressOf, statementCode, doInstr, codeFrom, codeOf, Tables, noTables, tablesOf, namesFrom}

@@ -8,10 +8,9 @@ use native.Mathlib.Omega.{arith}
 use mathlib.Core.List.{List, [], _∷_, _++_, map}
 use mathlib.Core.Option.{Option, none, some}
 use lib.ListN.{length, getElem?, replicate, length-append, length-map}
-use Rattle.rules_object.specs.Machine.{Instr, OP, NEG, DOI, DOE}
+use Rattle.rules_object.specs.Operations.{Instr, OP, NEG, DOI, DOE, pops, pushes, successors}
 use Rattle.number.specs.Number.{Op, add, sub, mul, div}
 use Rattle.rules_object.specs.Flow.{heightAt}
-use Rattle.rules_object.specs.Check.{pops, pushes, successors}
 use Rattle.rules_deck.specs.Trees.{Name, Digits, valueOf, Expr, con, var, elm, neg, par, bin, Target, cell, element, Form, assign, goTo, computed, ifs, loop, continue, stop, end, dimension, Statement, formExits, formLevels}
 use Rattle.rules_deck.specs.Deck.{Dims, dimsOf, positionOf, Do, endings}
 use Rattle.rules_deck.specs.Meaning.{third}

@@ -7,7 +7,7 @@ use mathlib.Core.List.{List, [], _∷_, _++_, append-assoc}
 use mathlib.Core.Option.{some}
 use lib.ListN.{length, getElem?, replicate, length-append, length-replicate}
 use lib.Seq.{getD-append-add}
-use Rattle.rules_object.specs.Machine.{Instr, NEG}
+use Rattle.rules_object.specs.Operations.{Instr, NEG}
 use Rattle.rules_object.specs.Flow.{heightAt}
 use Rattle.rules_deck.specs.Trees.{Name, Expr, con, var, elm, neg, par, bin, levels, Form, assign, goTo, computed, ifs, loop, continue, stop, end, dimension, Statement, formLevels}
 use Rattle.rules_deck.specs.Deck.{Dims, dimsOf, endings}

@@ -11,10 +11,10 @@ use Rattle.rules_shared.specs.Limits.{limits}
 use Rattle.rules_shared.specs.Runs.{go, halt, run, steps}
 use Rattle.rules_object.specs.Halts.{Out}
 use Rattle.rules_object.specs.Object.{Object}
-use Rattle.rules_object.specs.Bytes.{objectBytes}
+use Rattle.rules_object.specs.Operations.{flowOf}
 use Rattle.rules_object.specs.Machine.{State, step}
+use Rattle.rules_object.specs.Bytes.{objectBytes}
 use Rattle.rules_object.specs.Flow.{Reached}
-use Rattle.rules_object.specs.Check.{flowOf}
 use Rattle.rules_object.specs.Calls.{Lent, taken, given, ran, running}
 use Rattle.rules_object.specs.Safe.{Stands}
 use Rattle.rules_object.proofs.HeightsExact.{height-reached}

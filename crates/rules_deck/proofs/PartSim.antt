@@ -11,7 +11,8 @@ use lib.ListN.{length, getElem?}
 use lib.IntN.{ℤ, pos, negsuc}
 use Rattle.rules_shared.specs.Runs.{go}
 use Rattle.rules_shared.specs.Choose.{sign3, exit, positive, allPositive}
-use Rattle.rules_object.specs.Machine.{STO, STE, BR3, BRC, DOI, DOE, state, placeOf, elementStored, branched}
+use Rattle.rules_object.specs.Operations.{STO, STE, BR3, BRC, DOI, DOE}
+use Rattle.rules_object.specs.Machine.{state, placeOf, elementStored, branched}
 use Rattle.rules_object.specs.Machine
 use Rattle.rules_deck.specs.Trees.{Name, Digits, valueOf, Subscripts, subscriptsNames, cell, element, Form, Statement, formExits}
 use Rattle.rules_deck.specs.Deck.{positionOf, Do, doOf, dosOf, endings, dimsOf}

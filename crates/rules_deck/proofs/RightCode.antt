@@ -9,7 +9,7 @@ use lib.ListN.{length, getElem?, length-map}
 use lib.IntN.{pos, natAbs, negℤ}
 use Rattle.rules_shared.specs.Limits.{limits}
 use Rattle.rules_object.specs.Object.{SubscriptEntry, Element}
-use Rattle.rules_object.specs.Machine.{Instr, HLT, CON, LOD, STO, LDE, STE, OP, NEG, JMP, BR3, BRC, DOI, DOE}
+use Rattle.rules_object.specs.Operations.{Instr, HLT, CON, LOD, STO, LDE, STE, OP, NEG, JMP, BR3, BRC, DOI, DOE}
 use Rattle.rules_shared.specs.Lists.{Each, each-none, each-more}
 use Rattle.rules_shared.proofs.EachLaws.{each-head, each-tail, each-one, each-append, each-left, each-right}
 use Rattle.rules_deck.specs.Trees.{Name, Digits, valueOf, Addend, nothing, plus, minus, constant, linear, Subscripts, one, two, Expr, con, var, elm, neg, par, bin, Target, cell, element, written, Form, assign, goTo, computed, ifs, loop, continue, stop, end, dimension, Statement, addendConstants, optional, subscriptNames, subscriptsNames, subscriptConstants, subscriptsConstants, exprConstants, targetConstants, formConstants, formExits}

@@ -12,7 +12,7 @@ use lib.ListN.{length, getElem?}
 use borrow.Author.Tests.{leb-true}
 use Rattle.rules_shared.specs.Limits.{limits}
 use Rattle.rules_object.specs.Object.{Element, Loop, Line, Named}
-use Rattle.rules_object.specs.Machine.{Instr, HLT, CON, LOD, STO, LDE, STE, OP, NEG, JMP, BR3, BRC, DOI, DOE}
+use Rattle.rules_object.specs.Operations.{Instr, HLT, CON, LOD, STO, LDE, STE, OP, NEG, JMP, BR3, BRC, DOI, DOE}
 use Rattle.rules_shared.specs.Lists.{Each, each-none, each-more}
 use Rattle.rules_shared.proofs.EachLaws.{each-one, each-map, each-append}
 use Rattle.rules_deck.specs.Trees.{Name, Digits, valueOf, Statement, formConstants}

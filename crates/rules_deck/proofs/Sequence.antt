@@ -11,7 +11,7 @@ use lib.Dec.{leb}
 use lib.ListN.{length, getElem?}
 use borrow.Author.Tests.{leb-true, leb-false, le-leb, lt-leb}
 use Rattle.rules_object.specs.Object.{Line}
-use Rattle.rules_object.specs.Machine.{Instr, NEG}
+use Rattle.rules_object.specs.Operations.{Instr, NEG}
 use Rattle.rules_object.specs.Calls.{lastAt, sequenceOf}
 use Rattle.rules_deck.specs.Trees.{Name, Form, assign, goTo, computed, ifs, loop, continue, stop, end, dimension, Statement}
 use Rattle.rules_deck.specs.Deck.{Dims, dimsOf, endings}

@@ -10,7 +10,8 @@ use lib.ListN.{length, getElem?, length-append, length-map}
 use lib.IntN.{ℤ}
 use Rattle.rules_shared.specs.Runs.{Outcome, go}
 use Rattle.rules_shared.specs.Choose.{exit}
-use Rattle.rules_object.specs.Machine.{DOI, DOE, State, state}
+use Rattle.rules_object.specs.Operations.{DOI, DOE}
+use Rattle.rules_object.specs.Machine.{State, state}
 use Rattle.rules_deck.specs.Trees.{valueOf, subscriptsNames, Expr, cell, element, written, Form, assign, goTo, computed, ifs, loop, continue, stop, end, dimension, Statement, formExits}
 use Rattle.rules_deck.specs.Deck.{Do, endings, dimsOf}
 use Rattle.rules_deck.specs.Meaning.{Cause, plain, Values, Bounds, Standing, standing, third, exec, execAt, meaningStep}

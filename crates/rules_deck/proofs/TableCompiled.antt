@@ -11,10 +11,9 @@ use mathlib.Core.Option.{Option, none, some}
 use lib.ListN.{length, getElem?, getD}
 use borrow.Author.Tests.{leb-true}
 use Rattle.rules_shared.specs.Limits.{limits}
-use Rattle.rules_object.specs.Machine.{Instr}
+use Rattle.rules_object.specs.Operations.{Instr, pops, pushes, successors, instruction, flowOf}
 use Rattle.rules_object.specs.Flow.{Flow, heightAt, Fine, Valid, Reached}
 use Rattle.rules_object.specs.Heights.{heights}
-use Rattle.rules_object.specs.Check.{pops, pushes, successors, instruction, flowOf}
 use Rattle.rules_object.proofs.Fills.{reached}
 use Rattle.rules_object.proofs.HeightsExact.{heights-none}
 use Rattle.rules_deck.specs.Trees.{Form, assign, goTo, computed, ifs, loop, continue, stop, end, dimension, Statement, formLevels}

@@ -13,8 +13,7 @@ use borrow.Author.Tests.{eqb-true}
 use Rattle.number.specs.Number.{add, sub, mul, div}
 use Rattle.rules_shared.specs.Limits.{limits}
 use Rattle.rules_object.specs.Object.{Object}
-use Rattle.rules_object.specs.Machine.{Instr, HLT, CON, LOD, STO, LDE, STE, OP, NEG, JMP, BR3, BRC, DOI, DOE, operationOf, operandOf, meant, decode}
-use Rattle.rules_object.specs.Check.{operationNumber}
+use Rattle.rules_object.specs.Operations.{Instr, HLT, CON, LOD, STO, LDE, STE, OP, NEG, JMP, BR3, BRC, DOI, DOE, operationOf, operandOf, meant, decode, operationNumber}
 use Rattle.rules_deck.specs.Translation.{Tables, pool, poolAt, tablesAfter, operand, wordOf, emit, tablesOf}
 use Rattle.rules_deck.proofs.Addresses.{At, none-left, has, at-head, at-tail, at-end}
 use Rattle.rules_deck.proofs.TestLaws.{clash, at-before}

@@ -10,9 +10,9 @@ use lib.IntN.{ℤ, pos}
 use Rattle.rules_shared.specs.Runs.{Outcome}
 use Rattle.rules_object.specs.Halts.{Halt, atStop, atEnd, divideByZero, badSubscript, badExit, badParameter}
 use Rattle.rules_object.specs.Object.{Named, Object}
-use Rattle.rules_object.specs.Bytes.{readObject}
-use Rattle.rules_object.specs.Machine.{cell}
 use Rattle.rules_object.specs.Check.{span}
+use Rattle.rules_object.specs.Machine.{cell}
+use Rattle.rules_object.specs.Bytes.{readObject}
 use Rattle.rules_shared.specs.Output.{Written}
 use Rattle.rules_object.specs.Calls.{Lent, sequenceOf, Ran, running}
 use Rattle.rules_object.specs.Safe.{afterSteps}

@@ -14,9 +14,10 @@ use Rattle.rules_shared.specs.Runs.{go, halt, run, steps}
 use Rattle.rules_shared.specs.Lists.{each-none}
 use Rattle.rules_object.specs.Halts.{badStack, badInstruction, Out}
 use Rattle.rules_object.specs.Object.{Object}
-use Rattle.rules_object.specs.Machine.{State, fresh, step}
+use Rattle.rules_object.specs.Check.{right41}
+use Rattle.rules_object.specs.Operations.{pops, pushes, instruction}
+use Rattle.rules_object.specs.Machine.{State, fresh, step, room, benchStep}
 use Rattle.rules_object.specs.Flow.{first}
-use Rattle.rules_object.specs.Check.{right41, pops, pushes, instruction, room, benchStep}
 use Rattle.rules_shared.specs.Refusals.{orElse, unless}
 use Rattle.rules_object.specs.Calls.{passed, checking, Lent, taken, given, right50, right51, right52, Ran, ran, runFrom, orRefused, runChecked, running, benchObject, benching}
 use Rattle.rules_object.specs.Safe.{Right, Stands, freshLent}

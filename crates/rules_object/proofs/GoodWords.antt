@@ -12,9 +12,10 @@ use borrow.Author.Tests.{ltb-true, leb-true}
 use Rattle.number.specs.Number.{fits}
 use Rattle.number.proofs.Laws.{fits-yes}
 use Rattle.rules_shared.specs.Limits.{limits}
-use Rattle.rules_object.specs.Object.{SubscriptEntry, Element, Loop, Object}
-use Rattle.rules_object.specs.Machine.{Instr, HLT, CON, LOD, STO, LDE, STE, OP, NEG, JMP, BR3, BRC, DOI, DOE, operationOf, operandOf, meanings, unknown, decode, ruleOf}
-use Rattle.rules_object.specs.Check.{inCells, rightConstant, rightSubscript, rightElement, rightLoop, right43, operandTests, unknownOperation, entryTests, noEntry, entryRight, pops, pushes, successors, instruction, flowOf}
+use Rattle.rules_shared.specs.Lists.{Each, each-none, each-more}
+use Rattle.rules_object.specs.Object.{SubscriptEntry, Element, Loop, Object, ruleOf}
+use Rattle.rules_object.specs.Check.{inCells, rightConstant, rightSubscript, rightElement, rightLoop}
+use Rattle.rules_object.specs.Operations.{Instr, HLT, CON, LOD, STO, LDE, STE, OP, NEG, JMP, BR3, BRC, DOI, DOE, operationOf, operandOf, Operation, operations, unknown, decode, right43, entryRight, pops, pushes, successors, instruction, flowOf}
 use Rattle.rules_object.specs.Flow.{heightAt}
 use Rattle.rules_object.specs.Safe.{Within}
 use Rattle.rules_object.specs.Passed.{Passed}
@@ -73,40 +74,37 @@ constant-good o c q = fits-yes (ruleOf o) (pos c) q
 
 -- ---- by operation: where the operand is right, so is the entry, and what the instruction uses
 
-data Rows (o : Object) : List (Object → ℕ → Bool) → List (Object → ℕ → Bool) → List (Object → ℕ → Instr) → Type 0 where
-  end : Rows o [] [] []
-  row : {t e : Object → ℕ → Bool} {m : Object → ℕ → Instr} {ts es : List (Object → ℕ → Bool)} {ms : List (Object → ℕ → Instr)}
-      → ((x : ℕ) → t o x ≡ true → (e o x ≡ true) × Good o (m o x)) → Rows o ts es ms → Rows o (t ∷ ts) (e ∷ es) (m ∷ ms)
+abbrev GoodWord : Object → Operation → Type 0
+GoodWord o p = (x : ℕ) → p .operandRight o x ≡ true → (p .entryRight o x ≡ true) × Good o (p .says o x)
 
-rows-at : {o : Object} {ts es : List (Object → ℕ → Bool)} {ms : List (Object → ℕ → Instr)} → Rows o ts es ms → (op x : ℕ) → getD ts op unknownOperation o x ≡ true
-    → (getD es op noEntry o x ≡ true) × Good o (getD ms op unknown o x)
-rows-at end op x e = absurd (let z : _≡_ {A = ℕ} 0 1 = cc in omega arith)
-rows-at (row f r) zero x e = f x e
-rows-at (row f r) (suc op) x e = rows-at r op x e
+good-at : {o : Object} (ps : List Operation) → Each (GoodWord o) ps → (op : ℕ) → GoodWord o (getD ps op unknown)
+good-at [] g op x e = absurd (let z : _≡_ {A = ℕ} 0 1 = cc in omega arith)
+good-at (p ∷ ps) (each-more f r) zero x e = f x e
+good-at (p ∷ ps) (each-more f r) (suc op) x e = good-at ps r op x e
 
 module _ {bytes : List ℕ} {o : Object} {table : List ℕ} (p : Passed bytes o table) where
-  rows : Rows o operandTests entryTests meanings
-  rows =
-      row (λ x e. (refl, tt))
-      (row (λ x e. let q = p .constants x (ltb-true _ _ e) in (q, constant-good o _ q))
-      (row (λ x e. (refl, ltb-true _ _ e))
-      (row (λ x e. (refl, ltb-true _ _ e))
-      (row (λ x e. let q = p .elements x (ltb-true _ _ e) in (q, element-good o _ q))
-      (row (λ x e. let q = p .elements x (ltb-true _ _ e) in (q, element-good o _ q))
-      (row (λ x e. (refl, tt))
-      (row (λ x e. (refl, tt))
-      (row (λ x e. (refl, tt))
-      (row (λ x e. (refl, tt))
-      (row (λ x e. (refl, tt))
-      (row (λ x e. (refl, tt))
-      (row (λ x e. (refl, tt))
-      (row (λ x e. (refl, tt))
-      (row (λ x e. let q = p .dos x (ltb-true _ _ e) in (q, loop-good o _ q))
-      (row (λ x e. let q = p .dos x (ltb-true _ _ e) in (q, loop-good o _ q)) end)))))))))))))))
+  all-good : Each (GoodWord o) operations
+  all-good =
+      each-more (λ x e. (refl, tt))
+      (each-more (λ x e. let q = p .constants x (ltb-true _ _ e) in (q, constant-good o _ q))
+      (each-more (λ x e. (refl, ltb-true _ _ e))
+      (each-more (λ x e. (refl, ltb-true _ _ e))
+      (each-more (λ x e. let q = p .elements x (ltb-true _ _ e) in (q, element-good o _ q))
+      (each-more (λ x e. let q = p .elements x (ltb-true _ _ e) in (q, element-good o _ q))
+      (each-more (λ x e. (refl, tt))
+      (each-more (λ x e. (refl, tt))
+      (each-more (λ x e. (refl, tt))
+      (each-more (λ x e. (refl, tt))
+      (each-more (λ x e. (refl, tt))
+      (each-more (λ x e. (refl, tt))
+      (each-more (λ x e. (refl, tt))
+      (each-more (λ x e. (refl, tt))
+      (each-more (λ x e. let q = p .dos x (ltb-true _ _ e) in (q, loop-good o _ q))
+      (each-more (λ x e. let q = p .dos x (ltb-true _ _ e) in (q, loop-good o _ q)) each-none)))))))))))))))
 
   pub word-good : (a : ℕ) → a < length (o .code) → (entryRight o (getD (o .code) a 0) ≡ true) × Good o (instruction o a)
   unfolding right43 entryRight decode
-  word-good a l = rows-at rows (operationOf (getD (o .code) a 0)) (operandOf (getD (o .code) a 0)) (p .words a l)
+  word-good a l = good-at operations all-good (operationOf (getD (o .code) a 0)) (operandOf (getD (o .code) a 0)) (p .words a l)
 
 -- ---- where it leads
 

@@ -11,9 +11,10 @@ use Rattle.number.specs.Number.{Rule, Result, value, byZero, apply}
 use Rattle.rules_shared.specs.Runs.{go, halt}
 use Rattle.rules_object.specs.Halts.{Halt, badStack, badInstruction, Out}
 use Rattle.rules_shared.specs.Choose.{exit, positive, allPositive, Turn, again, over, turn}
-use Rattle.rules_object.specs.Object.{Element, Loop, Object}
-use Rattle.rules_object.specs.Machine.{Instr, HLT, CON, LOD, STO, LDE, STE, OP, NEG, JMP, BR3, BRC, DOI, DOE, State, cell, top, under, operated, placeOf, elementLoaded, elementStored, branched, begun, turned, ended, act, ruleOf, step}
-use Rattle.rules_object.specs.Check.{inCode, right43, instruction, entryRight, room, benchStep}
+use Rattle.rules_object.specs.Object.{Element, Loop, Object, ruleOf}
+use Rattle.rules_object.specs.Check.{inCode}
+use Rattle.rules_object.specs.Operations.{Instr, HLT, CON, LOD, STO, LDE, STE, OP, NEG, JMP, BR3, BRC, DOI, DOE, right43, instruction, entryRight}
+use Rattle.rules_object.specs.Machine.{State, cell, top, under, operated, placeOf, elementLoaded, elementStored, branched, begun, turned, ended, act, step, room, benchStep}
 
 module _ (t : State) where
   -- going on, or halted at t

@@ -13,10 +13,10 @@ use borrow.Author.Tests.{ltb-true, leb-true, eqb-true, lt-ltb, le-leb, eq-eqb}
 use Rattle.number.specs.Number.{fits}
 use Rattle.number.proofs.Laws.{fits-yes, yes-fits}
 use Rattle.rules_shared.specs.Limits.{limits}
-use Rattle.rules_object.specs.Object.{Object}
-use Rattle.rules_object.specs.Machine.{State, state, fresh, cell, ruleOf}
+use Rattle.rules_object.specs.Object.{Object, ruleOf}
+use Rattle.rules_object.specs.Operations.{flowOf}
+use Rattle.rules_object.specs.Machine.{State, state, fresh, cell}
 use Rattle.rules_object.specs.Flow.{heightAt}
-use Rattle.rules_object.specs.Check.{flowOf}
 use Rattle.rules_shared.specs.Lists.{all, Each, each-none, each-more}
 use Rattle.rules_object.specs.Calls.{Lent, taken, given, right50, right51, right52}
 use Rattle.rules_object.specs.Safe.{Within, Stands}

@@ -7,9 +7,9 @@ use lib.ListN.{replicate}
 use lib.IntN.{pos}
 use Rattle.number.specs.Number.{ceiling, fits}
 use Rattle.rules_object.specs.Object.{Object}
+use Rattle.rules_object.specs.Check.{right41, rightConstant, rightElement, rightLoop, rightLine, rightNamed}
+use Rattle.rules_object.specs.Operations.{operationOf, operandOf, decode, right43, flowOf}
 use Rattle.rules_object.specs.Bytes.{signedOf, signedWord, objectWords, objectBytes, readObject}
-use Rattle.rules_object.specs.Machine.{operationOf, operandOf, decode}
-use Rattle.rules_object.specs.Check.{right41, rightConstant, rightElement, rightLoop, rightLine, rightNamed, right43, flowOf}
 use Rattle.rules_object.specs.Heights.{heights}
 use Rattle.rules_shared.specs.Refusals.{Refusal, refusal, accepted}
 use Rattle.rules_shared.specs.Output.{Written, write}

@@ -13,8 +13,8 @@ use Rattle.number.specs.Number.{fits}
 use Rattle.rules_shared.specs.Limits.{limits}
 use Rattle.rules_shared.specs.Runs.{go, halt, then, run, steps}
 use Rattle.rules_object.specs.Halts.{Out}
-use Rattle.rules_object.specs.Object.{Object}
-use Rattle.rules_object.specs.Machine.{State, ruleOf, step}
+use Rattle.rules_object.specs.Object.{Object, ruleOf}
+use Rattle.rules_object.specs.Machine.{State, step}
 use Rattle.rules_shared.specs.Refusals.{refusal, orElse, unless}
 use Rattle.rules_shared.specs.Lists.{all}
 use Rattle.rules_object.specs.Calls.{Lent, taken, given, right50, right51, right52, Ran, ran, runFrom, orRefused, runChecked, running}

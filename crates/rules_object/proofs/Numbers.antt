@@ -11,9 +11,9 @@ use lib.IntN.{ℤ, pos, negsuc, natAbs, _+ℤ_, subℕ}
 use lib.Signed.{leZ}
 use Rattle.number.specs.Number.{ceiling}
 use Rattle.number.proofs.Laws.{ceiling-pos}
-use Rattle.rules_object.specs.Object.{Object}
+use Rattle.rules_object.specs.Object.{Object, ruleOf}
+use Rattle.rules_object.specs.Machine.{cell, top, under}
 use Rattle.rules_shared.specs.Choose.{positive, Turn, again, over, turn}
-use Rattle.rules_object.specs.Machine.{cell, top, under, ruleOf}
 use Rattle.rules_object.specs.Safe.{Within}
 use Rattle.rules_shared.specs.Lists.{Each, each-none, each-more}
 

@@ -6,10 +6,10 @@ use lib.ListN.{set}
 use lib.IntN.{pos, negsuc}
 use Rattle.number.specs.Number.{ceiling, fits}
 use Rattle.rules_object.specs.Object.{Object}
+use Rattle.rules_object.specs.Check.{right41, rightConstant, rightElement, rightLoop, rightLine, rightNamed}
+use Rattle.rules_object.specs.Operations.{operationOf, operandOf, decode, right43, flowOf}
 use Rattle.rules_object.specs.Small.{does, wordHLT, wordCON, wordADD, wordJMP, wordBR3, wordBRC, wordDOE, object, codeOnly, element, loop, line, named, withLines, withNames}
 use Rattle.rules_object.specs.Bytes.{signedOf, signedWord, bytesOf, objectWords, objectBytes, readObject}
-use Rattle.rules_object.specs.Machine.{operationOf, operandOf, decode}
-use Rattle.rules_object.specs.Check.{right41, rightConstant, rightElement, rightLoop, rightLine, rightNamed, right43, flowOf}
 use Rattle.rules_object.specs.Heights.{heights}
 use Rattle.rules_shared.specs.Refusals.{Refusal, refusal, accepted}
 use Rattle.rules_object.specs.Calls.{refused42, refused43, checked, checking}

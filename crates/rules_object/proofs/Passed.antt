@@ -9,8 +9,8 @@ use native.Mathlib.Decide.{decLt}
 use native.Mathlib.Omega.{arith}
 use lib.ListN.{length, getD, List·getD-eq-default}
 use Rattle.rules_object.specs.Object.{Object}
-use Rattle.rules_object.specs.Machine.{noElement, noLoop, operationOf, operandOf}
-use Rattle.rules_object.specs.Check.{right41, rightConstant, rightElement, rightLoop, right43, flowOf, rightLine, rightNamed, operandTests, unknownOperation}
+use Rattle.rules_object.specs.Check.{right41, rightConstant, rightElement, rightLoop, rightLine, rightNamed}
+use Rattle.rules_object.specs.Operations.{noElement, noLoop, operationOf, operandOf, right43, flowOf, operations, unknown}
 use Rattle.rules_object.specs.Heights.{heights}
 use Rattle.rules_shared.specs.Refusals.{Refusal, atEntry, orElse, unless}
 use Rattle.rules_shared.specs.Lists.{firstBad, Each, each-none, each-more}
@@ -62,7 +62,7 @@ right-word o word e = record { known = by (decLt (operationOf word) 16); operand
     by : Dec (operationOf word < 16) → operationOf word < 16
     by (yes l) = l
     by (no l) =
-        let q = ap (λ test. test o (operandOf word)) (List·getD-eq-default operandTests unknownOperation {n = operationOf word} (omega arith)) in
+        let q = ap (λ p. p .operandRight o (operandOf word)) (List·getD-eq-default operations unknown {n = operationOf word} (omega arith)) in
         let t : true ≡ false = sym e ∙ q in
         absurd (let z : _≡_ {A = ℕ} 0 1 = cc in omega arith)
 

@@ -13,9 +13,9 @@ use Rattle.number.specs.Number.{Rule, Result, value, byZero, apply}
 use Rattle.rules_shared.specs.Runs.{go, run, steps}
 use Rattle.rules_object.specs.Halts.{Out}
 use Rattle.rules_shared.specs.Choose.{exit, place, positive, allPositive, Turn, again, over, turn}
-use Rattle.rules_object.specs.Object.{SubscriptEntry, Element, Loop, Object}
-use Rattle.rules_object.specs.Machine.{Instr, HLT, CON, LOD, STO, LDE, STE, OP, NEG, JMP, BR3, BRC, DOI, DOE, State, state, cell, top, under, operated, subscriptValue, placeOf, elementLoaded, elementStored, branched, begun, turned, ended, act, ruleOf, step}
-use Rattle.rules_object.specs.Check.{instruction}
+use Rattle.rules_object.specs.Object.{SubscriptEntry, Element, Loop, Object, ruleOf}
+use Rattle.rules_object.specs.Operations.{Instr, HLT, CON, LOD, STO, LDE, STE, OP, NEG, JMP, BR3, BRC, DOI, DOE, instruction}
+use Rattle.rules_object.specs.Machine.{State, state, cell, top, under, operated, subscriptValue, placeOf, elementLoaded, elementStored, branched, begun, turned, ended, act, step}
 use Rattle.rules_object.specs.Safe.{Stands, withCells}
 use Rattle.rules_shared.proofs.RunLaws.{mapOut, run-map, steps-map}
 use Rattle.rules_object.specs.Passed.{Passed}

@@ -15,9 +15,9 @@ use lib.IntN.{ℤ}
 use Rattle.rules_shared.specs.Runs.{go, halt, run, steps}
 use Rattle.rules_object.specs.Halts.{Out}
 use Rattle.rules_object.specs.Object.{Object}
+use Rattle.rules_object.specs.Check.{right41}
+use Rattle.rules_object.specs.Machine.{State, fresh, benchStep}
 use Rattle.rules_object.specs.Bytes.{readObject}
-use Rattle.rules_object.specs.Machine.{State, fresh}
-use Rattle.rules_object.specs.Check.{right41, benchStep}
 use Rattle.rules_shared.specs.Refusals.{Refusal, refusal, accepted, orElse, unless}
 use Rattle.rules_shared.specs.Output.{Written, notWritten, writtenIf, write}
 use Rattle.rules_object.specs.Calls.{refused, passed, checked, verdict, checking, Lent, right50, right51, Ran, notRun, ran, runFrom, orRefused, runChecked, running, benchObject, benching, mapOf, mapChecked, mapping}

@@ -10,9 +10,10 @@ use Rattle.rules_shared.specs.Limits.{limits}
 use Rattle.rules_object.specs.Halts.{haltNumber}
 use Rattle.rules_shared.specs.Choose.{place, turn}
 use Rattle.rules_object.specs.Object.{Object}
+use Rattle.rules_object.specs.Check.{right41, rightConstant, rightElement, rightLoop, rightLine, rightNamed}
+use Rattle.rules_object.specs.Operations.{operationOf, operandOf, decode, right43, flowOf, entryRight}
+use Rattle.rules_object.specs.Machine.{step, benchStep}
 use Rattle.rules_object.specs.Bytes.{signedOf, signedWord, objectWords, objectBytes, readObject}
-use Rattle.rules_object.specs.Machine.{operationOf, operandOf, decode, step}
-use Rattle.rules_object.specs.Check.{right41, rightConstant, rightElement, rightLoop, rightLine, rightNamed, right43, flowOf, entryRight, benchStep}
 use Rattle.rules_object.specs.Heights.{heights}
 use Rattle.rules_shared.specs.Refusals.{refusal, accepted}
 use Rattle.rules_object.specs.Calls.{refused42, refused43, checked, Lent, taken, given, right50, right51, right52, sequenceOf, Ran, notRun, running, benching}

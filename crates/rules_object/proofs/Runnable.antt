@@ -13,10 +13,10 @@ use lib.IntN.{ℤ}
 use Rattle.rules_shared.specs.Limits.{limits}
 use Rattle.rules_shared.specs.Lists.{each-none}
 use Rattle.rules_object.specs.Object.{Object}
+use Rattle.rules_object.specs.Check.{right41}
+use Rattle.rules_object.specs.Machine.{fresh, step, benchStep}
 use Rattle.rules_object.specs.Bytes.{readObject}
-use Rattle.rules_object.specs.Machine.{fresh, step}
 use Rattle.rules_object.specs.Flow.{first}
-use Rattle.rules_object.specs.Check.{right41, benchStep}
 use Rattle.rules_shared.specs.Refusals.{accepted}
 use Rattle.rules_object.specs.Calls.{verdict, checking, Lent, taken, right50, right51, runFrom, orRefused, running, benchObject, benching}
 use Rattle.rules_object.specs.Safe.{Stands, freshLent}

@@ -14,9 +14,9 @@ use Rattle.rules_shared.specs.Limits.{limits}
 use Rattle.rules_shared.specs.Runs.{go, halt, run}
 use Rattle.rules_object.specs.Halts.{Halt, haltNumber, Out}
 use Rattle.rules_shared.specs.Choose.{sign3, exit, positive, allPositive, Turn, again, over, turn, marked}
-use Rattle.rules_object.specs.Object.{Element, Loop, Object}
-use Rattle.rules_object.specs.Machine.{Instr, HLT, CON, LOD, STO, LDE, STE, OP, NEG, JMP, BR3, BRC, DOI, DOE, State, state, cell, top, under, operated, placeOf, elementLoaded, elementStored, branched, begun, turned, ended, halts, act, ruleOf, step}
-use Rattle.rules_object.specs.Check.{pops, pushes, instruction}
+use Rattle.rules_object.specs.Object.{Element, Loop, Object, ruleOf}
+use Rattle.rules_object.specs.Operations.{Instr, HLT, CON, LOD, STO, LDE, STE, OP, NEG, JMP, BR3, BRC, DOI, DOE, pops, pushes, instruction}
+use Rattle.rules_object.specs.Machine.{State, state, cell, top, under, operated, placeOf, elementLoaded, elementStored, branched, begun, turned, ended, halts, act, step}
 use Rattle.rules_object.specs.Safe.{elementCell, elementCells, touchedBy, touches, Right, Within, Stands}
 use Rattle.rules_shared.specs.Lists.{Each, each-none, each-more}
 use Rattle.rules_shared.proofs.EachLaws.{each-one}

@@ -8,8 +8,7 @@ use lib.IntN.{ℤ}
 use Rattle.rules_shared.specs.Runs.{go, halt, run, steps}
 use Rattle.rules_object.specs.Halts.{Halt, Out}
 use Rattle.rules_object.specs.Object.{Object}
-use Rattle.rules_object.specs.Machine.{State, fresh, step}
-use Rattle.rules_object.specs.Check.{benchStep}
+use Rattle.rules_object.specs.Machine.{State, fresh, step, benchStep}
 use Rattle.rules_shared.specs.Refusals.{accepted}
 use Rattle.rules_object.specs.Calls.{Lent, taken, given, Ran, ran, runFrom, running, benching}
 use Rattle.rules_object.specs.Promised.{HaltsAt, StepsOf}

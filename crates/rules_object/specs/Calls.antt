@@ -11,12 +11,13 @@ use Rattle.number.specs.Number.{fits}
 use Rattle.rules_shared.specs.Limits.{limits}
 use Rattle.rules_shared.specs.Runs.{go, halt, run, steps}
 use Rattle.rules_object.specs.Halts.{haltNumber, Out}
-use Rattle.rules_object.specs.Object.{Line, Object}
+use Rattle.rules_object.specs.Object.{Line, Object, ruleOf}
+use Rattle.rules_object.specs.Check.{right41, rightConstant, rightElement, rightLoop, rightLine, rightNamed}
+use Rattle.rules_object.specs.Operations.{right43, flowOf}
+use Rattle.rules_object.specs.Machine.{State, state, fresh, step, benchStep}
 use Rattle.rules_object.specs.Bytes.{concat, bytesOf, nameWords, readObject}
-use Rattle.rules_object.specs.Machine.{State, state, fresh, ruleOf, step}
 use Rattle.rules_object.specs.Flow.{heightAt}
 use Rattle.rules_object.specs.Heights.{heights}
-use Rattle.rules_object.specs.Check.{right41, rightConstant, rightElement, rightLoop, rightLine, rightNamed, right43, flowOf, benchStep}
 use Rattle.rules_shared.specs.Refusals.{Refusal, refusal, accepted, atEntry, orElse, unless}
 use Rattle.rules_shared.specs.Lists.{all, firstBad}
 use Rattle.rules_shared.specs.Output.{Written, notWritten, write}

@@ -2,11 +2,12 @@ pub mod Halts
 pub mod Object
 pub mod Bytes
 pub mod Writable
-pub mod Machine
 pub mod Flow
 pub mod Heights
 pub mod Filling
 pub mod Check
+pub mod Operations
+pub mod Machine
 pub mod Calls
 pub mod Passed
 pub mod Safe

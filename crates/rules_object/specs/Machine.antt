@@ -1,79 +1,20 @@
--- The machine: what a word says, and one step of it. 01 "Translation", "Running".
+-- The machine: its state, one step of it, and a step with the tests of a bench run. 01 "Translation", "Running".
 -- Assumes nothing.
-use Prim.Native.Nat.{ℕ, zero, suc, _+_, _/_, _%_, _^_}
-use mathlib.Core.Bool.{Bool, true, false}
+use Prim.Native.Nat.{ℕ, zero, suc, _+_, _-_}
+use mathlib.Core.Bool.{Bool, true, false, _&&_, cond}
 use mathlib.Core.List.{List, [], _∷_}
 use mathlib.Core.Option.{Option, none, some}
-use lib.ListN.{getD, set, take, drop}
+use lib.Dec.{leb}
+use lib.ListN.{length, getD, set}
 use lib.IntN.{ℤ, pos, negℤ, _+ℤ_, _*ℤ_}
-use Rattle.number.specs.Number.{Rule, Op, add, sub, mul, div, Result, value, byZero, apply}
+use Rattle.number.specs.Number.{Rule, Result, value, byZero, apply}
+use Rattle.rules_shared.specs.Limits.{limits}
 use Rattle.rules_shared.specs.Runs.{go, halt}
-use Rattle.rules_object.specs.Halts.{Halt, atStop, atEnd, divideByZero, badSubscript, badExit, badParameter, Out}
+use Rattle.rules_object.specs.Halts.{Halt, atStop, atEnd, divideByZero, badSubscript, badExit, badParameter, badStack, badInstruction, Out}
 use Rattle.rules_shared.specs.Choose.{sign3, exit, place, positive, allPositive, Turn, again, over, turn, marked}
-use Rattle.rules_object.specs.Object.{SubscriptEntry, Element, Loop, Object}
-
--- ---- what a word says
-
--- an operation with what its operand stands for
-pub data Instr : Type 0 where
-  -- STOP (0) or END
-  HLT : ℕ → Instr
-  CON : ℕ → Instr
-  LOD STO : ℕ → Instr
-  LDE STE : Element → Instr
-  OP : Op → Instr
-  NEG : Instr
-  JMP : ℕ → Instr
-  BR3 : ℕ → ℕ → ℕ → Instr
-  BRC : List ℕ → Instr
-  -- a DO by its entry's number, and the entry
-  DOI DOE : ℕ → Loop → Instr
-
--- the top eight bits name the operation, the low twenty-four the operand
-unfoldable pub operationOf : ℕ → ℕ
-operationOf word = word / 2 ^ 24
-
-unfoldable pub operandOf : ℕ → ℕ
-operandOf word = word % 2 ^ 24
-
-abbrev pub noSubscript : SubscriptEntry
-noSubscript = record { times = 0; cell = 0; plus = pos 0 }
-
--- entries that stand in for those outside a body, where nothing was checked
-abbrev pub noElement : Element
-noElement = record { base = 0; rows = 0; columns = 0; first = noSubscript; second = noSubscript }
-
-abbrev pub noLoop : Loop
-noLoop = record { variable = 0; limit = 0; step = 0; body = 0 }
-
--- the operations by number
-abbrev pub meanings : List (Object → ℕ → Instr)
-meanings =
-    (λ o x. HLT x) ∷
-    (λ o x. CON (getD (o .constants) x 0)) ∷
-    (λ o x. LOD x) ∷
-    (λ o x. STO x) ∷
-    (λ o x. LDE (getD (o .elements) x noElement)) ∷
-    (λ o x. STE (getD (o .elements) x noElement)) ∷
-    (λ o x. OP add) ∷
-    (λ o x. OP sub) ∷
-    (λ o x. OP mul) ∷
-    (λ o x. OP div) ∷
-    (λ o x. NEG) ∷
-    (λ o x. JMP x) ∷
-    (λ o x. BR3 (getD (o .exits) x 0) (getD (o .exits) (x + 1) 0) (getD (o .exits) (x + 2) 0)) ∷
-    (λ o x. BRC (take (getD (o .exits) x 0) (drop (x + 1) (o .exits)))) ∷
-    (λ o x. DOI x (getD (o .dos) x noLoop)) ∷
-    (λ o x. DOE x (getD (o .dos) x noLoop)) ∷ []
-
-abbrev pub unknown : Object → ℕ → Instr
-unknown o x = HLT x
-
-abbrev pub meant : Object → ℕ → ℕ → Instr
-meant o operation operand = getD meanings operation unknown o operand
-
-unfoldable pub decode : Object → ℕ → Instr
-decode o word = meant o (operationOf word) (operandOf word)
+use Rattle.rules_object.specs.Object.{SubscriptEntry, Element, Loop, Object, ruleOf}
+use Rattle.rules_object.specs.Check.{inCode}
+use Rattle.rules_object.specs.Operations.{Instr, HLT, CON, LOD, STO, LDE, STE, OP, NEG, JMP, BR3, BRC, DOI, DOE, right43, entryRight, instruction, pops, pushes}
 
 -- ---- the state
 
@@ -162,9 +103,18 @@ act r (DOI n d) t =
     begun (allPositive (top (under (under (t .stack)))) (top (under (t .stack))) (top (t .stack))) d (top (under (under (t .stack)))) (top (under (t .stack))) (top (t .stack)) t
 act r (DOE n d) t = ended (positive (cell (t .store) (d .step))) d t
 
-abbrev pub ruleOf : Object → Rule
-ruleOf o = record { digits = o .digits }
-
 -- one step of a run
 unfoldable pub step : Object → State → Out State
-step o t = act (ruleOf o) (decode o (getD (o .code) (t .index) 0)) t
+step o t = act (ruleOf o) (instruction o (t .index)) t
+
+-- ---- a step of a bench run: 8 (outside the code, breaks 43, or uses an entry that breaks 42), then 7 (the stack), then the instruction
+
+-- popped first, then pushed
+abbrev pub room : Instr → List ℤ → Bool
+room i s = leb (pops i) (length s) && leb (length s - pops i + pushes i) (limits .stack)
+
+unfoldable pub benchStep : Object → State → Out State
+benchStep o t =
+    cond (inCode o (t .index) && (right43 o (getD (o .code) (t .index) 0) && entryRight o (getD (o .code) (t .index) 0)))
+    (cond (room (instruction o (t .index)) (t .stack)) (step o t) (halt badStack t))
+    (halt badInstruction t)

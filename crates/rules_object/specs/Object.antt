@@ -3,6 +3,7 @@
 use Prim.Native.Nat.{ℕ}
 use mathlib.Core.List.{List}
 use lib.IntN.{ℤ}
+use Rattle.number.specs.Number.{Rule}
 
 -- multiplier, cell and signed addend
 pub record SubscriptEntry : Type 0 where
@@ -47,3 +48,6 @@ pub record Object : Type 0 where
   pub code : List ℕ
   pub lines : List Line
   pub names : List Named
+
+abbrev pub ruleOf : Object → Rule
+ruleOf o = record { digits = o .digits }

@@ -7,10 +7,10 @@ use mathlib.Core.Option.{some}
 use Prim.Native.Nat.{ℕ, _<_}
 use lib.ListN.{length, getD}
 use Rattle.rules_object.specs.Object.{Object}
+use Rattle.rules_object.specs.Check.{right41, rightConstant, rightElement, rightLoop}
+use Rattle.rules_object.specs.Operations.{noElement, noLoop, right43, flowOf}
 use Rattle.rules_object.specs.Bytes.{readObject}
-use Rattle.rules_object.specs.Machine.{noElement, noLoop}
 use Rattle.rules_object.specs.Flow.{Least}
-use Rattle.rules_object.specs.Check.{right41, rightConstant, rightElement, rightLoop, right43, flowOf}
 
 pub record Passed (bytes : List ℕ) (o : Object) (table : List ℕ) : Type 0 where
   pub reads : readObject bytes ≡ some o

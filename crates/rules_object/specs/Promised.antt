@@ -11,11 +11,12 @@ use Rattle.rules_shared.specs.Limits.{limits}
 use Rattle.rules_shared.specs.Runs.{go, halt}
 use Rattle.rules_object.specs.Halts.{Out}
 use Rattle.rules_object.specs.Object.{Object}
+use Rattle.rules_object.specs.Check.{right41, rightConstant, rightElement, rightLoop, rightLine, rightNamed}
+use Rattle.rules_object.specs.Operations.{operationOf, right43, flowOf}
+use Rattle.rules_object.specs.Machine.{State, cell, step}
 use Rattle.rules_object.specs.Bytes.{readObject}
 use Rattle.rules_shared.specs.Lists.{Each}
-use Rattle.rules_object.specs.Machine.{State, operationOf, cell, step}
 use Rattle.rules_object.specs.Flow.{Reached}
-use Rattle.rules_object.specs.Check.{right41, rightConstant, rightElement, rightLoop, rightLine, rightNamed, right43, flowOf}
 use Rattle.rules_shared.specs.Refusals.{accepted}
 use Rattle.rules_object.specs.Calls.{checking, Lent, right50, right51, Ran}
 use Rattle.rules_object.specs.Safe.{touches, In, AgreeIn, AlikeIn, Within}

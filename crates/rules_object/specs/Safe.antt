@@ -12,9 +12,9 @@ use Rattle.number.specs.Number.{ceiling}
 use Rattle.rules_shared.specs.Limits.{limits}
 use Rattle.rules_shared.specs.Runs.{go, halt, run, steps}
 use Rattle.rules_object.specs.Halts.{Halt, haltNumber, Out}
-use Rattle.rules_object.specs.Object.{Element, Loop, Object}
-use Rattle.rules_object.specs.Machine.{Instr, HLT, CON, LOD, STO, LDE, STE, OP, NEG, JMP, BR3, BRC, DOI, DOE, State, state, cell, placeOf, ruleOf, step}
-use Rattle.rules_object.specs.Check.{right43, entryRight, pops, pushes, instruction, benchStep}
+use Rattle.rules_object.specs.Object.{Element, Loop, Object, ruleOf}
+use Rattle.rules_object.specs.Operations.{Instr, HLT, CON, LOD, STO, LDE, STE, OP, NEG, JMP, BR3, BRC, DOI, DOE, right43, entryRight, pops, pushes, instruction}
+use Rattle.rules_object.specs.Machine.{State, state, cell, placeOf, step, benchStep}
 use Rattle.rules_object.specs.Flow.{heightAt}
 use Rattle.rules_shared.specs.Refusals.{accepted}
 use Rattle.rules_shared.specs.Output.{Written}

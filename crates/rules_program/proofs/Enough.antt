@@ -10,9 +10,9 @@ use lib.ListN.{length, replicate, length-replicate}
 use borrow.Author.Tests.{leb-true, le-leb}
 use Rattle.rules_shared.specs.Limits.{limits}
 use Rattle.rules_object.specs.Object.{Object}
+use Rattle.rules_object.specs.Check.{right41}
 use Rattle.rules_object.specs.Bytes.{objectBytes}
 use Rattle.rules_object.specs.Writable.{bodyWords}
-use Rattle.rules_object.specs.Check.{right41}
 use Rattle.rules_shared.specs.Refusals.{accepted}
 use Rattle.rules_shared.specs.Output.{writtenIf, write}
 use Rattle.rules_object.proofs.Passed.{both}

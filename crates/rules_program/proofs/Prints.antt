@@ -14,10 +14,10 @@ use borrow.Author.Tests.{leb-true, le-leb}
 use Rattle.number.specs.Number.{fits}
 use Rattle.number.proofs.Laws.{ceiling-pos, yes-fits}
 use Rattle.rules_shared.specs.Limits.{limits}
-use Rattle.rules_object.specs.Object.{Object}
-use Rattle.rules_object.specs.Bytes.{objectBytes}
-use Rattle.rules_object.specs.Machine.{ruleOf, fresh, step}
+use Rattle.rules_object.specs.Object.{Object, ruleOf}
 use Rattle.rules_object.specs.Check.{right41}
+use Rattle.rules_object.specs.Machine.{fresh, step}
+use Rattle.rules_object.specs.Bytes.{objectBytes}
 use Rattle.rules_shared.specs.Refusals.{Refusal, accepted}
 use Rattle.rules_shared.specs.Lists.{all}
 use Rattle.rules_shared.specs.Output.{writtenIf, write}

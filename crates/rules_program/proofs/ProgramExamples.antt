@@ -8,8 +8,9 @@ use Rattle.number.specs.Number.{ceiling, fits, keep, drops, kept, divided, appl
 use Rattle.rules_object.specs.Halts.{haltNumber}
 use Rattle.rules_shared.specs.Choose.{place, turn}
 use Rattle.rules_object.specs.Bytes.{signedOf, signedWord, objectWords, objectBytes, readObject}
-use Rattle.rules_object.specs.Machine.{operationOf, operandOf, decode, step}
-use Rattle.rules_object.specs.Check.{right41, rightConstant, rightElement, rightLoop, rightLine, rightNamed, right43, flowOf, entryRight, benchStep}
+use Rattle.rules_object.specs.Check.{right41, rightConstant, rightElement, rightLoop, rightLine, rightNamed}
+use Rattle.rules_object.specs.Operations.{operationOf, operandOf, decode, right43, flowOf, entryRight}
+use Rattle.rules_object.specs.Machine.{step, benchStep}
 use Rattle.rules_object.specs.Heights.{heights}
 use Rattle.rules_shared.specs.Output.{write}
 use Rattle.rules_object.specs.Calls.{refused42, refused43, checked, checking, taken, given, right50, right51, right52, sequenceOf, running, benching, mapOf, mapping}

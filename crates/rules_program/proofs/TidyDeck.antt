@@ -6,8 +6,8 @@ use mathlib.Core.List.{List, [], _∷_}
 use mathlib.Core.Option.{some}
 use native.Mathlib.Omega.{arith}
 use Rattle.rules_object.specs.Object.{Object}
-use Rattle.rules_object.specs.Bytes.{objectBytes}
 use Rattle.rules_object.specs.Check.{span}
+use Rattle.rules_object.specs.Bytes.{objectBytes}
 use Rattle.rules_deck.specs.Trees.{Statement}
 use Rattle.rules_deck.specs.Deck.{width}
 use Rattle.rules_deck.specs.Translation.{Held, name, array, hidden, arraySize, cellCount, heldOf, namesFrom, translate}

@@ -7,8 +7,8 @@ use mathlib.Core.Option.{some}
 use lib.ListN.{getElem?}
 use Rattle.rules_shared.specs.Limits.{limits}
 use Rattle.rules_object.specs.Object.{Named, Object}
-use Rattle.rules_object.specs.Bytes.{readObject}
 use Rattle.rules_object.specs.Check.{span}
+use Rattle.rules_object.specs.Bytes.{readObject}
 
 -- how many values the names have together
 abbrev pub values : List Named → ℕ

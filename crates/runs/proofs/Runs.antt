@@ -12,10 +12,10 @@ use borrow.Author.Tests.{leb-true, eqb-true}
 use lib.IntN.{ℤ, pos}
 use Rattle.rules_shared.specs.Limits.{limits}
 use Rattle.rules_object.specs.Object.{Object}
-use Rattle.rules_object.specs.Machine.{State, state, fresh, step}
+use Rattle.rules_object.specs.Check.{right41}
+use Rattle.rules_object.specs.Machine.{State, state, fresh, step, benchStep}
 use Rattle.rules_object.specs.Flow.{heightAt}
 use Rattle.rules_object.specs.Bytes.{readObject}
-use Rattle.rules_object.specs.Check.{right41, benchStep}
 use Rattle.rules_object.specs.Safe.{Faultless, Stands}
 use Rattle.rules_shared.specs.Refusals.{Refusal, orElse, unless}
 use Rattle.rules_object.specs.Calls.{Checked, passed, Lent, taken, right50, right51, right52, sequenceOf, runFrom, orRefused, runChecked, running, benchObject, benching, refused50to52}

@@ -10,7 +10,7 @@ use mathlib.Core.Option.{some}
 use lib.Dec.{eqb}
 use lib.ListN.{length, take, drop, getD, getElem?, length-append, length-map}
 use lib.Seq.{take-length}
-use Rattle.rules_object.specs.Machine.{Instr, DOE}
+use Rattle.rules_object.specs.Operations.{Instr, DOE}
 use Rattle.rules_deck.specs.Trees.{Name, valueOf, Expr, con, var, elm, neg, par, bin, Target, cell, element, Form, assign, goTo, computed, ifs, loop, continue, stop, end, dimension, Statement, formExits, formLast}
 use Rattle.rules_deck.specs.Deck.{Dims, Do, dimsOf, endings}
 use Rattle.rules_deck.specs.Meaning.{third}

@@ -6,8 +6,7 @@ use native.Mathlib.Omega.{arith}
 use mathlib.Core.List.{List, [], _∷_, _++_}
 use lib.ListN.{length, length-append, length-map}
 use Rattle.rules_object.specs.Object.{Element, Loop}
-use Rattle.rules_object.specs.Machine.{Instr, HLT, CON, LOD, STO, LDE, STE, OP, NEG, JMP, BR3, BRC, DOI, DOE}
-use Rattle.rules_object.specs.Check.{operationNumber}
+use Rattle.rules_object.specs.Operations.{Instr, HLT, CON, LOD, STO, LDE, STE, OP, NEG, JMP, BR3, BRC, DOI, DOE, operationNumber}
 use Rattle.rules_deck.specs.Trees.{Name, valueOf, Form, assign, goTo, computed, ifs, loop, continue, stop, end, dimension}
 use Rattle.rules_deck.specs.Deck.{Dims}
 use Rattle.rules_deck.specs.Meaning.{third}

@@ -6,7 +6,7 @@ use native.Mathlib.Omega.{arith}
 use mathlib.Core.Bool.{true}
 use mathlib.Core.List.{List, [], _∷_, _++_, map}
 use lib.ListN.{length, take, length-append}
-use Rattle.rules_object.specs.Machine.{Instr}
+use Rattle.rules_object.specs.Operations.{Instr}
 use Rattle.rules_object.specs.Bytes.{concat}
 use Rattle.rules_object.specs.Bytes as object
 use Rattle.rules_deck.specs.Trees.{Form}

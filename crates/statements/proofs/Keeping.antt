@@ -9,7 +9,7 @@ use lib.Dec.{leb}
 use lib.ListN.{length, take, length-append}
 use borrow.Author.Tests.{le-leb, lt-leb}
 use Rattle.rules_object.specs.Object.{Loop}
-use Rattle.rules_object.specs.Machine.{Instr}
+use Rattle.rules_object.specs.Operations.{Instr}
 use Rattle.rules_object.specs.Bytes.{concat}
 use Rattle.rules_object.specs.Bytes as object
 use Rattle.rules_deck.specs.Trees.{Form, formLast, Statement}

@@ -6,8 +6,8 @@ use Prim.Native.Nat.{ℕ, _+_, _*_, _≤_, _<_}
 use lib.ListN.{length}
 use lib.IntN.{ℤ, natAbs}
 use Rattle.rules_object.specs.Object.{SubscriptEntry}
-use Rattle.rules_object.specs.Bytes.{signedOf}
 use Rattle.rules_object.specs.Machine.{cell}
+use Rattle.rules_object.specs.Bytes.{signedOf}
 use Rattle.word.specs.Word.{wordAt}
 use Rattle.subscripts.specs.declared.Place.{Place}
 use Rattle.subscripts.specs.declared.Place.the-variants.{At, Nowhere}

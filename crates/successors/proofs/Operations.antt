@@ -13,8 +13,7 @@ use lib.Seq.{length-take-le, getD-take, getD-drop}
 use borrow.Author.Tests.{ltb-true}
 use Rattle.rules_shared.specs.Limits.{limits}
 use Rattle.rules_object.specs.Object.{Object}
-use Rattle.rules_object.specs.Machine.{meant, noLoop}
-use Rattle.rules_object.specs.Check.{operandTests, unknownOperation, exitAt, operationNumber, successors}
+use Rattle.rules_object.specs.Operations.{meant, noLoop, operations, unknown, operationAt, exitAt, operationNumber, successors}
 use Rattle.rules_object.proofs.Passed.{both}
 use Rattle.operands.specs.Operands.{operandRight}
 
@@ -88,8 +87,8 @@ module _ (o : Object) (op x : ℕ) (right : operandRight o op x ≡ true) where
       go : Dec (op < 16) → op < 16
       go (yes l) = l
       go (no l) =
-          let d : getD operandTests op unknownOperation ≡ unknownOperation = List·getD-eq-default operandTests unknownOperation {n = op} (omega arith) in
-          let f : _≡_ {A = Bool} false true = sym (ap (λ (t : Object → ℕ → Bool). t o x) d) ∙ right in
+          let d : operationAt op ≡ unknown = List·getD-eq-default operations unknown {n = op} (omega arith) in
+          let f : _≡_ {A = Bool} false true = sym (ap (λ p. p .operandRight o x) d) ∙ right in
           absurd (let z : _≡_ {A = ℕ} 0 1 = cc in omega arith)
 
   right-at : (n : ℕ) → op ≡ n → operandRight o n x ≡ true

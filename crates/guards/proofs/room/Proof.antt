@@ -1,7 +1,7 @@
 -- `guards::room` meets its contract. Assumes nothing.
 use native.Mathlib.Omega.{arith}
 use lib.ListN.{getD}
-use Rattle.rules_object.specs.Check.{popsTable, pushesTable}
+use Rattle.rules_object.specs.Operations.{operationAt}
 use Rattle.guards.proofs.Guards.{room-few, room-full, room-there}
 use borrow.Author.Needs.{needs}
 use Rattle.guards.proofs.room.Statement.{statement}
@@ -16,8 +16,8 @@ wide-requires c κs = search needs
 returns : tie.Need-returns
 returns c =
     let a = c .before .before .before .args in
-    let p = getD popsTable (a .op) 0 in
-    let q = getD pushesTable (a .op) 0 in
+    let p = operationAt (a .op) .pops in
+    let q = operationAt (a .op) .pushes in
     let ep = c .before .wide .ensures in
     let fp = c .before .before .pops-of .ensures in
     room-few p q (a .h) (omega (arith, c .if1 .taken, ep, fp))
@@ -34,8 +34,8 @@ add-if2 c = search needs
 returns-2 : tie.Need-returns-2
 returns-2 c =
     let a = c .before .before .before .before .before .before .args in
-    let p = getD popsTable (a .op) 0 in
-    let q = getD pushesTable (a .op) 0 in
+    let p = operationAt (a .op) .pops in
+    let q = operationAt (a .op) .pushes in
     let ep = c .before .before .before .before .wide .ensures in
     let fp = c .before .before .before .before .before .pops-of .ensures in
     let eq = c .before .wide2 .ensures in
@@ -45,8 +45,8 @@ returns-2 c =
 returns-3 : tie.Need-returns-3
 returns-3 c =
     let a = c .before .before .before .before .before .before .args in
-    let p = getD popsTable (a .op) 0 in
-    let q = getD pushesTable (a .op) 0 in
+    let p = operationAt (a .op) .pops in
+    let q = operationAt (a .op) .pushes in
     let ep = c .before .before .before .before .wide .ensures in
     let fp = c .before .before .before .before .before .pops-of .ensures in
     let eq = c .before .wide2 .ensures in

@@ -1,7 +1,7 @@
 -- `heights::fill` meets its contract. Assumes nothing.
 use Prim.Native.Nat.{_-_, _+_}
 use native.Mathlib.Omega.{arith}
-use Rattle.rules_object.specs.Check.{flowOf}
+use Rattle.rules_object.specs.Operations.{flowOf}
 use Rattle.rules_object.specs.Filling.{nevers}
 use Rattle.object.specs.Layout.{objectAt}
 use Rattle.heights.proofs.Places.{flow-length, code-within}

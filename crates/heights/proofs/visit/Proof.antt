@@ -2,7 +2,7 @@
 use mathlib.Core.Path.{refl, sym, _∙_}
 use Prim.Native.Nat.{_+_, _-_}
 use native.Mathlib.Omega.{arith}
-use Rattle.rules_object.specs.Check.{flowOf}
+use Rattle.rules_object.specs.Operations.{flowOf}
 use Rattle.rules_object.specs.Filling.{nevers, Went}
 use Rattle.rules_object.proofs.Fills.{there, short, begin, finish}
 use Rattle.object.specs.Layout.{objectAt}

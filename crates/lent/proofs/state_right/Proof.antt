@@ -6,7 +6,7 @@ use native.Mathlib.Omega.{arith}
 use lib.Dec.{leb}
 use lib.ListN.{getD}
 use borrow.Author.Tests.{not-true, not-false}
-use Rattle.rules_object.specs.Machine.{ruleOf}
+use Rattle.rules_object.specs.Object.{ruleOf}
 use Rattle.object.specs.Layout.{objectAt}
 use Rattle.lent.proofs.Lent.{outside, too-high, other-height, at-height}
 use borrow.Author.Needs.{needs}

@@ -3,7 +3,7 @@ use mathlib.Core.Path.{sym, ap, _∙_}
 use mathlib.Core.Bool.{Bool}
 use native.Mathlib.Omega.{arith}
 use Rattle.rules_shared.specs.Refusals.{unless}
-use Rattle.rules_object.specs.Machine.{ruleOf}
+use Rattle.rules_object.specs.Object.{ruleOf}
 use Rattle.object.specs.Layout.{objectAt}
 use Rattle.lent.proofs.Lent.{store-short, store-fits}
 use borrow.Author.Needs.{needs}

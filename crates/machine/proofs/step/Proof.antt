@@ -1,7 +1,7 @@
 -- `machine::step` meets its contract. Assumes nothing.
 use mathlib.Core.Path.{sym, ap, _∙_}
 use native.Mathlib.Omega.{arith}
-use Rattle.rules_object.specs.Machine.{ruleOf}
+use Rattle.rules_object.specs.Object.{ruleOf}
 use Rattle.arithmetic.specs.Performed.{performed}
 use Rattle.operations.proofs.Known.{held-bounds}
 use Rattle.object.specs.Layout.{objectAt}

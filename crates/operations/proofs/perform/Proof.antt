@@ -5,7 +5,9 @@ use native.Mathlib.Omega.{arith}
 use lib.IntN.{pos, _+ℤ_, _-ℤ_, _*ℤ_}
 use mir.Syntax.{w64}
 use mir.Facts.{toZ-ofZ, toZ-pos}
-use Rattle.rules_object.specs.Machine.{cell, meant, ruleOf, placeOf}
+use Rattle.rules_object.specs.Object.{ruleOf}
+use Rattle.rules_object.specs.Operations.{meant}
+use Rattle.rules_object.specs.Machine.{cell, placeOf}
 use Rattle.number.specs.Number.{value, keep, drops, apply, kept}
 use Rattle.rules_shared.specs.Choose.{positive, allPositive}
 use Rattle.object.specs.Layout.{elementAt, loopAt, objectAt}

@@ -5,7 +5,7 @@ use Prim.Native.Nat.{ℕ, _+_, _*_, _<_}
 use native.Mathlib.Omega.{arith}
 use lib.ListN.{getD}
 use Rattle.rules_object.specs.Object.{Loop}
-use Rattle.rules_object.specs.Machine.{noLoop}
+use Rattle.rules_object.specs.Operations.{noLoop}
 use Rattle.word.specs.Word.{wordAt}
 use Rattle.object.specs.declared.Layout.{Layout}
 use Rattle.object.specs.Layout.{objectAt, loopAt}
