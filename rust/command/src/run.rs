@@ -6,8 +6,8 @@ use crate::arguments::{Compile, Run};
 use crate::file::Beside;
 use crate::output::Output;
 use crate::program::{printed, refused};
-use crate::told::{tell_end, tell_refusal};
-use crate::uses::{list, Uses};
+use crate::told::{list, tell_end, tell_refusal};
+use crate::uses::Uses;
 use crate::{given, input, Outcome, Status};
 
 /// Prints as the program does; what it says in words goes to standard error.
@@ -43,7 +43,7 @@ fn tell_unset(program: &Program, store: &Store, set: &[(usize, i64)], out: &mut 
     if let Some(first) = unset.first() {
         out.say(format_args!(
             "0 is taken for what the deck reads and never sets: {}; '--set {first}=VALUE' gives it",
-            list(&unset)
+            list(&unset, 2)
         ));
     }
 }

@@ -21,6 +21,14 @@ pub fn shown(text: &str) -> String {
     }
 }
 
+/// The first of some names, and how many more there are.
+pub fn list(names: &[String], most: usize) -> String {
+    match names.len() > most {
+        true => format!("{} and {} more", names[..most].join(", "), names.len() - most),
+        false => names.join(", "),
+    }
+}
+
 /// The number, what is wrong and what to do, and the cards as they are punched, with carets under what it is about.
 pub fn tell_refusal(refusal: &Refusal, deck: &[u8], out: &mut Output) -> Status {
     let explanation = refusal.explain(deck);

@@ -81,11 +81,3 @@ fn body(object: &[u8], kind: usize) -> Vec<u32> {
     let contents = words(&object[CONTENTS + CONTENT * (kind - 1)..][..CONTENT]);
     words(&object[contents[1] as usize..][..contents[2] as usize])
 }
-
-/// `KNOTS`, or `KNOTS, MARK and 3 more`.
-pub fn list(names: &[String]) -> String {
-    match names {
-        [first, second, rest @ ..] if !rest.is_empty() => format!("{first}, {second} and {} more", rest.len()),
-        _ => names.join(", "),
-    }
-}

@@ -125,6 +125,20 @@ fn inputs_have_an_end() {
     assert!(ended.told.contains("luvinqata: -: line 4, column "), "{}", ended.told);
 }
 
+/// Half a million columns are told in a line, and take no more time than they are long.
+#[test]
+fn a_table_may_be_wide() {
+    let gale = top("examples/gale-hours.txt");
+    let (wide, digits) = (",".repeat(500_000), ",1".repeat(500_000));
+    let table = format!("KNOTS{wide}\n12{digits}\n");
+    let ended = luvinqata(&["hours", text(&gale), "-"], table.as_bytes());
+    assert_eq!(ended.status, 0, "{}", ended.told);
+    let row = ended.out.lines().nth(1).expect("a row");
+    assert!(row.starts_with("2,1,1,") && row.ends_with(",1,1,1728,12,172,1,0"));
+    let copied = "'', '', '' and 499988 more are no values of the deck: they are copied as they are\n";
+    assert!(ended.told.contains(copied) && ended.told.len() < 300, "{}", ended.told);
+}
+
 #[test]
 fn a_request_has_an_end() {
     let mut requests = b"check ".to_vec();

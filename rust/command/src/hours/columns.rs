@@ -6,11 +6,13 @@ use crate::given::{has, is_over, like, whole};
 use crate::hours::fields::Fields;
 use crate::hours::rows::Row;
 use crate::output::Output;
-use crate::told::shown;
-use crate::uses::{list, Uses};
+use crate::told::{list, shown};
+use crate::uses::Uses;
 
 /// The columns that are written besides values and copies.
 pub const OWN: [&str; 3] = ["line", "halt", "loss"];
+/// The most columns that are told in a line.
+pub const LISTED: usize = 12;
 
 pub struct Columns {
     pub names: Vec<String>,
@@ -69,7 +71,7 @@ impl Columns {
             )),
             all => out.say(format_args!(
                 "columns {} are no values of the deck: they are copied as they are",
-                all.join(", ")
+                list(all, LISTED)
             )),
         }
     }
@@ -98,7 +100,7 @@ impl Columns {
             unset if unset.is_empty() => Ok(()),
             unset => Err(format!(
                 "no column gives {}, which the deck reads and never sets: '--set {}=VALUE' gives it for all rows",
-                list(&unset),
+                list(&unset, 2),
                 unset[0]
             )),
         }

@@ -1,10 +1,12 @@
 //! The table that is written: its columns, and its rows as CSV or as JSON.
 
+use std::collections::HashSet;
+
 use luvinqata::Store;
 
-use crate::hours::columns::{Columns, OWN};
+use crate::hours::columns::{Columns, LISTED, OWN};
 use crate::hours::hour::Hour;
-use crate::told::shown;
+use crate::told::{list, shown};
 
 /// Where what stands in a column comes from.
 #[derive(Clone, Copy)]
@@ -57,34 +59,22 @@ impl Table {
             Source::Value(index) => only.is_none_or(|only| only.contains(index)),
             _ => true,
         });
-        let twice = |index: &usize| {
-            self.columns[..*index]
-                .iter()
-                .any(|(name, _)| *name == self.columns[*index].0)
-        };
-        match (0..self.columns.len()).find(twice) {
-            Some(index) if self.json => {
-                let name = shown(&self.columns[index].0);
-                Err(format!(
-                    "two columns are named '{name}', which cannot be in a JSON object"
-                ))
-            }
-            _ => Ok(()),
+        let mut seen = HashSet::new();
+        match self.columns.iter().find(|(name, _)| self.json && !seen.insert(name)) {
+            Some((name, _)) => Err(format!(
+                "two columns are named '{}', which cannot be in a JSON object",
+                shown(name)
+            )),
+            None => Ok(()),
         }
     }
 
     pub fn source(&self, name: &str) -> Result<Source, String> {
         let found = self.columns.iter().find(|(known, _)| known == name);
-        let names = || {
-            self.columns
-                .iter()
-                .map(|(name, _)| shown(name))
-                .collect::<Vec<String>>()
-                .join(", ")
-        };
-        found
-            .map(|(_, source)| *source)
-            .ok_or_else(|| format!("'{}' is none of {}", shown(name), names()))
+        found.map(|(_, source)| *source).ok_or_else(|| {
+            let names: Vec<String> = self.columns.iter().map(|(name, _)| shown(name)).collect();
+            format!("'{}' is none of {}", shown(name), list(&names, LISTED))
+        })
     }
 
     /// The line of names, which JSON has none of.
