@@ -6,6 +6,7 @@ ghost use lib.ListN.{length, take};
 ghost use Rattle.rules_shared.specs.Lists.{Each};
 ghost use Rattle.items.specs.Parsed.{Put};
 ghost use Rattle.marks.specs.Marks.{numbersOf, Low, Jumping, cellWord, setOf};
+use cards::Number;
 use elements::Target;
 use kinds::ASSIGNMENT;
 use kinds::COMPUTED;
@@ -116,16 +117,16 @@ pub fn set_of(p: Plan) -> u64
 pub fn put_row(
     rows: &mut [u64],
     q: usize,
-    number: u64,
+    number: Number,
     kind: u64,
     set: u64,
     words: u64,
     jumps: u64,
 ) -> usize
     requires { ⌜ 5 * q + 5 ≤ length (now rows) ⌝ }
-    ensures { λ r. ⌜ Put (now (rows .entry)) (now (rows .exit)) (5 * q) (number ∷ kind ∷ set ∷ words ∷ jumps ∷ []) r ⌝ }
+    ensures { λ r. ⌜ Put (now (rows .entry)) (now (rows .exit)) (5 * q) (number .0 ∷ kind ∷ set ∷ words ∷ jumps ∷ []) r ⌝ }
 {
-    let a = items::put_two(rows, 5 * q, number, kind);
+    let a = items::put_two(rows, 5 * q, number.0 as u64, kind);
     let b = items::put_two(rows, a, set, words);
     rows[b] = jumps;
     b + 1

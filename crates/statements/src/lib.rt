@@ -124,7 +124,7 @@ fn with_marks(m: Counts, jumps: usize) -> Counts
 // The statement's numbers, and its row.
 fn mark(
     p: Plan,
-    number: u64,
+    number: Number,
     words: u64,
     items: &[u64],
     rows: &mut [u64],
@@ -132,7 +132,7 @@ fn mark(
     m: Counts,
 ) -> Counts
     requires { ⌜ Jumping p (now items) (now jumps) (m .jumps) × ((5 * m .statements + 5 ≤ length (now rows)) × (m .statements ≤ 400)) ⌝ }
-    ensures { λ r. ⌜ Marked p number words (now (items .entry)) (now (rows .entry)) (now (jumps .entry)) (now (rows .exit)) (now (jumps .exit)) m r ⌝ }
+    ensures { λ r. ⌜ Marked p (number .0) words (now (items .entry)) (now (rows .entry)) (now (jumps .entry)) (now (rows .exit)) (now (jumps .exit)) m r ⌝ }
 {
     let top = marks::put_jumps(p, items, jumps, m.jumps);
     let count = (top - m.jumps) as u64;
@@ -151,7 +151,7 @@ fn mark(
 // 15, 16 and 18, in this order.
 fn take_planned(
     p: Plan,
-    number: u32,
+    number: Number,
     first: &[u64],
     items: &[u64],
     names: &mut [u64],
@@ -165,7 +165,7 @@ fn take_planned(
     n: Counts,
 ) -> Outcome
     requires { ⌜ Planning p (now first) (now items) (now names) (now constants) (now elements) (now dos) (now loops) (now code) (now rows) (now jumps) n ⌝ }
-    ensures { λ r. ⌜ ((D : Draft) → Kept D (now (names .entry)) (now (constants .entry)) (now (elements .entry)) (now (dos .entry)) (now (loops .entry)) (now (code .entry)) (now (rows .entry)) (now (jumps .entry)) n → ComesPlanned p number (now (first .entry)) (now (items .entry)) (n .statements) D (now (names .exit)) (now (constants .exit)) (now (elements .exit)) (now (dos .exit)) (now (loops .exit)) (now (code .exit)) (now (rows .exit)) (now (jumps .exit)) r) ⌝ }
+    ensures { λ r. ⌜ ((D : Draft) → Kept D (now (names .entry)) (now (constants .entry)) (now (elements .entry)) (now (dos .entry)) (now (loops .entry)) (now (code .entry)) (now (rows .entry)) (now (jumps .entry)) n → ComesPlanned p (number .0) (now (first .entry)) (now (items .entry)) (n .statements) D (now (names .exit)) (now (constants .exit)) (now (elements .exit)) (now (dos .exit)) (now (loops .exit)) (now (code .exit)) (now (rows .exit)) (now (jumps .exit)) r) ⌝ }
 {
     if !naming::right_arrays(p, first, items, names, n.names) {
         return Outcome::Refused(15);
@@ -180,7 +180,7 @@ fn take_planned(
         return Outcome::Refused(18);
     };
     let words = (m.code - n.code) as u64;
-    Outcome::Taken(mark(p, number as u64, words, items, rows, jumps, l))
+    Outcome::Taken(mark(p, number, words, items, rows, jumps, l))
 }
 
 // `items` is the reader's table: 2,640 words that it may fill; a DO's parameters are put there.
@@ -211,7 +211,7 @@ pub fn take(
     let top = plans::put_first(p, &mut first);
     take_planned(
         p,
-        number.0,
+        number,
         &first[0..top],
         items,
         names,

@@ -10,6 +10,9 @@ use Rattle.marks.proofs.put_row.Tie as tie
 mul-put-two : tie.Need-mul-put-two
 mul-put-two c = search needs
 
+cast-put-two : tie.Need-cast-put-two
+cast-put-two c = search needs
+
 put-two-requires : tie.Need-put-two-requires
 put-two-requires c κs = search needs
 
@@ -31,13 +34,14 @@ same-length c =
 
 returns : tie.Need-returns
 returns c =
-    put-more (c .before .before .before .before .before .before .put-two .ensures) (put-more (c .before .before .put-two2 .ensures) (put-one _ _ _ (omega (arith, c .before .before .before .before .before .before .before .before .before .pre, c .before .before .before .before .before .before .put-two .ensures .top, c .before .before .put-two2 .ensures .top, c .before .before .put-two2 .kept .0, c .before .before .before .before .before .before .put-two .kept .0))))
+    put-more (c .before .before .before .before .before .before .put-two .ensures) (put-more (c .before .before .put-two2 .ensures) (put-one _ _ _ (omega (arith, c .before .before .before .before .before .before .before .before .before .before .pre, c .before .before .before .before .before .before .put-two .ensures .top, c .before .before .put-two2 .ensures .top, c .before .before .put-two2 .kept .0, c .before .before .before .before .before .before .put-two .kept .0))))
 
 pub put-row-spec : {M : Type 1} → statement M
 put-row-spec =
     tie.close
     (tie.spec
     mul-put-two
+    cast-put-two
     put-two-requires
     put-two-requires-2
     mul-rows
