@@ -36,9 +36,9 @@ use Rattle.draft.proofs.DeckKept.{kept-deck}
 use Rattle.drafting.specs.declared.Drafted.{Drafted}
 use Rattle.drafting.specs.Drafted.{Drafts, refused, kept}
 use Rattle.whole.specs.declared.Placed.{Placed}
-use Rattle.whole.specs.Whole.{SetsTold, refusalOf, Numbered}
+use Rattle.whole.specs.Whole.{SetsTold, refusalOf, LowNumber}
 use Rattle.whole.specs.Parts.{Inside, Positioned}
-use Rattle.whole.proofs.Punched.{numbered}
+use Rattle.whole.proofs.LowNumbers.{numbered}
 use Rattle.whole.proofs.Positions.{inside, positions}
 use Rattle.writer.specs.declared.Wrote.{Wrote}
 use Rattle.finish.specs.Finishing.{Finished}
@@ -77,7 +77,7 @@ module _ {k : ℕ} {deck : List Statement} {n : Counts} {names constants element
   pub told : Each SetsTold deck
   told = sets-told deck (subst (λ l. Each Told (namesHeld l)) (draft-held deck) (h .kept .held .told))
 
-  pub low : All Numbered deck
+  pub low : All LowNumber deck
   low = numbered k (h .bytes) deck (h .is)
 
   pub whole-refused : {number : ℕ} {place : Sequence} (output : List ℕ) (r : Placed) → whole.Judged deck r → r .verdict ≡ verdict.Refused number place

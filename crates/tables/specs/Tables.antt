@@ -20,12 +20,12 @@ placeIn table i = getD table i (record { 0 = 0 }) .0
 
 -- ---- statement numbers
 
-pub record Punched (rows : List ℕ) (count : ℕ) : Type 0 where
+pub record RowsFit (rows : List ℕ) (count : ℕ) : Type 0 where
   pub few : count ≤ limits .statements
   pub long : 5 * count ≤ length rows
   pub low : (q : ℕ) → q < count → numberAt rows q < 2 ^ 32
 
-pub record Numbered (rows : List ℕ) (count : ℕ) (table : List Number) : Type 0 where
+pub record NumbersOf (rows : List ℕ) (count : ℕ) (table : List Number) : Type 0 where
   pub are : (q : ℕ) → q < count → numberIn table q ≡ numberAt rows q
 
 pub record Wanted (words : List ℕ) (many : ℕ) (table : List Number) : Type 0 where
@@ -33,13 +33,13 @@ pub record Wanted (words : List ℕ) (many : ℕ) (table : List Number) : Type 0
 
 -- ---- DOs
 
-pub record Kept (words : List ℕ) (dos : ℕ) : Type 0 where
+pub record LoopsFit (words : List ℕ) (dos : ℕ) : Type 0 where
   pub few : dos ≤ limits .dos
   pub long : 2 * dos ≤ length words
   pub starts : (i : ℕ) → i < dos → doIndex words i < limits .statements
   pub lasts : (i : ℕ) → i < dos → lastIndex words i < 1424
 
-pub record Looped (words : List ℕ) (dos : ℕ) (places : List Sequence) (r : Loops) : Type 0 where
+pub record LoopsOf (words : List ℕ) (dos : ℕ) (places : List Sequence) (r : Loops) : Type 0 where
   pub counted : r .count ≡ dos
   pub starts : (i : ℕ) → i < dos → placeIn (r .at) i ≡ suc (doIndex words i)
   pub lasts : (i : ℕ) → i < dos → placeIn (r .last) i ≡ placeIn places (lastIndex words i)

@@ -3,7 +3,7 @@ ghost use mathlib.Core.Path.{_≡_};
 ghost use Prim.Native.Nat.{suc, _+_, _*_, _^_, _≤_, _<_};
 ghost use lib.ListN.{length};
 ghost use Rattle.tables.specs.Rows.{numberAt, kindAt, setAt, jumpsAt};
-ghost use Rattle.tables.specs.Tables.{Punched, Numbered, Wanted, Kept, Looped};
+ghost use Rattle.tables.specs.Tables.{RowsFit, NumbersOf, Wanted, LoopsFit, LoopsOf};
 use cards::Number;
 use cards::Sequence;
 
@@ -57,8 +57,8 @@ pub fn jumps_of(rows: &[u64], q: usize) -> usize
 
 // Each statement's number, 0 where none is punched.
 pub fn numbers(rows: &[u64], count: usize) -> [Number; 400]
-    requires { ⌜ Punched (now rows) count ⌝ }
-    ensures { λ r. ⌜ Numbered (now (rows .entry)) count r ⌝ }
+    requires { ⌜ RowsFit (now rows) count ⌝ }
+    ensures { λ r. ⌜ NumbersOf (now (rows .entry)) count r ⌝ }
 {
     let mut table = [Number(0); 400];
     let mut q: usize = 0;
@@ -92,8 +92,8 @@ pub struct Loops {
 
 // Two words a DO: its position, and the index of its last statement among the jumps.
 pub fn loops_of(words: &[u32], dos: usize, places: [Sequence; 1424]) -> Loops
-    requires { ⌜ Kept (now words) dos ⌝ }
-    ensures { λ r. ⌜ Looped (now (words .entry)) dos places r ⌝ }
+    requires { ⌜ LoopsFit (now words) dos ⌝ }
+    ensures { λ r. ⌜ LoopsOf (now (words .entry)) dos places r ⌝ }
 {
     let mut at = [Sequence(0); 64];
     let mut last = [Sequence(0); 64];

@@ -13,10 +13,10 @@ use Rattle.draft.specs.Draft.{draftOf}
 use Rattle.draft.specs.Kept.{Fit, Room, Kept}
 use Rattle.draft.specs.Sketch.{deckRows}
 use Rattle.draft.proofs.DraftDeck.{draft-rows, draft-jumps, draft-loops, rows-count}
-use Rattle.whole.specs.Whole.{SetsTold, Sketched, Whole, Numbered}
+use Rattle.whole.specs.Whole.{SetsTold, Sketched, Whole, LowNumber}
 
 module _ (deck : List Statement) (names constants elements dos loops code rows jumps : List ℕ) (n : Counts)
-    (room : Room names constants elements dos loops code rows jumps) (fit : Fit n) (kept : Kept (draftOf deck) names constants elements dos loops code rows jumps n) (told : Each SetsTold deck) (numbered : Each Numbered deck) where
+    (room : Room names constants elements dos loops code rows jumps) (fit : Fit n) (kept : Kept (draftOf deck) names constants elements dos loops code rows jumps n) (told : Each SetsTold deck) (numbered : Each LowNumber deck) where
   pub sketched : Sketched deck rows (n .statements) loops (n .dos) jumps (n .jumps)
   sketched =
       let are : take (5 * n .statements) rows ≡ deckRows deck = kept .rows-are ∙ draft-rows deck in

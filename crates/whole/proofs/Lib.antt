@@ -6,5 +6,5 @@ pub mod Ranges
 pub mod Answers
 pub mod Top
 pub mod Positions
-pub mod Punched
+pub mod LowNumbers
 pub mod Drafted

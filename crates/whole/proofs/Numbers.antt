@@ -18,7 +18,7 @@ use Rattle.draft.specs.Draft.{kindOf}
 use Rattle.draft.specs.Sketch.{deckRows, deckJumps}
 use Rattle.cards.specs.declared.Number.{Number}
 use Rattle.tables.specs.Rows.{startOf}
-use Rattle.tables.specs.Tables.{numberIn, Numbered}
+use Rattle.tables.specs.Tables.{numberIn, NumbersOf}
 use Rattle.numbers.specs.Numbers.{allFrom, firstFrom, others, placeOf, endRight, lastEnds, misplacedEnd, ownRight, numberRight, found, known, jumpsKnown}
 use Rattle.whole.proofs.ByIndex.{placed, all-by, first-zero, place-zero, all-map}
 use Rattle.whole.proofs.Rows.{statementAt, jumpsOf, number-is, kind-is, many-is, jump-is, jump-inside}
@@ -89,7 +89,7 @@ module _ (deck : List Statement) (rows : List ℕ) (count : ℕ) (many : count �
       sym (ap (λ (o : Option ℕ). orElse o (cond (endsWell deck) none (some (length deck)))) f ∙ (rw (e, ← many)))
 
   -- with the numbers in a table of their own
-  module _ (numbers : List Number) (table : Numbered rows count numbers) where
+  module _ (numbers : List Number) (table : NumbersOf rows count numbers) where
     number-in : (q : ℕ) → q < length deck → numberIn numbers q ≡ statementAt deck q .number
     number-in q h = table .are q (inside q h) ∙ number-is deck rows count many are q (inside q h)
 

@@ -21,7 +21,7 @@ use Rattle.draft.specs.Sketch.{deckRows, deckJumps, loopsFrom}
 use Rattle.cards.specs.declared.Sequence.{Sequence}
 use Rattle.tables.specs.declared.Loops.{Loops}
 use Rattle.tables.specs.Rows.{kindAt, setAt, startOf, doIndex, lastIndex}
-use Rattle.tables.specs.Tables.{placeIn, Looped}
+use Rattle.tables.specs.Tables.{placeIn, LoopsOf}
 use Rattle.numbers.specs.Numbers.{allFrom, firstFrom, countFrom}
 use Rattle.numbers.proofs.Tests.{all-same, all-true}
 use Rattle.ranges.specs.Ranges.{doAt, lastAt, covering, covers, mayEndKind, uncrossed, apart, doRight, outside, staysOut, jumpStays, exitsAt, jumpsRight, leaves, setRight}
@@ -125,7 +125,7 @@ module _ (deck : List Statement) (rows : List ℕ) (count : ℕ) (many : count �
 
   -- once every number has its place
   module _ (places : List Sequence) (placed : (k : ℕ) → k < length (deckJumps deck) → placeIn places k ≡ suc (positionOf deck (getD (deckJumps deck) k 0)))
-      (table : Loops) (looped : Looped loops dos places table) where
+      (table : Loops) (looped : LoopsOf loops dos places table) where
     many-dos : length (dosOf deck) ≡ table .count
     many-dos = dos-many ∙ sym (looped .counted)
 

@@ -21,13 +21,12 @@ use Rattle.cards.specs.declared.Number.{Number}
 use Rattle.draft.specs.Sketch.{deckJumps}
 use Rattle.tables.specs.declared.Loops.{Loops}
 use Rattle.tables.specs.Rows.{startOf, lastIndex}
-use Rattle.tables.specs.Tables.{numberIn, placeIn, Punched, Wanted, Kept, Looped}
-use Rattle.tables.specs.Tables as tables
+use Rattle.tables.specs.Tables.{numberIn, placeIn, Wanted, RowsFit, NumbersOf, LoopsFit, LoopsOf}
 use Rattle.numbers.specs.Numbers.{placeOf}
 use Rattle.ranges.specs.Ranges.{doAt, lastAt, Ranged}
 use Rattle.whole.specs.declared.Verdict.{Verdict}
 use Rattle.whole.specs.declared.Placed.{Placed}
-use Rattle.whole.specs.Whole.{Numbered, Sketched, Whole, Stands, refusalOf, Judged}
+use Rattle.whole.specs.Whole.{Sketched, Whole, Stands, refusalOf, Judged, LowNumber}
 use Rattle.whole.specs.Parts.{numbersRefused, ByNumber, rangesRefused}
 use Rattle.whole.proofs.ByIndex.{placed}
 use Rattle.whole.proofs.Rows.{statementAt, number-is, start-is}
@@ -51,7 +50,7 @@ stands deck n place e = by (ltb (positionOf deck n) (length deck)) refl
         let m : none ≡ some place = rw l at e in
         absurd (clash (sym m))
 
-low-at : (deck : List Statement) → Each Numbered deck → (q : ℕ) → q < length deck → statementAt deck q .number ≤ limits .statementNumber
+low-at : (deck : List Statement) → Each LowNumber deck → (q : ℕ) → q < length deck → statementAt deck q .number ≤ limits .statementNumber
 low-at [] a q h = absurd (omega arith)
 low-at (s ∷ deck) (each-more l a) zero h = l
 low-at (s ∷ deck) (each-more l a) (suc q) h = low-at deck a q (omega arith)
@@ -73,7 +72,7 @@ module _ (rows : List ℕ) (count : ℕ) (loops : List ℕ) (dos : ℕ) (before 
   pub all-starts : startOf rows count ≡ many
   all-starts = start-is deck rows count (s .statements) (s .rows-are) ∙ jumps-many
 
-  pub punched : Punched rows count
+  pub punched : RowsFit rows count
   punched =
       let l = w .rows-long in
       let f = w .few in
@@ -87,7 +86,7 @@ module _ (rows : List ℕ) (count : ℕ) (loops : List ℕ) (dos : ℕ) (before 
             omega arith;
       }
 
-  module _ (numbers : List Number) (ns : tables.Numbered rows count numbers) (wanted : List Number) (ws : Wanted before many wanted) where
+  module _ (numbers : List Number) (ns : NumbersOf rows count numbers) (wanted : List Number) (ws : Wanted before many wanted) where
     at-entry : (k : ℕ) → k < length (deckJumps deck) → numberIn wanted k ≡ getD (deckJumps deck) k 0
     at-entry k h =
         let m = jumps-many in
@@ -119,7 +118,7 @@ module _ (rows : List ℕ) (count : ℕ) (loops : List ℕ) (dos : ℕ) (before 
           let d = words deck rows count (s .statements) (s .rows-are) loops dos loops-long (s .loops-are) (s .told) i h in
           rw (d .last) at (has-place (d .index) (d .index-low) .low)
 
-      pub kept : Kept loops dos
+      pub kept : LoopsFit loops dos
       kept =
           record {
             few = w .few-dos;
@@ -140,7 +139,7 @@ module _ (rows : List ℕ) (count : ℕ) (loops : List ℕ) (dos : ℕ) (before 
               let f = w .few-jumps in
               omega arith
 
-      module _ (table : Loops) (looped : Looped loops dos (r .places) table) where
+      module _ (table : Loops) (looped : LoopsOf loops dos (r .places) table) where
         pub ranged : Ranged rows count table
         ranged =
             let a = all-starts in

@@ -7,7 +7,7 @@ ghost use Rattle.rules_shared.specs.Refusals.{orElse};
 ghost use Rattle.rules_deck.specs.Trees.{Statement};
 ghost use Rattle.rules_deck.specs.Whole.{refusedAt};
 ghost use Rattle.tables.specs.Rows.{startOf};
-ghost use Rattle.tables.specs.Tables.{Punched};
+ghost use Rattle.tables.specs.Tables.{RowsFit};
 ghost use Rattle.numbers.specs.Numbers.{foundOf};
 ghost use Rattle.ranges.specs.Ranges.{Ranged};
 ghost use Rattle.whole.specs.Whole.{Sketched, Whole, refusalOf, Judged};
@@ -61,7 +61,7 @@ fn judge_numbers(
     jumps: [Number; 1424],
     many: usize,
 ) -> Placed
-    requires { ⌜ Punched (now rows) count × ((many ≡ startOf (now rows) count) × (many ≤ 1424)) ⌝ }
+    requires { ⌜ RowsFit (now rows) count × ((many ≡ startOf (now rows) count) × (many ≤ 1424)) ⌝ }
     ensures { λ r. ⌜ ByNumber (now (rows .entry)) numbers count jumps r ⌝ }
 {
     let ends = refused_at(20, numbers::misplaced_end(rows, count));

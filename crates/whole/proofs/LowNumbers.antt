@@ -13,13 +13,13 @@ use Rattle.rules_deck.specs.Judge.{Taken, nothingTaken, takes, judgeForm}
 use Rattle.rules_deck.specs.Compile.{Read, notRead, read, withStatement, afterJudging, afterReading, readText, readFrom, readCarded}
 use Rattle.rules_deck.proofs.CardsLaws.{Each, empty, also, RightStatement, statements-right}
 use Rattle.rules_shared.specs.Lists.{Each, each-none, each-more}
-use Rattle.whole.specs.Whole.{Numbered}
+use Rattle.whole.specs.Whole.{LowNumber}
 
 data Low : Read → Type 0 where
   refused : {r : Refusal} → Low (notRead r)
-  low : {deck : List Statement} → Each Numbered deck → Low (read deck)
+  low : {deck : List Statement} → Each LowNumber deck → Low (read deck)
 
-with-statement : (s : Statement) → Numbered s → (rest : Read) → Low rest → Low (withStatement s rest)
+with-statement : (s : Statement) → LowNumber s → (rest : Read) → Low rest → Low (withStatement s rest)
 with-statement s n (notRead r) refused = refused
 with-statement s n (read deck) (low a) = low (each-more n a)
 
@@ -44,8 +44,8 @@ read-carded : (k : ℕ) (bytes : List ℕ) (c : Carded) → carded k bytes ≡ c
 read-carded k bytes (cardsRefused number place) e = refused
 read-carded k bytes (statements ps) e = read-from k 0 nothingTaken ps (statements-right k bytes ps e)
 
-all-low : {deck : List Statement} → Low (read deck) → Each Numbered deck
+all-low : {deck : List Statement} → Low (read deck) → Each LowNumber deck
 all-low (low a) = a
 
-pub numbered : (k : ℕ) (bytes : List ℕ) (deck : List Statement) → readCarded k (carded k bytes) ≡ read deck → Each Numbered deck
+pub numbered : (k : ℕ) (bytes : List ℕ) (deck : List Statement) → readCarded k (carded k bytes) ≡ read deck → Each LowNumber deck
 numbered k bytes deck e = all-low (subst Low e (read-carded k bytes (carded k bytes) refl))
