@@ -2,7 +2,6 @@
 ghost use mathlib.Core.Path.{_≡_};
 ghost use mathlib.Core.Bool.{false};
 ghost use Prim.Native.Nat.{_+_, _^_, _≤_, _<_};
-ghost use lib.ListN.{getD};
 ghost use Rattle.rules_object.specs.Operations.{operationAt};
 ghost use Rattle.object.specs.Layout.{objectAt, Placed};
 ghost use Rattle.guards.specs.Guarding.{roomFor, guardOf, Sees};

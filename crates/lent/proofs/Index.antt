@@ -17,7 +17,8 @@ use Rattle.rules_shared.specs.Lists.{Each, each-none, each-more}
 use Rattle.rules_object.specs.Object.{Element, Loop, Object, ruleOf}
 use Rattle.rules_object.specs.Check.{inCode, inCells, rightLoop}
 use Rattle.rules_object.specs.Operations.{Instr, HLT, CON, LOD, STO, LDE, STE, OP, NEG, JMP, BR3, BRC, DOI, DOE, operationOf, operandOf, noLoop, Operation, operations, unknown, decode, targets, exitAt, right43, entryRight, pops, pushes, instruction}
-use Rattle.rules_object.specs.Machine.{State, state, top, under, cell, operated, placeOf, elementLoaded, elementStored, branched, begun, turned, ended, act, step, room, benchStep}
+use Rattle.rules_object.specs.Machine.{State, top, under, cell, operated, placeOf, elementLoaded, elementStored, branched, begun, turned, ended, act, step, room, benchStep}
+use Rattle.rules_object.proofs.States.{state}
 use Rattle.rules_shared.specs.Runs.{go, halt, then, run, steps}
 use Rattle.rules_object.specs.Halts.{badStack, badInstruction, Out}
 use Rattle.rules_shared.specs.Choose.{sign3, exit, positive, allPositive, Turn, again, over, turn}

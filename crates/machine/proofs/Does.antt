@@ -18,7 +18,8 @@ use Rattle.rules_shared.specs.Choose as choose
 use Rattle.rules_shared.specs.Choose.{sign3, exit, positive, allPositive, again, over, turn, marked}
 use Rattle.rules_object.specs.Object.{Element, Loop}
 use Rattle.rules_object.specs.Operations.{Instr, HLT, CON, LOD, STO, LDE, STE, OP, NEG, JMP, BR3, BRC, DOI, DOE, pops, pushes}
-use Rattle.rules_object.specs.Machine.{State, state, cell, top, under, placeOf, act}
+use Rattle.rules_object.specs.Machine.{State, cell, top, under, placeOf, act}
+use Rattle.rules_object.proofs.States.{state}
 use Rattle.rules_object.specs.Machine as book
 use Rattle.rules_object.specs.Calls.{taken}
 use Rattle.arithmetic.specs.declared.Regs.{Regs}

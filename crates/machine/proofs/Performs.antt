@@ -13,7 +13,7 @@ use Rattle.number.proofs.Laws.{fits-yes}
 use Rattle.rules_shared.specs.Choose as choose
 use Rattle.rules_object.specs.Object.{Element, Loop, Object, ruleOf}
 use Rattle.rules_object.specs.Check.{rightConstant, rightElement, rightLoop}
-use Rattle.rules_object.specs.Operations.{meant, noElement, noLoop, operationAt, noEntry}
+use Rattle.rules_object.specs.Operations.{meant, noElement, noLoop, operationAt}
 use Rattle.rules_object.specs.Machine.{cell, act}
 use Rattle.rules_object.specs.Machine as book
 use Rattle.object.specs.declared.Layout.{Layout}

@@ -2,7 +2,7 @@
 ghost use mathlib.Core.Path.{_≡_};
 ghost use mathlib.Core.Bool.{true};
 ghost use Prim.Native.Nat.{_+_, _^_, _≤_, _<_};
-ghost use lib.ListN.{take, drop, getD};
+ghost use lib.ListN.{take, drop};
 ghost use Rattle.number.specs.Number.{ceiling};
 ghost use Rattle.rules_object.specs.Object.{ruleOf};
 ghost use Rattle.rules_object.specs.Operations.{targets, right43, entryRight, operationAt};

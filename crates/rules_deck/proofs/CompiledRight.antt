@@ -8,7 +8,7 @@ use mathlib.Core.Bool.{Bool, true, _||_}
 use mathlib.Core.List.{List, [], _∷_, _++_}
 use mathlib.Core.Option.{none, some}
 use lib.Dec.{leb, ltb, eqb}
-use lib.ListN.{length, getElem?, getD, take, replicate}
+use lib.ListN.{length, getElem?, take, replicate}
 use lib.IntN.{ℤ, pos, natAbs}
 use borrow.Author.Tests.{le-leb, lt-ltb, eq-eqb}
 use Rattle.number.specs.Number.{add, sub, mul, div, ceiling, fits}

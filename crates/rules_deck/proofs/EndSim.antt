@@ -11,11 +11,12 @@ use lib.IntN.{ℤ}
 use Rattle.rules_shared.specs.Runs.{Outcome, go, halt}
 use Rattle.rules_shared.specs.Choose.{positive, Turn, again, over, turn}
 use Rattle.rules_object.specs.Operations.{DOE}
-use Rattle.rules_object.specs.Machine.{State, state}
+use Rattle.rules_object.specs.Machine.{State}
+use Rattle.rules_object.proofs.States.{state}
 use Rattle.rules_object.specs.Machine
 use Rattle.rules_deck.specs.Trees.{cell, Statement}
 use Rattle.rules_deck.specs.Deck.{Do, dosOf}
-use Rattle.rules_deck.specs.Meaning.{Cause, plain, Values, Bounds, Standing, standing, turned, endOf, finish}
+use Rattle.rules_deck.specs.Meaning.{Cause, plain, Values, Bounds, Standing, turned, endOf, finish}
 use Rattle.rules_deck.specs.Cost.{turnedSteps, endSteps, finishSteps}
 use Rattle.rules_deck.specs.Translation.{heldOf, addressAt, loopEntry, doInstr, codeOf}
 use Rattle.rules_deck.specs.Whole.{lastOf}
@@ -28,7 +29,7 @@ use Rattle.rules_deck.proofs.DeckCells.{variable-has}
 use Rattle.rules_deck.proofs.Addresses.{At, at-head, at-tail}
 use Rattle.rules_deck.proofs.Ranges.{range-last}
 use Rattle.rules_deck.proofs.MachineRuns.{ruled, Runs, stay, and-then, on}
-use Rattle.rules_deck.proofs.Standings.{Bound, Inside, Stands, inside-put, inside-body}
+use Rattle.rules_deck.proofs.Standings.{standing, Bound, Inside, Stands, inside-put, inside-body}
 
 -- From machine state t, inside the statement at j₀, the machine comes to what the meaning comes to, in n steps, which are no more than the statement has words from there; a halt is at that statement and at the last word reached.
 pub data Sim (k : ℕ) (deck : List Statement) (j₀ : ℕ) (t : State) (n : ℕ) : Outcome Cause Standing → Type 0 where
@@ -59,7 +60,7 @@ pub record Ready (deck : List Statement) (j : ℕ) (env : Values) (inside : ℕ 
 module _ (k : ℕ) {deck : List Statement} (sound : Sound deck) {j lost m : ℕ} {env : Values} {inside : ℕ → Bounds} {c : List ℤ} (r : Ready deck j env inside lost c m) where
   turn-sim : (d : Do) (u : Turn) {p n : ℕ} {o : Outcome Cause Standing} → Ending deck j d → getElem? (codeOf deck) p ≡ some (doInstr deck DOE d) → p < addressAt deck (suc j)
       → Machine.act (ruled k) (doInstr deck DOE d) (state p [] c m) ≡ Machine.turned u (loopEntry deck d) (state p [] c m)
-      → Sim k deck j (state (suc p) [] c m) n o → Sim k deck j (state p [] c m) (turnedSteps u n) (turned u d j env inside lost o)
+      → Sim k deck j (state (suc p) [] c m) n o → Sim k deck j (state p [] c m) (turnedSteps u n) (turned u d (standing j env inside lost) o)
   turn-sim d (again i) {p} w a l e o =
       let v = variable-has deck d (w .among) in
       let f = sound .nested .after d (w .among) in
@@ -86,13 +87,13 @@ module _ (k : ℕ) {deck : List Statement} (sound : Sound deck) {j lost m : ℕ}
       ∙ ap (λ a. Machine.turned (turn (env (plain (d .variable))) (b .limit) a) D t) (b .step-cell)
 
   pub ends-sim : (es : List Do) {p : ℕ} → ((d : Do) → Among d es → Ending deck j d) → At (codeOf deck) p (map (doInstr deck DOE) es) → p + length es ≡ addressAt deck (suc j)
-      → Sim k deck j (state p [] c m) (finishSteps es env inside) (finish es j env inside lost)
+      → Sim k deck j (state p [] c m) (finishSteps es env inside) (finish es (standing j env inside lost))
   ends-sim [] {p} f a e =
       let e′ : p ≡ addressAt deck (suc j) = omega arith in
       rw e′ (goes stay (omega arith) (record { holds = r .holds; mark = r .mark; around = r .next; here = r .more }) (inr refl))
   ends-sim (d ∷ es) {p} f a e =
       let w = f d here in
       let b = r .now .bound d (w .among) (range-last (sound .nested) (w .among) (w .last)) in
-      subst (λ z. Sim k deck j (state p [] c m) (endSteps z d env (finishSteps es env inside)) (endOf z d j env inside lost (finish es j env inside lost))) (sym (b .is))
+      subst (λ z. Sim k deck j (state p [] c m) (endSteps z d env (finishSteps es env inside)) (endOf z d (standing j env inside lost) (finish es (standing j env inside lost)))) (sym (b .is))
       (turn-sim d (turn (env (plain (d .variable))) (b .limit) (b .step)) w (at-head a) (omega arith) (doe-acts d p (variable-has deck d (w .among)) b)
       (ends-sim es (λ d x. f d (there x)) (at-tail a) (omega arith)))

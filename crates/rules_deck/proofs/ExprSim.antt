@@ -11,7 +11,8 @@ use lib.IntN.{ℤ, pos, _+ℤ_, _*ℤ_, zero-*ℤ, +ℤ-idl}
 use Rattle.number.specs.Number.{Op, Result, value, byZero, apply}
 use Rattle.rules_shared.specs.Runs.{go, halt}
 use Rattle.rules_object.specs.Operations.{Instr, LDE, OP, NEG}
-use Rattle.rules_object.specs.Machine.{state, cell, subscriptValue, placeOf, elementLoaded, operated}
+use Rattle.rules_object.specs.Machine.{cell, subscriptValue, placeOf, elementLoaded, operated}
+use Rattle.rules_object.proofs.States.{state}
 use Rattle.rules_deck.specs.Trees.{Name, valueOf, Subscript, constant, linear, Subscripts, one, two, subscriptNames, subscriptsNames, Expr, con, var, elm, neg, par, bin, Statement}
 use Rattle.rules_deck.specs.Deck.{dimsOf}
 use Rattle.rules_deck.specs.Meaning.{Cause, plain, elementAt, Values, Evaluated, val, bad, subscript, placeIn, elementValue, after, negated, joined, eval}

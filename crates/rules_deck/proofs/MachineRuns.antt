@@ -12,7 +12,8 @@ use Rattle.rules_shared.specs.Runs.{go, halt, stepsFrom, steps}
 use Rattle.rules_object.specs.Halts.{Halt, Out}
 use Rattle.rules_object.specs.Object.{ruleOf}
 use Rattle.rules_object.specs.Operations.{Instr}
-use Rattle.rules_object.specs.Machine.{State, state, act, step}
+use Rattle.rules_object.specs.Machine.{State, act, step}
+use Rattle.rules_object.proofs.States.{state}
 use Rattle.rules_shared.proofs.RunLaws.{steps-add, Steps, rest, seq, one, last}
 use Rattle.rules_deck.specs.Trees.{Statement}
 use Rattle.rules_deck.specs.Translation.{codeOf, translate}

@@ -13,11 +13,12 @@ use lib.IntN.{ℤ}
 use Rattle.rules_shared.specs.Runs.{Outcome, go, halt, then, run, stepsFrom, steps}
 use Rattle.rules_object.specs.Halts.{Halt, Out}
 use Rattle.rules_shared.specs.Choose.{positive}
-use Rattle.rules_object.specs.Machine.{State, state, fresh, step}
+use Rattle.rules_object.specs.Machine.{State, fresh, step}
+use Rattle.rules_object.proofs.States.{state}
 use Rattle.rules_shared.proofs.RunLaws.{halt-same, Steps, one, last, more, same-halt, onward, steps-more, steps-some, steps-most}
 use Rattle.rules_deck.specs.Trees.{Statement}
 use Rattle.rules_deck.specs.Deck.{Do, endings}
-use Rattle.rules_deck.specs.Meaning.{Cause, Values, Bounds, notEntered, bounds, Standing, standing, begin, meaningStep, meaning}
+use Rattle.rules_deck.specs.Meaning.{Cause, Values, Bounds, notEntered, bounds, Standing, begin, meaningStep, meaning}
 use Rattle.rules_deck.specs.Cost.{meaningSteps}
 use Rattle.rules_deck.specs.Translation.{heldOf, addressAt, translate}
 use Rattle.rules_deck.specs.Whole.{endsWell, lastOf}
@@ -28,7 +29,7 @@ use Rattle.rules_deck.specs.Seen.{haltOf, InStatement}
 use Rattle.rules_deck.proofs.DoLaws.{among-endings}
 use Rattle.rules_deck.proofs.Addresses.{address-zero}
 use Rattle.rules_deck.proofs.MachineRuns.{ruled, Runs, stay, and-then}
-use Rattle.rules_deck.proofs.Standings.{Inside, Stands}
+use Rattle.rules_deck.proofs.Standings.{standing, Inside, Stands}
 use Rattle.rules_deck.proofs.EndSim.{Sim, goes, halts}
 use Rattle.rules_deck.proofs.StatementSim.{step-sim}
 

@@ -13,7 +13,7 @@ use Rattle.rules_shared.specs.Choose.{positive}
 use Rattle.rules_object.specs.Machine.{cell}
 use Rattle.rules_deck.specs.Trees.{Statement}
 use Rattle.rules_deck.specs.Deck.{Do, dosOf}
-use Rattle.rules_deck.specs.Meaning.{Key, Values, Bounds, bounds, enter}
+use Rattle.rules_deck.specs.Meaning.{Key, Values, Bounds, bounds, enter, Standing}
 use Rattle.rules_deck.specs.Translation.{Held, cellCount, limitOf, heldOf}
 use Rattle.rules_deck.specs.Whole.{lastOf}
 use Rattle.rules_deck.specs.Accepted.{Among, here, InRange, Nested}
@@ -21,6 +21,10 @@ use Rattle.rules_deck.specs.Cells.{Slot, key, limit, step, slotCell, Has
 use Rattle.rules_deck.proofs.CellLaws.{slot-same, slot-other}
 use Rattle.rules_deck.proofs.DeckCells.{hidden-has}
 use Rattle.rules_deck.proofs.Ranges.{range-next, range-body}
+
+-- a standing written by its parts
+abbrev pub standing : ℕ → Values → (ℕ → Bounds) → ℕ → Standing
+standing j env inside lost = record { at = j; values = env; entered = inside; lost = lost }
 
 -- The DO at position q was entered, with a step above 0; its hidden cells hold its limit and step.
 pub record Bound (held : List Held) (inside : ℕ → Bounds) (c : List ℤ) (q : ℕ) : Type 0 where

@@ -11,10 +11,11 @@ use lib.IntN.{ℤ}
 use Rattle.rules_shared.specs.Runs.{Outcome, go}
 use Rattle.rules_shared.specs.Choose.{exit}
 use Rattle.rules_object.specs.Operations.{DOI, DOE}
-use Rattle.rules_object.specs.Machine.{State, state}
+use Rattle.rules_object.specs.Machine.{State}
+use Rattle.rules_object.proofs.States.{state}
 use Rattle.rules_deck.specs.Trees.{valueOf, subscriptsNames, Expr, cell, element, written, Form, assign, goTo, computed, ifs, loop, continue, stop, end, dimension, Statement, formExits}
 use Rattle.rules_deck.specs.Deck.{Do, endings, dimsOf}
-use Rattle.rules_deck.specs.Meaning.{Cause, plain, Values, Bounds, Standing, standing, third, exec, execAt, meaningStep}
+use Rattle.rules_deck.specs.Meaning.{Cause, plain, Values, Bounds, Standing, third, exec, execAt, meaningStep}
 use Rattle.rules_deck.specs.Cost.{formSteps, stepsAt, statementSteps}
 use Rattle.rules_deck.specs.Translation.{Held, heldOf, exprPlain, formPlain, exprCode, formCode, addressAt, addressOf, doInstr, enterCode, statementCode, codeOf}
 use Rattle.rules_deck.specs.Accepted.{here}
@@ -23,7 +24,7 @@ use Rattle.rules_deck.proofs.Addresses.{At, at-head, at-tail, at-left, 
 use Rattle.rules_deck.proofs.DoLaws.{is-do, among-dos}
 use Rattle.rules_deck.proofs.MachineRuns.{ruled, stay, on, out}
 use Rattle.rules_deck.proofs.ExprSim.{Known, known-left, known-right, expr-sim}
-use Rattle.rules_deck.proofs.Standings.{Stands}
+use Rattle.rules_deck.proofs.Standings.{standing, Stands}
 use Rattle.rules_deck.proofs.EndSim.{Sim, goes, halts, ends-sim}
 use Rattle.rules_deck.proofs.PartSim.{stated, known, ending, ready, jumped, assign-cell, assign-element, tested-sim, chosen-sim, read-sim}
 
@@ -35,7 +36,7 @@ module _ (k : ℕ) {deck : List Statement} (sound : Sound deck) {j lost m : ℕ}
   pub exec-sim : (number : ℕ) (f : Form) → getElem? deck j ≡ some (stated number f)
       → At (codeOf deck) (addressAt deck j) (formCode (heldOf deck) (dimsOf deck) (addressOf deck) (enterCode deck j f) f ++ map (doInstr deck DOE) (endings deck number))
       → addressAt deck j + length (formCode (heldOf deck) (dimsOf deck) (addressOf deck) (enterCode deck j f) f) + length (endings deck number) ≡ addressAt deck (suc j)
-      → Sim k deck j (state (addressAt deck j) [] c m) (formSteps (ruled k) deck (endings deck number) j env inside f) (exec (ruled k) deck (endings deck number) j env inside lost f)
+      → Sim k deck j (state (addressAt deck j) [] c m) (formSteps (ruled k) deck (endings deck number) j env inside f) (exec (ruled k) deck (endings deck number) (standing j env inside lost) f)
   unfolding formPlain formExits
   exec-sim number (assign (cell v) e) at a l =
       let code = exprCode (heldOf deck) (dimsOf deck) e in

@@ -105,46 +105,58 @@ pub record Standing : Type 0 where
   pub entered : ℕ → Bounds
   pub lost : ℕ
 
-abbrev pub standing : ℕ → Values → (ℕ → Bounds) → ℕ → Standing
-standing j env inside lost = record { at = j; values = env; entered = inside; lost = lost }
-
 abbrev pub begin : Values → Standing
-begin env = standing 0 env (λ q. notEntered) 0
+begin values = record { at = 0; values = values; entered = λ q. notEntered; lost = 0 }
+
+-- the standing but for one thing
+abbrev pub goingTo : ℕ → Standing → Standing
+goingTo j s = record { at = j; values = s .values; entered = s .entered; lost = s .lost }
+
+abbrev pub setting : Key → ℤ → Standing → Standing
+setting x v s = record { at = s .at; values = put (s .values) x v; entered = s .entered; lost = s .lost }
 
 abbrev pub enter : (ℕ → Bounds) → ℕ → Bounds → ℕ → Bounds
 enter inside q b p = cond (eqb q p) b (inside p)
 
+-- the DO that stands there
+abbrev pub entering : Bounds → Standing → Standing
+entering b s = record { at = s .at; values = s .values; entered = enter (s .entered) (s .at) b; lost = s .lost }
+
+-- told whether its statement dropped digits
+abbrev pub losing : Bool → Standing → Standing
+losing more s = record { at = s .at; values = s .values; entered = s .entered; lost = marked (s .lost) more (s .at) }
+
 -- At the body's end: the variable takes the sum and the body repeats, or it stays and the outer DOs follow.
-abbrev pub turned : Turn → Do → ℕ → Values → (ℕ → Bounds) → ℕ → Outcome Cause Standing → Outcome Cause Standing
-turned (again i) d j env inside lost outer = go (standing (suc (d .position)) (put env (plain (d .variable)) i) inside lost)
-turned over d j env inside lost outer = outer
+abbrev pub turned : Turn → Do → Standing → Outcome Cause Standing → Outcome Cause Standing
+turned (again i) d s outer = go (goingTo (suc (d .position)) (setting (plain (d .variable)) i s))
+turned over d s outer = outer
 
-abbrev pub endOf : Bounds → Do → ℕ → Values → (ℕ → Bounds) → ℕ → Outcome Cause Standing → Outcome Cause Standing
-endOf notEntered d j env inside lost outer = outer
-endOf (bounds limit step) d j env inside lost outer = turned (turn (env (plain (d .variable))) limit step) d j env inside lost outer
+abbrev pub endOf : Bounds → Do → Standing → Outcome Cause Standing → Outcome Cause Standing
+endOf notEntered d s outer = outer
+endOf (bounds limit step) d s outer = turned (turn (s .values (plain (d .variable))) limit step) d s outer
 
--- the DOs that end with statement j, innermost first; then the next statement
-abbrev pub finish : List Do → ℕ → Values → (ℕ → Bounds) → ℕ → Outcome Cause Standing
-finish [] j env inside lost = go (standing (suc j) env inside lost)
-finish (d ∷ ds) j env inside lost = endOf (inside (d .position)) d j env inside lost (finish ds j env inside lost)
+-- the DOs that end with the statement, innermost first; then the next statement
+abbrev pub finish : List Do → Standing → Outcome Cause Standing
+finish [] s = go (goingTo (suc (s .at)) s)
+finish (d ∷ ds) s = endOf (s .entered (d .position)) d s (finish ds s)
 
-module _ (r : Rule) (deck : List Statement) (ends : List Do) (j : ℕ) (env : Values) (inside : ℕ → Bounds) (lost : ℕ) where
+module _ (deck : List Statement) (ends : List Do) (s : Standing) where
   -- a halt leaves the values as they are; what was dropped before it stands
   abbrev pub halted : Cause → Bool → Outcome Cause Standing
-  halted h more = halt h (standing j env inside (marked lost more j))
+  halted h more = halt h (losing more s)
 
   -- the value is worked first, then the target's subscripts
   abbrev pub stored : Name → ℤ → Bool → Option ℕ → Outcome Cause Standing
   stored v x more none = halted wrongSubscript more
-  stored v x more (some p) = finish ends j (put env (elementAt v p) x) inside (marked lost more j)
+  stored v x more (some p) = finish ends (setting (elementAt v p) x (losing more s))
 
   abbrev pub assigned : Target → Evaluated → Outcome Cause Standing
   assigned t (bad h more) = halted h more
-  assigned (cell v) (val x more) = finish ends j (put env (plain v) x) inside (marked lost more j)
-  assigned (element v s) (val x more) = stored v x more (placeIn env (dimsOf deck v) s)
+  assigned (cell v) (val x more) = finish ends (setting (plain v) x (losing more s))
+  assigned (element v ss) (val x more) = stored v x more (placeIn (s .values) (dimsOf deck v) ss)
 
   abbrev pub goesTo : Digits → Bool → Outcome Cause Standing
-  goesTo n more = go (standing (positionOf deck (valueOf n)) env inside (marked lost more j))
+  goesTo n more = go (goingTo (positionOf deck (valueOf n)) (losing more s))
 
   abbrev pub tested : Digits → Digits → Digits → Evaluated → Outcome Cause Standing
   tested a b c (bad h more) = halted h more
@@ -157,7 +169,7 @@ module _ (r : Rule) (deck : List Statement) (ends : List Do) (j : ℕ) (env : Va
   -- all parameters must exceed 0
   abbrev pub begun : Name → Bool → ℤ → ℤ → ℤ → Bool → Outcome Cause Standing
   begun v false m₁ m₂ m₃ more = halted wrongParameter more
-  begun v true m₁ m₂ m₃ more = finish ends j (put env (plain v) m₁) (enter inside j (bounds m₂ m₃)) (marked lost more j)
+  begun v true m₁ m₂ m₃ more = finish ends (entering (bounds m₂ m₃) (setting (plain v) m₁ (losing more s)))
 
   abbrev pub read : Name → Evaluated → Evaluated → Evaluated → Outcome Cause Standing
   read v (bad h more) e₂ e₃ = halted h more
@@ -170,25 +182,24 @@ abbrev pub third : Option Expr → Expr
 third none = con (49 ∷ [])
 third (some e) = e
 
-abbrev pub exec : Rule → List Statement → List Do → ℕ → Values → (ℕ → Bounds) → ℕ → Form → Outcome Cause Standing
-exec r deck ends j env inside lost (assign t e) = assigned r deck ends j env inside lost t (eval r deck env e)
-exec r deck ends j env inside lost (goTo n) = goesTo r deck ends j env inside lost n false
-exec r deck ends j env inside lost (computed ns v) = chosen r deck ends j env inside lost (exit ns (env (plain v)))
-exec r deck ends j env inside lost (ifs e a b c) = tested r deck ends j env inside lost a b c (eval r deck env e)
-exec r deck ends j env inside lost (loop n v p₁ p₂ p₃) =
-    read r deck ends j env inside lost v (eval r deck env p₁) (eval r deck env p₂) (eval r deck env (third p₃))
-exec r deck ends j env inside lost continue = finish ends j env inside lost
-exec r deck ends j env inside lost stop = halt stopReached (standing j env inside lost)
-exec r deck ends j env inside lost end = halt endReached (standing j env inside lost)
-exec r deck ends j env inside lost (dimension arrays) = finish ends j env inside lost
+abbrev pub exec : Rule → List Statement → List Do → Standing → Form → Outcome Cause Standing
+exec r deck ends s (assign t e) = assigned deck ends s t (eval r deck (s .values) e)
+exec r deck ends s (goTo n) = goesTo deck ends s n false
+exec r deck ends s (computed ns v) = chosen deck ends s (exit ns (s .values (plain v)))
+exec r deck ends s (ifs e a b c) = tested deck ends s a b c (eval r deck (s .values) e)
+exec r deck ends s (loop n v p₁ p₂ p₃) = read deck ends s v (eval r deck (s .values) p₁) (eval r deck (s .values) p₂) (eval r deck (s .values) (third p₃))
+exec r deck ends s continue = finish ends s
+exec r deck ends s stop = halt stopReached s
+exec r deck ends s end = halt endReached s
+exec r deck ends s (dimension arrays) = finish ends s
 
 abbrev pub execAt : Rule → List Statement → Option Statement → Standing → Outcome Cause Standing
-execAt r deck none m = halt endReached m
-execAt r deck (some s) m = exec r deck (endings deck (s .number)) (m .at) (m .values) (m .entered) (m .lost) (s .form)
+execAt r deck none s = halt endReached s
+execAt r deck (some there) s = exec r deck (endings deck (there .number)) s (there .form)
 
 -- one statement
 unfoldable pub meaningStep : Rule → List Statement → Standing → Outcome Cause Standing
-meaningStep r deck m = execAt r deck (getElem? deck (m .at)) m
+meaningStep r deck s = execAt r deck (getElem? deck (s .at)) s
 
 -- a deck's meaning for at most n statements, from given values
 unfoldable pub meaning : Rule → List Statement → Values → ℕ → Outcome Cause Standing

@@ -15,7 +15,7 @@ use Rattle.number.proofs.Laws.{fits-yes, yes-fits}
 use Rattle.rules_shared.specs.Limits.{limits}
 use Rattle.rules_object.specs.Object.{Object, ruleOf}
 use Rattle.rules_object.specs.Operations.{flowOf}
-use Rattle.rules_object.specs.Machine.{State, state, fresh, cell}
+use Rattle.rules_object.specs.Machine.{State, fresh, cell, withStack}
 use Rattle.rules_object.specs.Flow.{heightAt}
 use Rattle.rules_shared.specs.Lists.{all, Each, each-none, each-more}
 use Rattle.rules_object.specs.Calls.{Lent, taken, given, right50, right51, right52}
@@ -152,7 +152,7 @@ stands-52 {o} {table} t s =
 -- what is given back is taken as it was
 pub taken-given : (t : State) → taken (given t) (t .store) ≡ t
 unfolding taken given
-taken-given t = ap (λ s. state (t .index) s (t .store) (t .mark)) (ap reverse (places-taken t) ∙ reverse-reverse (t .stack))
+taken-given t = ap (λ s. withStack s t) (ap reverse (places-taken t) ∙ reverse-reverse (t .stack))
 
 -- forty places, 0 above the height
 pub given-forty : (t : State) → length (t .stack) ≤ limits .stack → length (given t .places) ≡ limits .stack

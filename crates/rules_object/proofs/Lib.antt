@@ -1,3 +1,4 @@
+pub mod States
 pub mod Fills
 pub mod HeightsExact
 pub mod OneTable

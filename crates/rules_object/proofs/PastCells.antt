@@ -15,7 +15,7 @@ use Rattle.rules_object.specs.Halts.{Out}
 use Rattle.rules_shared.specs.Choose.{exit, place, positive, allPositive, Turn, again, over, turn}
 use Rattle.rules_object.specs.Object.{SubscriptEntry, Element, Loop, Object, ruleOf}
 use Rattle.rules_object.specs.Operations.{Instr, HLT, CON, LOD, STO, LDE, STE, OP, NEG, JMP, BR3, BRC, DOI, DOE, instruction}
-use Rattle.rules_object.specs.Machine.{State, state, cell, top, under, operated, subscriptValue, placeOf, elementLoaded, elementStored, branched, begun, turned, ended, act, step}
+use Rattle.rules_object.specs.Machine.{State, cell, top, under, operated, subscriptValue, placeOf, elementLoaded, elementStored, branched, begun, turned, ended, act, step, goingTo, withStore, next, pushing, popping}
 use Rattle.rules_object.specs.Safe.{Stands, withCells}
 use Rattle.rules_shared.proofs.RunLaws.{mapOut, run-map, steps-map}
 use Rattle.rules_object.specs.Passed.{Passed}
@@ -52,14 +52,14 @@ module _ (o : Object) (extra : List ℤ) (t : State) (long : o .cells ≤ length
   loaded-more e (some p) g b =
       let z = b p refl in
       let y = g .span in
-      ap (λ v. go (state (suc (t .index)) (v ∷ t .stack) (t .store ++ extra) (t .mark))) (same-cell (e .base + p) (omega arith))
+      ap (λ v. go (next (pushing v (withCells extra t)))) (same-cell (e .base + p) (omega arith))
 
   stored-more : (e : Element) (p : Option ℕ) → GoodElement o e → ((q : ℕ) → p ≡ some q → q < e .rows * e .columns) → elementStored p e (withCells extra t) ≡ more (elementStored p e t)
   stored-more e none g b = refl
   stored-more e (some p) g b =
       let z = b p refl in
       let y = g .span in
-      ap (λ c. go (state (suc (t .index)) (under (t .stack)) c (t .mark))) (same-set (t .store) (e .base + p) (top (t .stack)) refl (omega arith))
+      ap (λ c. go (next (popping (withStore c t)))) (same-set (t .store) (e .base + p) (top (t .stack)) refl (omega arith))
 
   begun-more : (b : Bool) (d : Loop) (m₁ m₂ m₃ : ℤ) → GoodLoop o d → begun b d m₁ m₂ m₃ (withCells extra t) ≡ more (begun b d m₁ m₂ m₃ t)
   begun-more false d m₁ m₂ m₃ g = refl
@@ -68,12 +68,12 @@ module _ (o : Object) (extra : List ℤ) (t : State) (long : o .cells ≤ length
       let c₂ = set c₁ (d .limit) m₂ in
       let n₁ : length c₁ ≡ length (t .store) = length-set (t .store) (d .variable) m₁ in
       let n₂ : length c₂ ≡ length (t .store) = length-set c₁ (d .limit) m₂ ∙ n₁ in
-      ap (λ c. go (state (suc (t .index)) (under (under (under (t .stack)))) c (t .mark)))
+      ap (λ c. go (next (popping (popping (popping (withStore c t))))))
       (ap (λ c. set (set c (d .limit) m₂) (d .step) m₃) (same-set (t .store) (d .variable) m₁ refl (g .variable))
       ∙ ap (λ c. set c (d .step) m₃) (same-set c₁ (d .limit) m₂ n₁ (g .limit)) ∙ same-set c₂ (d .step) m₃ n₂ (g .step))
 
   turned-more : (r : Turn) (d : Loop) → GoodLoop o d → turned r d (withCells extra t) ≡ more (turned r d t)
-  turned-more (again i) d g = ap (λ c. go (state (d .body) (t .stack) c (t .mark))) (same-set (t .store) (d .variable) i refl (g .variable))
+  turned-more (again i) d g = ap (λ c. go (goingTo (d .body) (withStore c t))) (same-set (t .store) (d .variable) i refl (g .variable))
   turned-more over d g = refl
 
   ended-more : (b : Bool) (d : Loop) → GoodLoop o d → ended b d (withCells extra t) ≡ more (ended b d t)
@@ -86,8 +86,8 @@ module _ (o : Object) (extra : List ℤ) (t : State) (long : o .cells ≤ length
   act-more : (r : Rule) (i : Instr) → Good o i → act r i (withCells extra t) ≡ more (act r i t)
   act-more r (HLT x) g = refl
   act-more r (CON c) g = refl
-  act-more r (LOD a) g = ap (λ v. go (state (suc (t .index)) (v ∷ t .stack) (t .store ++ extra) (t .mark))) (same-cell a g)
-  act-more r (STO a) g = ap (λ c. go (state (suc (t .index)) (under (t .stack)) c (t .mark))) (same-set (t .store) a (top (t .stack)) refl g)
+  act-more r (LOD a) g = ap (λ v. go (next (pushing v (withCells extra t)))) (same-cell a g)
+  act-more r (STO a) g = ap (λ c. go (next (popping (withStore c t)))) (same-set (t .store) a (top (t .stack)) refl g)
   act-more r (LDE e) g =
       ap (λ p. elementLoaded p e (withCells extra t)) (same-place e g) ∙ loaded-more e (placeOf (t .store) e) g (λ q z. place-below (e .rows) (e .columns) _ _ q z)
   act-more r (STE e) g =

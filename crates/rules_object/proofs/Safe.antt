@@ -16,7 +16,8 @@ use Rattle.rules_object.specs.Halts.{Halt, haltNumber, Out}
 use Rattle.rules_shared.specs.Choose.{sign3, exit, positive, allPositive, Turn, again, over, turn, marked}
 use Rattle.rules_object.specs.Object.{Element, Loop, Object, ruleOf}
 use Rattle.rules_object.specs.Operations.{Instr, HLT, CON, LOD, STO, LDE, STE, OP, NEG, JMP, BR3, BRC, DOI, DOE, pops, pushes, instruction}
-use Rattle.rules_object.specs.Machine.{State, state, cell, top, under, operated, placeOf, elementLoaded, elementStored, branched, begun, turned, ended, halts, act, step}
+use Rattle.rules_object.specs.Machine.{State, cell, top, under, operated, placeOf, elementLoaded, elementStored, branched, begun, turned, ended, halts, act, step, goingTo, withStack, setting}
+use Rattle.rules_object.proofs.States.{state}
 use Rattle.rules_object.specs.Safe.{elementCell, elementCells, touchedBy, touches, Right, Within, Stands}
 use Rattle.rules_shared.specs.Lists.{Each, each-none, each-more}
 use Rattle.rules_shared.proofs.EachLaws.{each-one}
@@ -99,11 +100,11 @@ module _ (o : Object) (H : List ℕ) (t : State) (s : Stands o H t) where
       record { inside = l .inside; height = is ∙ sym e; low = omega arith; stack = w; long = n; store = c; mark = k }
 
   -- the store as it is
-  moves : (a h : ℕ) (stack : List ℤ) → Led o H a h → length stack ≡ h → Each (Within o) stack → Stands o H (state a stack (t .store) (t .mark))
+  moves : (a h : ℕ) (stack : List ℤ) → Led o H a h → length stack ≡ h → Each (Within o) stack → Stands o H (goingTo a (withStack stack t))
   moves a h stack l e w = arrive a h stack (t .store) (t .mark) l e w (s .long) (s .store) (s .mark)
 
   -- a cell set
-  writes : (a h x : ℕ) (v : ℤ) (stack : List ℤ) → Led o H a h → length stack ≡ h → Each (Within o) stack → Within o v → Stands o H (state a stack (set (t .store) x v) (t .mark))
+  writes : (a h x : ℕ) (v : ℤ) (stack : List ℤ) → Led o H a h → length stack ≡ h → Each (Within o) stack → Within o v → Stands o H (goingTo a (withStack stack (setting x v t)))
   writes a h x v stack l e w z = let n = s .long in arrive a h stack _ (t .mark) l e w (omega (arith, length-set (t .store) x v)) (set-within o (t .store) x v (s .store) z) (s .mark)
 
   operated-kept : (r : Result) (h : ℕ) → ResultFits (ruleOf o) r → Led o H (suc (t .index)) h → length (under (under (t .stack))) + 1 ≡ h → Kept o H (operated r t (under (under (t .stack))))

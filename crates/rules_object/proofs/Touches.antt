@@ -15,7 +15,8 @@ use Rattle.rules_object.specs.Halts.{Out}
 use Rattle.rules_shared.specs.Choose.{exit, place, positive, allPositive, Turn, again, over, turn}
 use Rattle.rules_object.specs.Object.{SubscriptEntry, Element, Loop, Object, ruleOf}
 use Rattle.rules_object.specs.Operations.{Instr, HLT, CON, LOD, STO, LDE, STE, OP, NEG, JMP, BR3, BRC, DOI, DOE, instruction}
-use Rattle.rules_object.specs.Machine.{State, state, cell, top, under, operated, subscriptValue, placeOf, elementLoaded, elementStored, branched, begun, turned, ended, act, step}
+use Rattle.rules_object.specs.Machine.{State, cell, top, under, operated, subscriptValue, placeOf, elementLoaded, elementStored, branched, begun, turned, ended, act, step}
+use Rattle.rules_object.proofs.States.{state}
 use Rattle.rules_object.specs.Safe.{elementCell, elementCells, loopCells, touchedBy, touches, In, AgreeIn, AlikeIn}
 use Rattle.rules_object.specs.Promised.{cameTo, TouchesOnly}
 

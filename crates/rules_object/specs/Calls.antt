@@ -14,7 +14,7 @@ use Rattle.rules_object.specs.Halts.{haltNumber, Out}
 use Rattle.rules_object.specs.Object.{Line, Object, ruleOf}
 use Rattle.rules_object.specs.Check.{right41, rightConstant, rightElement, rightLoop, rightLine, rightNamed}
 use Rattle.rules_object.specs.Operations.{right43, flowOf}
-use Rattle.rules_object.specs.Machine.{State, state, fresh, step, benchStep}
+use Rattle.rules_object.specs.Machine.{State, fresh, step, benchStep, goingTo, withStack, withMark}
 use Rattle.rules_object.specs.Bytes.{concat, bytesOf, nameWords, readObject}
 use Rattle.rules_object.specs.Flow.{heightAt}
 use Rattle.rules_object.specs.Heights.{heights}
@@ -73,7 +73,7 @@ pub record Lent : Type 0 where
   pub places : List ℤ
 
 unfoldable pub taken : Lent → List ℤ → State
-taken l store = state (l .index) (reverse (take (l .height) (l .places))) store (l .mark)
+taken l store = goingTo (l .index) (withStack (reverse (take (l .height) (l .places))) (withMark (l .mark) (fresh store)))
 
 -- places above the height come back 0
 unfoldable pub given : State → Lent
@@ -124,6 +124,10 @@ pub record Ran : Type 0 where
 -- a refusal changes nothing that was lent
 abbrev pub notRun : Refusal → Lent → List ℤ → Ran
 notRun r l store = record { refusal = r; halt = 0; steps = 0; sequence = 0; lent = l; store = store }
+
+-- with other steps and another store
+abbrev pub ranWith : ℕ → List ℤ → Ran → Ran
+ranWith n store r = record { refusal = r .refusal; halt = r .halt; steps = n; sequence = r .sequence; lent = r .lent; store = store }
 
 abbrev pub halted : ℕ → ℕ → Object → State → Ran
 halted h n o t = record { refusal = accepted; halt = h; steps = n; sequence = sequenceOf (o .lines) (t .mark); lent = given t; store = t .store }

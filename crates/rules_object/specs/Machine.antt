@@ -25,11 +25,8 @@ pub record State : Type 0 where
   pub store : List ℤ
   pub mark : ℕ
 
-abbrev pub state : ℕ → List ℤ → List ℤ → ℕ → State
-state i s c m = record { index = i; stack = s; store = c; mark = m }
-
 abbrev pub fresh : List ℤ → State
-fresh c = state 0 [] c 0
+fresh cells = record { index = 0; stack = []; store = cells; mark = 0 }
 
 abbrev pub cell : List ℤ → ℕ → ℤ
 cell store a = getD store a (pos 0)
@@ -43,11 +40,40 @@ abbrev pub under : List ℤ → List ℤ
 under [] = []
 under (v ∷ s) = s
 
+-- the state but for one thing
+abbrev pub goingTo : ℕ → State → State
+goingTo a t = record { index = a; stack = t .stack; store = t .store; mark = t .mark }
+
+abbrev pub withStack : List ℤ → State → State
+withStack s t = record { index = t .index; stack = s; store = t .store; mark = t .mark }
+
+abbrev pub withStore : List ℤ → State → State
+withStore cells t = record { index = t .index; stack = t .stack; store = cells; mark = t .mark }
+
+abbrev pub withMark : ℕ → State → State
+withMark m t = record { index = t .index; stack = t .stack; store = t .store; mark = m }
+
+abbrev pub next : State → State
+next t = goingTo (suc (t .index)) t
+
+abbrev pub pushing : ℤ → State → State
+pushing v t = withStack (v ∷ t .stack) t
+
+abbrev pub popping : State → State
+popping t = withStack (under (t .stack)) t
+
+abbrev pub setting : ℕ → ℤ → State → State
+setting a v t = withStore (set (t .store) a v) t
+
+-- told by an instruction whether it dropped digits
+abbrev pub marking : Bool → State → State
+marking lost t = withMark (marked (t .mark) lost (t .index)) t
+
 -- ---- one instruction, with no test of stack, operand or entry
 
--- a halt leaves all as before the instruction
+-- s is the stack without the operands; a halt leaves all as before the instruction
 abbrev pub operated : Result → State → List ℤ → Out State
-operated (value v lost) t s = go (state (suc (t .index)) (v ∷ s) (t .store) (marked (t .mark) lost (t .index)))
+operated (value v lost) t s = go (next (marking lost (pushing v (withStack s t))))
 operated byZero t s = halt divideByZero t
 
 abbrev pub subscriptValue : List ℤ → SubscriptEntry → ℤ
@@ -58,25 +84,24 @@ placeOf store e = place (e .rows) (e .columns) (subscriptValue store (e .first))
 
 abbrev pub elementLoaded : Option ℕ → Element → State → Out State
 elementLoaded none e t = halt badSubscript t
-elementLoaded (some p) e t = go (state (suc (t .index)) (cell (t .store) (e .base + p) ∷ t .stack) (t .store) (t .mark))
+elementLoaded (some p) e t = go (next (pushing (cell (t .store) (e .base + p)) t))
 
 abbrev pub elementStored : Option ℕ → Element → State → Out State
 elementStored none e t = halt badSubscript t
-elementStored (some p) e t = go (state (suc (t .index)) (under (t .stack)) (set (t .store) (e .base + p) (top (t .stack))) (t .mark))
+elementStored (some p) e t = go (next (popping (setting (e .base + p) (top (t .stack)) t)))
 
 abbrev pub branched : Option ℕ → State → Out State
 branched none t = halt badExit t
-branched (some a) t = go (state a (under (t .stack)) (t .store) (t .mark))
+branched (some a) t = go (goingTo a (popping t))
 
 -- sets variable, limit and step, in this order
 abbrev pub begun : Bool → Loop → ℤ → ℤ → ℤ → State → Out State
-begun true d m₁ m₂ m₃ t =
-    go (state (suc (t .index)) (under (under (under (t .stack)))) (set (set (set (t .store) (d .variable) m₁) (d .limit) m₂) (d .step) m₃) (t .mark))
+begun true d m₁ m₂ m₃ t = go (next (popping (popping (popping (setting (d .step) m₃ (setting (d .limit) m₂ (setting (d .variable) m₁ t)))))))
 begun false d m₁ m₂ m₃ t = halt badParameter t
 
 abbrev pub turned : Turn → Loop → State → Out State
-turned (again i) d t = go (state (d .body) (t .stack) (set (t .store) (d .variable) i) (t .mark))
-turned over d t = go (state (suc (t .index)) (t .stack) (t .store) (t .mark))
+turned (again i) d t = go (goingTo (d .body) (setting (d .variable) i t))
+turned over d t = go (next t)
 
 -- a step below 1 gives halt 6
 abbrev pub ended : Bool → Loop → State → Out State
@@ -89,15 +114,15 @@ halts (suc r) = atEnd
 
 abbrev pub act : Rule → Instr → State → Out State
 act r (HLT x) t = halt (halts x) t
-act r (CON c) t = go (state (suc (t .index)) (pos c ∷ t .stack) (t .store) (t .mark))
-act r (LOD a) t = go (state (suc (t .index)) (cell (t .store) a ∷ t .stack) (t .store) (t .mark))
-act r (STO a) t = go (state (suc (t .index)) (under (t .stack)) (set (t .store) a (top (t .stack))) (t .mark))
+act r (CON c) t = go (next (pushing (pos c) t))
+act r (LOD a) t = go (next (pushing (cell (t .store) a) t))
+act r (STO a) t = go (next (popping (setting a (top (t .stack)) t)))
 act r (LDE e) t = elementLoaded (placeOf (t .store) e) e t
 act r (STE e) t = elementStored (placeOf (t .store) e) e t
 act r (OP o) t = operated (apply r o (top (under (t .stack))) (top (t .stack))) t (under (under (t .stack)))
-act r NEG t = go (state (suc (t .index)) (negℤ (top (t .stack)) ∷ under (t .stack)) (t .store) (t .mark))
-act r (JMP a) t = go (state a (t .stack) (t .store) (t .mark))
-act r (BR3 a b c) t = go (state (sign3 (top (t .stack)) a b c) (under (t .stack)) (t .store) (t .mark))
+act r NEG t = go (next (pushing (negℤ (top (t .stack))) (popping t)))
+act r (JMP a) t = go (goingTo a t)
+act r (BR3 a b c) t = go (goingTo (sign3 (top (t .stack)) a b c) (popping t))
 act r (BRC exits) t = branched (exit exits (top (t .stack))) t
 act r (DOI n d) t =
     begun (allPositive (top (under (under (t .stack)))) (top (under (t .stack))) (top (t .stack))) d (top (under (under (t .stack)))) (top (under (t .stack))) (top (t .stack)) t

@@ -75,6 +75,15 @@ abbrev pub targets : Object → List ℕ → Bool
 targets o [] = true
 targets o (t ∷ ts) = inCode o t && targets o ts
 
+abbrev pub threeExits : Object → ℕ → Bool
+threeExits o x = ltb (x + 2) (length (o .exits)) && targets o (take 3 (drop x (o .exits)))
+
+-- the first is the count of those that follow
+abbrev pub countedExits : Object → ℕ → Bool
+countedExits o x =
+    leb (limits .fewestExits) (exitAt o x) && (leb (exitAt o x) (limits .mostExits) &&
+    (ltb (x + exitAt o x) (length (o .exits)) && targets o (take (exitAt o x) (drop (x + 1) (o .exits)))))
+
 abbrev pub zeroOperand : Object → ℕ → Bool
 zeroOperand o x = eqb x 0
 
@@ -108,8 +117,8 @@ operations =
     record { says = λ o x. OP div; operandRight = zeroOperand; entryRight = noEntry; pops = 2; pushes = 1 } ∷
     record { says = λ o x. NEG; operandRight = zeroOperand; entryRight = noEntry; pops = 1; pushes = 1 } ∷
     record { says = λ o x. JMP x; operandRight = inCode; entryRight = noEntry; pops = 0; pushes = 0 } ∷
-    record { says = λ o x. BR3 (exitAt o x) (exitAt o (x + 1)) (exitAt o (x + 2)); operandRight = λ o x. ltb (x + 2) (length (o .exits)) && targets o (take 3 (drop x (o .exits))); entryRight = noEntry; pops = 1; pushes = 0 } ∷
-    record { says = λ o x. BRC (take (exitAt o x) (drop (x + 1) (o .exits))); operandRight = λ o x. leb (limits .fewestExits) (exitAt o x) && (leb (exitAt o x) (limits .mostExits) && (ltb (x + exitAt o x) (length (o .exits)) && targets o (take (exitAt o x) (drop (x + 1) (o .exits))))); entryRight = noEntry; pops = 1; pushes = 0 } ∷
+    record { says = λ o x. BR3 (exitAt o x) (exitAt o (x + 1)) (exitAt o (x + 2)); operandRight = threeExits; entryRight = noEntry; pops = 1; pushes = 0 } ∷
+    record { says = λ o x. BRC (take (exitAt o x) (drop (x + 1) (o .exits))); operandRight = countedExits; entryRight = noEntry; pops = 1; pushes = 0 } ∷
     record { says = λ o x. DOI x (loopAt o x); operandRight = aLoop; entryRight = loopRight; pops = 3; pushes = 0 } ∷
     record { says = λ o x. DOE x (loopAt o x); operandRight = aLoop; entryRight = loopRight; pops = 0; pushes = 0 } ∷ []
 

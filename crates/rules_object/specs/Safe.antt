@@ -14,11 +14,11 @@ use Rattle.rules_shared.specs.Runs.{go, halt, run, steps}
 use Rattle.rules_object.specs.Halts.{Halt, haltNumber, Out}
 use Rattle.rules_object.specs.Object.{Element, Loop, Object, ruleOf}
 use Rattle.rules_object.specs.Operations.{Instr, HLT, CON, LOD, STO, LDE, STE, OP, NEG, JMP, BR3, BRC, DOI, DOE, right43, entryRight, pops, pushes, instruction}
-use Rattle.rules_object.specs.Machine.{State, state, cell, placeOf, step, benchStep}
+use Rattle.rules_object.specs.Machine.{State, cell, placeOf, step, benchStep, withStore}
 use Rattle.rules_object.specs.Flow.{heightAt}
 use Rattle.rules_shared.specs.Refusals.{accepted}
 use Rattle.rules_shared.specs.Output.{Written}
-use Rattle.rules_object.specs.Calls.{Lent, Ran, mapOf}
+use Rattle.rules_object.specs.Calls.{Lent, Ran, mapOf, ranWith}
 use Rattle.rules_shared.specs.Lists.{Each}
 
 -- ---- every cell that an instruction reads or writes
@@ -106,10 +106,10 @@ pub record Stands (o : Object) (table : List ℕ) (t : State) : Type 0 where
 -- ---- cells past the count
 
 abbrev pub withCells : List ℤ → State → State
-withCells extra t = state (t .index) (t .stack) (t .store ++ extra) (t .mark)
+withCells extra t = withStore (t .store ++ extra) t
 
 abbrev pub ranWithCells : List ℤ → Ran → Ran
-ranWithCells extra r = record { refusal = r .refusal; halt = r .halt; steps = r .steps; sequence = r .sequence; lent = r .lent; store = r .store ++ extra }
+ranWithCells extra r = ranWith (r .steps) (r .store ++ extra) r
 
 -- ---- runs of bytes, compared
 
@@ -119,7 +119,7 @@ freshLent = record { index = 0; height = 0; mark = 0; places = replicate (limits
 
 -- the same after n steps more
 abbrev pub afterSteps : ℕ → Ran → Ran
-afterSteps n r = record { refusal = r .refusal; halt = r .halt; steps = n + r .steps; sequence = r .sequence; lent = r .lent; store = r .store }
+afterSteps n r = ranWith (n + r .steps) (r .store) r
 
 -- ---- a refusal changes nothing
 

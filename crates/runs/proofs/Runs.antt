@@ -13,7 +13,8 @@ use lib.IntN.{ℤ, pos}
 use Rattle.rules_shared.specs.Limits.{limits}
 use Rattle.rules_object.specs.Object.{Object}
 use Rattle.rules_object.specs.Check.{right41}
-use Rattle.rules_object.specs.Machine.{State, state, fresh, step, benchStep}
+use Rattle.rules_object.specs.Machine.{State, fresh, step, benchStep}
+use Rattle.rules_object.proofs.States.{state}
 use Rattle.rules_object.specs.Flow.{heightAt}
 use Rattle.rules_object.specs.Bytes.{readObject}
 use Rattle.rules_object.specs.Safe.{Faultless, Stands}

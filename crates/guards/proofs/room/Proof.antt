@@ -1,6 +1,5 @@
 -- `guards::room` meets its contract. Assumes nothing.
 use native.Mathlib.Omega.{arith}
-use lib.ListN.{getD}
 use Rattle.rules_object.specs.Operations.{operationAt}
 use Rattle.guards.proofs.Guards.{room-few, room-full, room-there}
 use borrow.Author.Needs.{needs}
