@@ -129,7 +129,7 @@ pub fn do_div(r: Regs, stack: &mut [i64; 40]) -> Turn
     let x = stack[g];
     let y = stack[h];
     if y == 0 {
-        return Turn::Halt(3);
+        return Turn::Halt(opcodes::DIVIDE_BY_ZERO);
     }
     let v = number::div(x, y);
     Turn::Next(join(r, stack, v, false))

@@ -23,10 +23,10 @@ fn room(op: usize, h: usize) -> u32
 {
     let pops = wide(operands::pops_of(op));
     if h < pops {
-        return 7;
+        return opcodes::BAD_STACK;
     }
     if 40 < h - pops + wide(operands::pushes_of(op)) {
-        7
+        opcodes::BAD_STACK
     } else {
         0
     }
@@ -39,14 +39,14 @@ fn guard(o: &[u8], e: Layout, p: u64, r: Regs) -> u32
 {
     let index = r.index;
     if e.code_count <= index {
-        return 8;
+        return opcodes::BAD_INSTRUCTION;
     }
     let w = word::load(o, e.code + 4 * index);
     if !operands::word_right(o, e, w) {
-        return 8;
+        return opcodes::BAD_INSTRUCTION;
     }
     if !operands::entry_right(o, e, p, w) {
-        return 8;
+        return opcodes::BAD_INSTRUCTION;
     }
     room(word::index(word::operation(w)), r.height)
 }
@@ -67,7 +67,7 @@ fn guard_again(o: &[u8], e: Layout, p: u64, r: Regs, seen: &mut Seen) -> u32
 {
     let index = r.index;
     if e.code_count <= index {
-        return 8;
+        return opcodes::BAD_INSTRUCTION;
     }
     let t = tag(r.height);
     if seen[index] == t {

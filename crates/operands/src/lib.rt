@@ -76,28 +76,27 @@ fn brc_right(o: &[u8], e: Layout, x: usize) -> bool
     false
 }
 
-// By operation: HLT CON LOD STO LDE STE ADD SUB MUL DIV NEG JMP BR3 BRC DOI DOE.
 fn operand_right(o: &[u8], e: Layout, operation: u32, x: usize) -> bool
     requires { ⌜ Placed e (now o) × (x < 2 ^ 24) ⌝ }
     ensures { λ r. ⌜ r ≡ operandRight (objectAt e (now (o .entry))) operation x ⌝ }
 {
     match operation {
-        0 => x <= 1,
-        1 => x < e.constant_count,
-        2 => x < word::index(e.cells),
-        3 => x < word::index(e.cells),
-        4 => x < e.element_count,
-        5 => x < e.element_count,
-        6 => x == 0,
-        7 => x == 0,
-        8 => x == 0,
-        9 => x == 0,
-        10 => x == 0,
-        11 => x < e.code_count,
-        12 => br3_right(o, e, x),
-        13 => brc_right(o, e, x),
-        14 => x < e.do_count,
-        15 => x < e.do_count,
+        opcodes::HLT => x <= 1,
+        opcodes::CON => x < e.constant_count,
+        opcodes::LOD => x < word::index(e.cells),
+        opcodes::STO => x < word::index(e.cells),
+        opcodes::LDE => x < e.element_count,
+        opcodes::STE => x < e.element_count,
+        opcodes::ADD => x == 0,
+        opcodes::SUB => x == 0,
+        opcodes::MUL => x == 0,
+        opcodes::DIV => x == 0,
+        opcodes::NEG => x == 0,
+        opcodes::JMP => x < e.code_count,
+        opcodes::BR3 => br3_right(o, e, x),
+        opcodes::BRC => brc_right(o, e, x),
+        opcodes::DOI => x < e.do_count,
+        opcodes::DOE => x < e.do_count,
         _ => false,
     }
 }
@@ -116,11 +115,11 @@ fn used_right(o: &[u8], e: Layout, p: u64, operation: u32, x: usize) -> bool
     ensures { λ r. ⌜ r ≡ entryRightAt (objectAt e (now (o .entry))) operation x ⌝ }
 {
     match operation {
-        1 => judge::constant_right(o, e, p, x),
-        4 => judge::element_right(o, e, p, x),
-        5 => judge::element_right(o, e, p, x),
-        14 => judge::loop_right(o, e, x),
-        15 => judge::loop_right(o, e, x),
+        opcodes::CON => judge::constant_right(o, e, p, x),
+        opcodes::LDE => judge::element_right(o, e, p, x),
+        opcodes::STE => judge::element_right(o, e, p, x),
+        opcodes::DOI => judge::loop_right(o, e, x),
+        opcodes::DOE => judge::loop_right(o, e, x),
         _ => true,
     }
 }

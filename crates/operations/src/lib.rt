@@ -53,11 +53,11 @@ fn do_brc(o: &[u8], b: usize, r: Regs, stack: &mut [i64; 40]) -> Turn
     let h = r.height - 1;
     let v = stack[h];
     if !subscripts::above_zero(v) {
-        return Turn::Halt(5);
+        return Turn::Halt(opcodes::BAD_EXIT);
     }
     let k = number::size(v) as usize;
     if word::index(word::load(o, b)) < k {
-        return Turn::Halt(5);
+        return Turn::Halt(opcodes::BAD_EXIT);
     }
     stack[h] = 0;
     let t = word::load(o, b + 4 * k);
@@ -81,7 +81,7 @@ fn do_doi(o: &[u8], b: usize, r: Regs, stack: &mut [i64; 40], store: &mut [i64])
     let m2 = stack[g];
     let m3 = stack[h];
     if !subscripts::all_above_zero(m1, m2, m3) {
-        return Turn::Halt(6);
+        return Turn::Halt(opcodes::BAD_PARAMETER);
     }
     set_loop(o, b, store, m1, m2, m3);
     stack[f] = 0;
@@ -116,7 +116,7 @@ fn do_doe(o: &[u8], b: usize, r: Regs, store: &mut [i64]) -> Turn
     let s = word::index(word::load(o, b + 8));
     let step = store[s];
     if !subscripts::above_zero(step) {
-        return Turn::Halt(6);
+        return Turn::Halt(opcodes::BAD_PARAMETER);
     }
     let variable = store[i];
     let limit = store[l];
@@ -143,7 +143,7 @@ fn do_lde(o: &[u8], b: usize, r: Regs, stack: &mut [i64; 40], store: &[i64]) -> 
     ensures { λ t. ⌜ after t (now (stack .exit)) (now (store .entry)) ≡ loaded (placeOf (now (store .entry)) (elementAt (now (o .entry)) b)) (wordAt (now (o .entry)) b) r (now (stack .entry)) (now (store .entry)) ⌝ }
 {
     let Place::At(n) = subscripts::element_place(o, b, store) else {
-        return Turn::Halt(4);
+        return Turn::Halt(opcodes::BAD_SUBSCRIPT);
     };
     let a = word::index(word::load(o, b)) + n;
     let v = store[a];
@@ -156,7 +156,7 @@ fn do_ste(o: &[u8], b: usize, r: Regs, stack: &mut [i64; 40], store: &mut [i64])
     ensures { λ t. ⌜ after t (now (stack .exit)) (now (store .exit)) ≡ put (placeOf (now (store .entry)) (elementAt (now (o .entry)) b)) (wordAt (now (o .entry)) b) r (now (stack .entry)) (now (store .entry)) ⌝ }
 {
     let Place::At(n) = subscripts::element_place(o, b, store) else {
-        return Turn::Halt(4);
+        return Turn::Halt(opcodes::BAD_SUBSCRIPT);
     };
     let a = word::index(word::load(o, b)) + n;
     Turn::Next(arithmetic::store_top(r, stack, store, a))
@@ -179,31 +179,31 @@ pub fn perform(
     ensures { λ t. ⌜ after t (now (stack .exit)) (now (store .exit)) ≡ performed (ruleOf (objectAt e (now (o .entry)))) (meant (objectAt e (now (o .entry))) op x) r (now (stack .entry)) (now (store .entry)) ⌝ }
 {
     match op {
-        1 => {
+        opcodes::CON => {
             let v = word::load(o, e.constants + 4 * x);
             Turn::Next(arithmetic::push(r, stack, v as i64))
         }
-        2 => {
+        opcodes::LOD => {
             let v = store[x];
             Turn::Next(arithmetic::push(r, stack, v))
         }
-        3 => Turn::Next(arithmetic::store_top(r, stack, store, x)),
-        4 => do_lde(o, e.elements + 36 * x, r, stack, store),
-        5 => do_ste(o, e.elements + 36 * x, r, stack, store),
-        6 => Turn::Next(arithmetic::do_add(r, stack, p)),
-        7 => Turn::Next(arithmetic::do_sub(r, stack, p)),
-        8 => Turn::Next(arithmetic::do_mul(r, stack, p)),
-        9 => arithmetic::do_div(r, stack),
-        10 => Turn::Next(arithmetic::do_neg(r, stack)),
-        11 => Turn::Next(Regs {
+        opcodes::STO => Turn::Next(arithmetic::store_top(r, stack, store, x)),
+        opcodes::LDE => do_lde(o, e.elements + 36 * x, r, stack, store),
+        opcodes::STE => do_ste(o, e.elements + 36 * x, r, stack, store),
+        opcodes::ADD => Turn::Next(arithmetic::do_add(r, stack, p)),
+        opcodes::SUB => Turn::Next(arithmetic::do_sub(r, stack, p)),
+        opcodes::MUL => Turn::Next(arithmetic::do_mul(r, stack, p)),
+        opcodes::DIV => arithmetic::do_div(r, stack),
+        opcodes::NEG => Turn::Next(arithmetic::do_neg(r, stack)),
+        opcodes::JMP => Turn::Next(Regs {
             index: x,
             height: r.height,
             mark: r.mark,
         }),
-        12 => Turn::Next(do_br3(o, e.exits + 4 * x, r, stack)),
-        13 => do_brc(o, e.exits + 4 * x, r, stack),
-        14 => do_doi(o, e.dos + 16 * x, r, stack, store),
-        15 => do_doe(o, e.dos + 16 * x, r, store),
+        opcodes::BR3 => Turn::Next(do_br3(o, e.exits + 4 * x, r, stack)),
+        opcodes::BRC => do_brc(o, e.exits + 4 * x, r, stack),
+        opcodes::DOI => do_doi(o, e.dos + 16 * x, r, stack, store),
+        opcodes::DOE => do_doe(o, e.dos + 16 * x, r, store),
         _ => Turn::Halt(x as u32),
     }
 }

@@ -8,6 +8,16 @@ ghost use Rattle.object.specs.Layout.{Placed, objectAt};
 ghost use Rattle.operands.specs.Operands.{operandRight};
 use object::Layout;
 
+const HLT: usize = opcodes::HLT as usize;
+
+const JMP: usize = opcodes::JMP as usize;
+
+const BR3: usize = opcodes::BR3 as usize;
+
+const BRC: usize = opcodes::BRC as usize;
+
+const DOE: usize = opcodes::DOE as usize;
+
 fn exit_at(o: &[u8], e: Layout, i: usize) -> usize
     requires { ⌜ Placed e (now o) × (i < e .«exit_count») ⌝ }
     ensures { λ r. ⌜ r ≡ getD (objectAt e (now (o .entry)) .exits) i 0 ⌝ }
@@ -28,10 +38,10 @@ pub fn width_of(o: &[u8], e: Layout, operation: usize, x: usize) -> usize
     ensures { λ r. ⌜ ((a : ℕ) → r ≡ length (successors a (meant (objectAt e (now (o .entry))) operation x))) ⌝ }
 {
     match operation {
-        0 => 0,
-        12 => 3,
-        13 => exit_at(o, e, x),
-        15 => 2,
+        HLT => 0,
+        BR3 => 3,
+        BRC => exit_at(o, e, x),
+        DOE => 2,
         _ => 1,
     }
 }
@@ -43,10 +53,10 @@ pub fn next_of(o: &[u8], e: Layout, operation: usize, x: usize, a: usize, k: usi
     ensures { λ r. ⌜ r ≡ getD (successors a (meant (objectAt e (now (o .entry))) operation x)) k 0 ⌝ }
 {
     match operation {
-        11 => x,
-        12 => exit_at(o, e, x + k),
-        13 => exit_at(o, e, x + 1 + k),
-        15 => {
+        JMP => x,
+        BR3 => exit_at(o, e, x + k),
+        BRC => exit_at(o, e, x + 1 + k),
+        DOE => {
             if k == 0 {
                 return body_of(o, e, x);
             }
