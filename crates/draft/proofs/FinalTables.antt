@@ -9,10 +9,10 @@ use borrow.Author.Tests.{eq-eqb}
 use Rattle.rules_object.specs.Object.{Loop, Element}
 use Rattle.rules_object.specs.Operations.{Instr, HLT, CON, LOD, STO, LDE, STE, OP, NEG, JMP, BR3, BRC, DOI, DOE}
 use Rattle.rules_shared.proofs.EachLaws.{each-head}
-use Rattle.rules_deck.specs.Trees.{Name, valueOf, Form, assign, goTo, computed, ifs, loop, continue, stop, end, dimension, Statement, formLast}
+use Rattle.rules_deck.specs.Trees.{Name, valueOf, Form, assign, goTo, computed, ifs, loop, continue, stop, end, dimension, Statement, formLast, Range, partsOf}
 use Rattle.rules_deck.specs.Deck.{Do, Dims, doOf, dosFrom, dosOf, endings, dimsOf}
 use Rattle.rules_deck.specs.Meaning.{third}
-use Rattle.rules_deck.specs.Translation.{Held, hidden, isHidden, cellOf, limitOf, appear, formPlain, brings, heldFrom, heldOf, exprCode, formCode, doInstr, enterCode, addressOf, statementCode, codeFrom, codeOf, Tables, noTables, tablesAfter, tablesOf, translate}
+use Rattle.rules_deck.specs.Translation.{Held, hidden, isHidden, cellOf, limitOf, appear, formPlain, brings, heldFrom, heldOf, exprCode, formCode, doInstr, enterCode, addressOf, statementCode, codeFrom, codeOf, Tables, noTables, tablesAfter, tablesOf, translate, doiFor}
 use Rattle.rules_deck.specs.Judge.{formPooled, poolAll, Taken, nothingTaken, takes}
 use Rattle.rules_deck.specs.Accepted.{takenFrom, Accepted}
 use Rattle.rules_deck.proofs.CellLaws.{holds-right}
@@ -167,15 +167,11 @@ module _ (held : List Held) (dims : Name → Dims) where
   form-elements address address′ entry entry′ same (dimension arrays) = refl
 
 enter-elements : (deck : List Statement) (q : ℕ) (f : Form) → elementsOf (enterCode deck q f) ≡ []
-enter-elements deck q (assign t e) = refl
-enter-elements deck q (goTo n) = refl
-enter-elements deck q (computed ns v) = refl
-enter-elements deck q (ifs e a b c) = refl
-enter-elements deck q (loop n v p₁ p₂ p₃) = refl
-enter-elements deck q continue = refl
-enter-elements deck q stop = refl
-enter-elements deck q end = refl
-enter-elements deck q (dimension arrays) = refl
+enter-elements deck q f = go (partsOf f .opens)
+  where
+    go : (ds : List Range) → elementsOf (doiFor deck q ds) ≡ []
+    go [] = refl
+    go (d ∷ ds) = refl
 
 ends-elements : (deck : List Statement) (ds : List Do) → elementsIn (map (doInstr deck DOE) ds) ≡ []
 ends-elements deck [] = refl

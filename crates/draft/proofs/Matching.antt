@@ -10,7 +10,7 @@ use lib.Dec.{leb}
 use lib.ListN.{length, length-append, length-map}
 use Rattle.rules_shared.specs.Limits.{limits}
 use Rattle.rules_object.specs.Operations.{Instr, HLT, LOD, STO, NEG, JMP, BR3, BRC, DOI}
-use Rattle.rules_deck.specs.Trees.{Name, valueOf, Expr, Target, cell, element, written, Form, assign, goTo, computed, ifs, loop, continue, stop, end, dimension, Statement, formExits, formLast}
+use Rattle.rules_deck.specs.Trees.{Name, valueOf, Expr, Target, cell, element, written, Form, assign, goTo, computed, ifs, loop, continue, stop, end, dimension, Statement, formExits, formLast, Range, partsOf}
 use Rattle.rules_deck.specs.Deck.{Dims}
 use Rattle.rules_deck.specs.Meaning.{third}
 use Rattle.rules_deck.specs.Translation.{Held, cellCount, brings, storeCode, formCode, Tables, tablesAfter, emit}
@@ -18,7 +18,7 @@ use Rattle.rules_deck.specs.Judge.{exprReferences, targetReferences, formRefere
 use Rattle.rules_deck.specs.Accepted.{takenFrom}
 use Rattle.rules_deck.proofs.TableLaws.{Brings, brings-none, brings-both, expr-brings, form-length}
 use Rattle.draft.specs.Names.{dimsHeld, namesFit}
-use Rattle.draft.specs.Draft.{jumpWords, ownWords, entriesOf, noLoop, draftCode, Draft, noDraft, drafts, draftFrom, draftOf}
+use Rattle.draft.specs.Draft.{jumpWords, ownWords, entriesOf, noLoop, draftCode, Draft, noDraft, drafts, draftFrom, draftOf, entryFor}
 use Rattle.draft.specs.Kept.{tablesFit, Matches}
 
 -- ---- what a form's code brings to the tables
@@ -92,15 +92,11 @@ emit-length T (i ∷ is) = ap suc (emit-length (tablesAfter T i) is)
 
 pub entries-count : (held : List Held) (q : ℕ) (f : Form) → length (entriesOf held q f) ≡ length (formLast f)
 unfolding formLast
-entries-count held q (assign t e) = refl
-entries-count held q (goTo n) = refl
-entries-count held q (computed ns v) = refl
-entries-count held q (ifs e a b c) = refl
-entries-count held q (loop n v p₁ p₂ p₃) = refl
-entries-count held q continue = refl
-entries-count held q stop = refl
-entries-count held q end = refl
-entries-count held q (dimension arrays) = refl
+entries-count held q f = go (partsOf f .opens)
+  where
+    go : (ds : List Range) → length (map (entryFor held q) ds) ≡ length (map (λ (d : Range). d .last) ds)
+    go [] = refl
+    go (d ∷ ds) = ap suc (go ds)
 
 pub own-words : (d : ℕ) (held : List Held) (f : Form) → ownWords f ≡ length (draftCode d held f)
 own-words d held f =

@@ -5,7 +5,7 @@ use Prim.Native.Nat.{ℕ, suc}
 use mathlib.Core.Logic.{_⊎_, inl, inr}
 use mathlib.Core.Bool.{Bool, true, false, _||_, cond, false≢true}
 use mathlib.Core.List.{List, [], _∷_, _++_, map, append-nil, append-assoc}
-use Rattle.rules_deck.specs.Trees.{Name, Array, Form, assign, goTo, computed, ifs, loop, continue, stop, end, dimension, Statement}
+use Rattle.rules_deck.specs.Trees.{Name, Array, Form, Statement, Range, partsOf}
 use Rattle.rules_deck.specs.Deck.{sameName, Declared, declare, arraysIn, arraysOf, dimsIn, dimsOf}
 use Rattle.rules_deck.specs.Translation.{Held, name, array, hidden, arraySize, isName, isArray, holds, appear, formPlain, hiddenIn, brings, heldFrom, heldOf}
 use Rattle.rules_deck.specs.Judge.{Reference, rightCount, rightReference}
@@ -33,15 +33,11 @@ arrays-declared [] = refl
 arrays-declared (a ∷ arrays) = ap (λ (l : List Declared). declare a ∷ l) (arrays-declared arrays)
 
 arrays-hidden : (q : ℕ) (f : Form) (held : List Held) → arraysHeld (hiddenIn q f ++ held) ≡ arraysHeld held
-arrays-hidden q (assign t e) held = refl
-arrays-hidden q (goTo n) held = refl
-arrays-hidden q (computed ns v) held = refl
-arrays-hidden q (ifs e a b c) held = refl
-arrays-hidden q (loop n v p₁ p₂ p₃) held = refl
-arrays-hidden q continue held = refl
-arrays-hidden q stop held = refl
-arrays-hidden q end held = refl
-arrays-hidden q (dimension arrays) held = refl
+arrays-hidden q f held = go (partsOf f .opens)
+  where
+    go : (ds : List Range) → arraysHeld (map (λ (d : Range). hidden q) ds ++ held) ≡ arraysHeld held
+    go [] = refl
+    go (d ∷ ds) = go ds
 
 -- a statement brings the arrays that it declares
 pub arrays-brings : (q : ℕ) (f : Form) (held : List Held) → arraysHeld (brings q f held) ≡ arraysHeld held ++ map declare (arraysIn f)

@@ -16,7 +16,7 @@ use Rattle.rules_shared.specs.Lists.{all, Each, each-more}
 use Rattle.rules_object.specs.Object.{Named}
 use Rattle.rules_object.specs.Check.{span, isLetter, isDigit}
 use Rattle.rules_shared.proofs.EachLaws.{each-map}
-use Rattle.rules_deck.specs.Trees.{Name, Array, array, arrayNames, Form, assign, goTo, computed, ifs, loop, continue, stop, end, dimension, Statement, formNames}
+use Rattle.rules_deck.specs.Trees.{Name, Array, array, arrayNames, Form, Statement, formNames, Range, partsOf}
 use Rattle.rules_deck.specs.Tokens.{isLetterOrDigit}
 use Rattle.rules_deck.specs.Deck.{sameName, Dims, Declared, declare, arraysIn, dimsIn, dimsOf}
 use Rattle.rules_deck.specs.Meaning.{plain}
@@ -110,15 +110,11 @@ appear-names (w ∷ vs) held v a =
     go (inr b) = inr (there b)
 
 hidden-names : (q : ℕ) (f : Form) → namesHeld (hiddenIn q f) ≡ []
-hidden-names q (assign t e) = refl
-hidden-names q (goTo n) = refl
-hidden-names q (computed ns v) = refl
-hidden-names q (ifs e a b c) = refl
-hidden-names q (loop n v p₁ p₂ p₃) = refl
-hidden-names q continue = refl
-hidden-names q stop = refl
-hidden-names q end = refl
-hidden-names q (dimension arrays) = refl
+hidden-names q f = go (partsOf f .opens)
+  where
+    go : (ds : List Range) → namesHeld (map (λ (d : Range). hidden q) ds) ≡ []
+    go [] = refl
+    go (d ∷ ds) = go ds
 
 brings-names : (q : ℕ) (f : Form) (held : List Held) (v : Name) → Among v (namesHeld (brings q f held)) → Among v (namesHeld held) ⊎ Among v (formNames f)
 brings-names q f held v a =

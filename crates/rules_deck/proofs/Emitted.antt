@@ -11,10 +11,10 @@ use Rattle.rules_object.specs.Object.{Object}
 use Rattle.rules_object.specs.Operations.{Instr, DOE, decode}
 use Rattle.rules_shared.specs.Lists.{Each, each-none, each-more}
 use Rattle.rules_shared.proofs.EachLaws.{each-one, each-append}
-use Rattle.rules_deck.specs.Trees.{Name, valueOf, Expr, con, var, elm, neg, par, bin, Target, cell, element, Form, assign, goTo, computed, ifs, loop, continue, stop, end, dimension, Statement}
-use Rattle.rules_deck.specs.Deck.{positionOf, Do, Dims, doOf, dosFrom, dosOf, dimsOf, endings}
+use Rattle.rules_deck.specs.Trees.{Name, valueOf, Expr, con, var, elm, neg, par, bin, Target, cell, element, Form, assign, goTo, computed, ifs, loop, continue, stop, end, dimension, Statement, Range, partsOf}
+use Rattle.rules_deck.specs.Deck.{positionOf, Do, Dims, doOf, dosFrom, dosOf, dimsOf, endings, doAt}
 use Rattle.rules_deck.specs.Meaning.{third}
-use Rattle.rules_deck.specs.Translation.{Held, size, cellCount, firstCell, cellOf, heldOf, exprCode, storeCode, formCode, addressOf, loopEntry, doInstr, enterCode, statementCode, codeFrom, codeOf, noTables, translate}
+use Rattle.rules_deck.specs.Translation.{Held, size, cellCount, firstCell, cellOf, heldOf, exprCode, storeCode, formCode, addressOf, loopEntry, doInstr, enterCode, statementCode, codeFrom, codeOf, noTables, translate, doiFor}
 use Rattle.rules_deck.specs.Accepted.{Among, here, there, Fitting}
 use Rattle.rules_deck.proofs.Addresses.{address-most}
 use Rattle.rules_deck.proofs.TestLaws.{clash, among-left, among-right}
@@ -79,15 +79,11 @@ module _ (k : ℕ) (deck : List Statement) where
 
   entry-bounded : (q : ℕ) (f : Form) → ((d : Do) → Among d (doOf q f) → Among d (dosOf deck)) → Bounded (translate k deck) (enterCode deck q f)
   unfolding translate
-  entry-bounded q (assign t e) g = tt
-  entry-bounded q (goTo n) g = tt
-  entry-bounded q (computed ns v) g = tt
-  entry-bounded q (ifs e a b c) g = tt
-  entry-bounded q (loop n v p₁ p₂ p₃) g = do-row deck _ (g _ here)
-  entry-bounded q continue g = tt
-  entry-bounded q stop g = tt
-  entry-bounded q end g = tt
-  entry-bounded q (dimension arrays) g = tt
+  entry-bounded q f g = go (partsOf f .opens) g
+    where
+      go : (ds : List Range) → ((d : Do) → Among d (map (doAt q) ds) → Among d (dosOf deck)) → Bounded (translate k deck) (doiFor deck q ds)
+      go [] = λ g. tt
+      go (d ∷ ds) = λ g. do-row deck _ (g _ here)
 
   ends-bounded : (ds : List Do) → ((d : Do) → Among d ds → Among d (dosOf deck)) → Each (Bounded (translate k deck)) (map (doInstr deck DOE) ds)
   unfolding translate

@@ -4,15 +4,15 @@ use mathlib.Core.Path.{_≡_, refl, sym, ap, _∙_, subst}
 use Prim.Native.Nat.{ℕ, suc, _+_, _-_, _≤_}
 use native.Mathlib.Omega.{arith}
 use mathlib.Core.Bool.{Bool, true, false, cond}
-use mathlib.Core.List.{List, [], _∷_}
+use mathlib.Core.List.{List, [], _∷_, map}
 use mathlib.Core.Option.{some}
 use lib.Dec.{leb, eqb}
 use lib.ListN.{length, getElem?, length-append, length-map, length-reverse}
 use borrow.Author.Tests.{leb-true, eqb-true}
 use Rattle.rules_shared.specs.Limits.{limits}
 use Rattle.rules_object.specs.Operations.{Instr, DOE}
-use Rattle.rules_deck.specs.Trees.{Form, assign, goTo, computed, ifs, loop, continue, stop, end, dimension, Statement, formLast}
-use Rattle.rules_deck.specs.Deck.{positionOf, Do, doOf, dosFrom, dosOf, endingWith, endings, dimsOf}
+use Rattle.rules_deck.specs.Trees.{Form, Statement, formLast, Range, partsOf}
+use Rattle.rules_deck.specs.Deck.{positionOf, Do, doOf, dosFrom, dosOf, endingWith, endings, dimsOf, doAt}
 use Rattle.rules_deck.specs.Translation.{Held, name, array, hidden, arraySize, cellCount, heldOf, enterCode, addressOf, statementCode, doInstr, codeFrom, codeOf, Tables, noTables, tablesOf, namesFrom}
 use Rattle.rules_deck.specs.Judge.{Taken, nothingTaken, takes, poolAll, formPooled, formReferences, formExitWords, nameCount, right18}
 use Rattle.rules_deck.specs.Accepted.{Among, here, there, takenFrom, takenBefore, Accepted, Fitting}
@@ -63,15 +63,11 @@ last-right (s ∷ deck) h =
 
 dos-of : (q : ℕ) (f : Form) → length (doOf q f) ≡ length (formLast f)
 unfolding formLast
-dos-of q (assign t e) = refl
-dos-of q (goTo n) = refl
-dos-of q (computed ns v) = refl
-dos-of q (ifs e a b c) = refl
-dos-of q (loop n v p₁ p₂ p₃) = refl
-dos-of q continue = refl
-dos-of q stop = refl
-dos-of q end = refl
-dos-of q (dimension arrays) = refl
+dos-of q f = go (partsOf f .opens)
+  where
+    go : (ds : List Range) → length (map (doAt q) ds) ≡ length (map (λ (d : Range). d .last) ds)
+    go [] = refl
+    go (d ∷ ds) = ap suc (go ds)
 
 dos-from : (q : ℕ) (deck : List Statement) (t : Taken) → takenFrom q deck t .dos ≡ t .dos + length (dosFrom q deck)
 unfolding takes

@@ -12,10 +12,10 @@ use Rattle.rules_object.specs.Object.{SubscriptEntry, Element}
 use Rattle.rules_object.specs.Operations.{Instr, HLT, CON, LOD, STO, LDE, STE, OP, NEG, JMP, BR3, BRC, DOI, DOE}
 use Rattle.rules_shared.specs.Lists.{Each, each-none, each-more}
 use Rattle.rules_shared.proofs.EachLaws.{each-head, each-tail, each-one, each-append, each-left, each-right}
-use Rattle.rules_deck.specs.Trees.{Name, Digits, valueOf, Addend, nothing, plus, minus, constant, linear, Subscripts, one, two, Expr, con, var, elm, neg, par, bin, Target, cell, element, written, Form, assign, goTo, computed, ifs, loop, continue, stop, end, dimension, Statement, addendConstants, optional, subscriptNames, subscriptsNames, subscriptConstants, subscriptsConstants, exprConstants, targetConstants, formConstants, formExits}
+use Rattle.rules_deck.specs.Trees.{Name, Digits, valueOf, Addend, nothing, plus, minus, constant, linear, Subscripts, one, two, Expr, con, var, elm, neg, par, bin, Target, cell, element, written, Form, assign, goTo, computed, ifs, loop, continue, stop, end, dimension, Statement, addendConstants, optional, subscriptNames, subscriptsNames, subscriptConstants, subscriptsConstants, exprConstants, targetConstants, formConstants, formExits, Range, partsOf}
 use Rattle.rules_deck.specs.Deck.{Dims, dimsOf, Do, endings, width}
 use Rattle.rules_deck.specs.Meaning.{times, addend, third}
-use Rattle.rules_deck.specs.Translation.{Held, heldOf, cellOf, baseOf, exprPlain, targetPlain, formPlain, subscriptEntry, elementEntry, exprCode, storeCode, formCode, addressOf, doInstr, enterCode, codeFrom, codeOf}
+use Rattle.rules_deck.specs.Translation.{Held, heldOf, cellOf, baseOf, exprPlain, targetPlain, formPlain, subscriptEntry, elementEntry, exprCode, storeCode, formCode, addressOf, doInstr, enterCode, codeFrom, codeOf, doiFor}
 use Rattle.rules_deck.specs.Judge.{Reference, exprReferences, targetReferences, formReferences}
 use Rattle.rules_deck.specs.Accepted.{Among, here, there, Shaped}
 
@@ -163,15 +163,11 @@ module _ (held : List Held) (dims : Name → Dims) (m n cells : ℕ) where
 
 module _ (m n cells : ℕ) (deck : List Statement) where
   enter-right : (q : ℕ) (f : Form) → Right m n cells (enterCode deck q f)
-  enter-right q (assign t e) = tt
-  enter-right q (goTo x) = tt
-  enter-right q (computed xs v) = tt
-  enter-right q (ifs e a b c) = tt
-  enter-right q (loop x v p₁ p₂ p₃) = tt
-  enter-right q continue = tt
-  enter-right q stop = tt
-  enter-right q end = tt
-  enter-right q (dimension arrays) = tt
+  enter-right q f = go (partsOf f .opens)
+    where
+      go : (ds : List Range) → Right m n cells (doiFor deck q ds)
+      go [] = tt
+      go (d ∷ ds) = tt
 
   ends-right : (ds : List Do) → Each (Right m n cells) (map (doInstr deck DOE) ds)
   ends-right [] = each-none

@@ -9,10 +9,10 @@ use lib.ListN.{length, length-append, length-map}
 use Rattle.number.specs.Number.{Op}
 use Rattle.rules_object.specs.Object.{Element, Loop}
 use Rattle.rules_object.specs.Operations.{Instr, HLT, CON, LOD, STO, LDE, STE, OP, NEG, JMP, BR3, BRC, DOI, DOE}
-use Rattle.rules_deck.specs.Trees.{Name, valueOf, Expr, con, var, elm, neg, par, bin, Target, cell, element, written, Form, assign, goTo, computed, ifs, loop, continue, stop, end, dimension, Statement, formLast}
+use Rattle.rules_deck.specs.Trees.{Name, valueOf, Expr, con, var, elm, neg, par, bin, Target, cell, element, written, Form, assign, goTo, computed, ifs, loop, continue, stop, end, dimension, Statement, formLast, Range, partsOf}
 use Rattle.rules_deck.specs.Deck.{Do, endings, Dims, dimsOf}
 use Rattle.rules_deck.specs.Meaning.{third}
-use Rattle.rules_deck.specs.Translation.{Held, exprCode, storeCode, formCode, doInstr, enterCode, statementCode, heldOf, addressOf, Tables, pool, tablesAfter, tablesOf}
+use Rattle.rules_deck.specs.Translation.{Held, exprCode, storeCode, formCode, doInstr, enterCode, statementCode, heldOf, addressOf, Tables, pool, tablesAfter, tablesOf, doiFor}
 use Rattle.rules_deck.specs.Judge.{exprReferences, targetReferences, formReferences, exprPooled, formPooled, poolAll, exprWords, formWords, formExitWords}
 
 -- ---- tables after code
@@ -166,15 +166,11 @@ module _ (held : List Held) (dims : Name → Dims) where
   form-length address entry (dimension arrays) = refl
 
 quiet-entry : (deck : List Statement) (q : ℕ) (f : Form) → Quiet (enterCode deck q f)
-quiet-entry deck q (assign t e) = sign
-quiet-entry deck q (goTo n) = sign
-quiet-entry deck q (computed ns v) = sign
-quiet-entry deck q (ifs e a b c) = sign
-quiet-entry deck q (loop n v p₁ p₂ p₃) = doi
-quiet-entry deck q continue = sign
-quiet-entry deck q stop = sign
-quiet-entry deck q end = sign
-quiet-entry deck q (dimension arrays) = sign
+quiet-entry deck q f = go (partsOf f .opens)
+  where
+    go : (ds : List Range) → Quiet (doiFor deck q ds)
+    go [] = sign
+    go (d ∷ ds) = doi
 
 ends-bring : (deck : List Statement) (ds : List Do) → Brings (map (doInstr deck DOE) ds) [] 0 0
 ends-bring deck [] = brings-none
