@@ -6,7 +6,7 @@ use mathlib.Core.List.{List, [], _∷_, _++_, map}
 use lib.ListN.{length}
 use Rattle.rules_object.specs.Object.{Loop}
 use Rattle.rules_object.specs.Operations.{Instr, NEG, DOI}
-use Rattle.rules_deck.specs.Trees.{Name, valueOf, Form, assign, goTo, computed, ifs, loop, continue, stop, end, dimension, Statement, formExits, formLast, Range, partsOf, gathered}
+use Rattle.rules_deck.specs.Trees.{Name, valueOf, Form, assign, goTo, computed, ifs, loop, continue, stop, end, dimension, Statement, Range, partsOf, gathered, formNumbers}
 use Rattle.rules_deck.specs.Translation.{Held, cellOf, limitOf, brings, formCode, Tables, noTables, emit, tablesOf}
 use Rattle.rules_deck.specs.Whole.{formSets}
 use Rattle.tokens.specs.Words.{nameWord}
@@ -36,7 +36,7 @@ setWord f = firstWord (formSets f)
 
 -- the numbers that it jumps to, or a DO's last
 abbrev pub jumpWords : Form → List ℕ
-jumpWords f = map valueOf (formExits f ++ formLast f)
+jumpWords f = map valueOf (formNumbers f)
 
 -- words of a form's own code
 abbrev pub ownWords : Form → ℕ

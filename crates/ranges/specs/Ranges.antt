@@ -8,7 +8,7 @@ use lib.ListN.{length}
 use Rattle.rules_shared.specs.Limits.{limits}
 use Rattle.cards.specs.declared.Sequence.{Sequence}
 use Rattle.tables.specs.declared.Loops.{Loops}
-use Rattle.tables.specs.Rows.{kindAt, setAt, jumpsAt, startOf}
+use Rattle.tables.specs.Rows.{kindAt, setAt, setsAt, jumpsAt, startOf}
 use Rattle.tables.specs.Tables.{placeIn}
 use Rattle.numbers.specs.Numbers.{allFrom, countFrom}
 
@@ -76,7 +76,7 @@ jumpsRight rows loops places q = allFrom (jumpStays loops places (suc q)) (exits
 
 -- what is set at a place is not the variable of a DO around it
 unfoldable pub leaves : List ℕ → ℕ → ℕ → ℕ → Bool
-leaves rows first last at = not (covering first last at && eqb (setAt rows (first - 1)) (setAt rows (at - 1)))
+leaves rows first last at = not (covering first last at && setsAt rows (at - 1) (setAt rows (first - 1)))
 
 unfoldable pub setRight : List ℕ → Loops → ℕ → Bool
 setRight rows loops at = allFrom (λ i. leaves rows (doAt loops i) (lastAt loops i) at) (loops .count) 0

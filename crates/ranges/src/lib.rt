@@ -178,8 +178,8 @@ fn leaves_be(rows: &[u64], first: Sequence, last: Sequence, at: Sequence) -> boo
     ensures { λ r. ⌜ r ≡ leaves (now (rows .entry)) (first .0) (last .0) (at .0) ⌝ }
 {
     let own = tables::set_of(rows, tables::position_of(first));
-    let set = tables::set_of(rows, tables::position_of(at));
-    !(in_range(first, last, at) & (own == set))
+    let set = tables::sets(rows, tables::position_of(at), own);
+    !(in_range(first, last, at) & set)
 }
 
 fn set_right(rows: &[u64], count: usize, loops: Loops, at: Sequence) -> bool

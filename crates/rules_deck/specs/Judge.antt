@@ -9,7 +9,7 @@ use lib.ListN.{length}
 use Rattle.rules_shared.specs.Limits.{limits}
 use Rattle.rules_shared.specs.Refusals.{orElse}
 use Rattle.rules_shared.specs.Lists.{all}
-use Rattle.rules_deck.specs.Trees.{Name, valueOf, Subscripts, one, two, Array, array, Expr, con, var, elm, neg, par, bin, Target, cell, element, written, Form, assign, goTo, computed, ifs, loop, continue, stop, end, dimension, formNames, formConstants, formExits, formLast, formLevels, Phrase, sets, chooses, computes, steps, declares, partsOf, gathered}
+use Rattle.rules_deck.specs.Trees.{Name, valueOf, Subscripts, one, two, Array, array, Expr, con, var, elm, neg, par, bin, Target, cell, element, written, Form, assign, goTo, computed, ifs, loop, continue, stop, end, dimension, formNames, formConstants, formLast, formNumbers, formLevels, Phrase, sets, chooses, computes, steps, declares, partsOf, gathered}
 use Rattle.rules_deck.specs.Deck.{sameName, Dims, declare, arraysIn}
 use Rattle.rules_deck.specs.Meaning.{third}
 use Rattle.rules_deck.specs.Translation.{Held, name, hidden, cellCount, isName, isArray, holds, brings, formPlain, pool}
@@ -29,7 +29,7 @@ unfoldable pub right12 : ℕ → Form → Bool
 right12 k f = all (λ c. leb (length c) k) (formConstants f)
 
 unfoldable pub right13 : Form → Bool
-right13 f = all (λ n. leb 1 (valueOf n) && leb (valueOf n) (limits .statementNumber)) (formExits f ++ formLast f)
+right13 f = all (λ n. leb 1 (valueOf n) && leb (valueOf n) (limits .statementNumber)) (formNumbers f)
 
 unfoldable pub right14 : Form → Bool
 right14 f = leb (formLevels f) (limits .parentheses)

@@ -229,6 +229,10 @@ formExits f = partsOf f .exits
 unfoldable pub formLast : Form → List Digits
 formLast f = map (λ (d : Range). d .last) (partsOf f .opens)
 
+-- every number in its text
+abbrev pub formNumbers : Form → List Digits
+formNumbers f = formExits f ++ formLast f
+
 abbrev pub phraseExprs : Phrase → List Expr
 phraseExprs (sets t) = []
 phraseExprs (chooses v) = []

@@ -2,14 +2,14 @@
 -- Assumes nothing.
 use Prim.Native.Nat.{ℕ, suc}
 use mathlib.Core.Bool.{Bool, true, false, _&&_, _||_, not, cond}
-use mathlib.Core.List.{List, [], _∷_, _++_}
+use mathlib.Core.List.{List, [], _∷_}
 use mathlib.Core.Option.{Option, none, some}
 use lib.Dec.{leb, ltb, eqb}
 use lib.ListN.{length, getElem?}
 use Rattle.rules_shared.specs.Limits.{limits}
 use Rattle.rules_shared.specs.Refusals.{Refusal, refusal, orElse}
 use Rattle.rules_shared.specs.Lists.{all}
-use Rattle.rules_deck.specs.Trees.{Name, Digits, valueOf, Target, cell, element, Form, Statement, formExits, formLast, Phrase, sets, chooses, computes, steps, declares, partsOf, gathered}
+use Rattle.rules_deck.specs.Trees.{Name, Digits, valueOf, Target, cell, element, Form, Statement, formExits, formNumbers, Phrase, sets, chooses, computes, steps, declares, partsOf, gathered}
 use Rattle.rules_deck.specs.Deck.{sameName, positionOf, Do, dosOf}
 
 -- the first position, counted from q, whose statement fails the test; its sequence number
@@ -47,7 +47,7 @@ abbrev pub defined : List Statement → Digits → Bool
 defined deck n = ltb (positionOf deck (valueOf n)) (length deck)
 
 unfoldable pub right22 : List Statement → ℕ → Statement → Bool
-right22 deck q s = all (defined deck) (formExits (s .form) ++ formLast (s .form))
+right22 deck q s = all (defined deck) (formNumbers (s .form))
 
 -- ---- ranges: after the DO through its last statement
 

@@ -1,7 +1,9 @@
 -- What drafting keeps of a statement and of a DO, read by position.
 -- Assumes nothing.
 use Prim.Native.Nat.{ℕ, zero, suc, _+_, _*_}
+use mathlib.Core.Bool.{Bool}
 use mathlib.Core.List.{List}
+use lib.Dec.{eqb}
 use lib.ListN.{getD}
 
 -- ---- rows of five words a statement
@@ -15,6 +17,9 @@ kindAt rows q = getD rows (5 * q + 1) 0
 -- the name that it sets
 abbrev pub setAt : List ℕ → ℕ → ℕ
 setAt rows q = getD rows (5 * q + 2) 0
+
+abbrev pub setsAt : List ℕ → ℕ → ℕ → Bool
+setsAt rows q name = eqb name (setAt rows q)
 
 -- how many jumps it has
 abbrev pub jumpsAt : List ℕ → ℕ → ℕ

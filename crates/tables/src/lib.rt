@@ -2,7 +2,7 @@
 ghost use mathlib.Core.Path.{_≡_};
 ghost use Prim.Native.Nat.{suc, _+_, _*_, _^_, _≤_, _<_};
 ghost use lib.ListN.{length};
-ghost use Rattle.tables.specs.Rows.{numberAt, kindAt, setAt, jumpsAt};
+ghost use Rattle.tables.specs.Rows.{numberAt, kindAt, setAt, jumpsAt, setsAt};
 ghost use Rattle.tables.specs.Tables.{RowsFit, NumbersOf, Wanted, LoopsFit, LoopsOf};
 use cards::Number;
 use cards::Sequence;
@@ -44,6 +44,14 @@ pub fn set_of(rows: &[u64], q: usize) -> u64
     ensures { λ r. ⌜ r ≡ setAt (now (rows .entry)) q ⌝ }
 {
     rows[5 * q + 2]
+}
+
+// Whether a statement sets a name.
+pub fn sets(rows: &[u64], q: usize, name: u64) -> bool
+    requires { ⌜ 5 * q + 5 ≤ length (now rows) ⌝ }
+    ensures { λ r. ⌜ r ≡ setsAt (now (rows .entry)) q name ⌝ }
+{
+    name == rows[5 * q + 2]
 }
 
 pub fn jumps_of(rows: &[u64], q: usize) -> usize

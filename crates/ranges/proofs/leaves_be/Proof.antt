@@ -19,8 +19,8 @@ position-of-requires-2 : tie.Need-position-of-requires-2
 position-of-requires-2 c κs =
     c .before .before .before .pre .1 .0
 
-set-of-requires-2 : tie.Need-set-of-requires-2
-set-of-requires-2 c κs =
+sets-requires : tie.Need-sets-requires
+sets-requires c κs =
     omega (arith, c .position-of2 .ensures, c .before .before .before .before .pre .1 .1)
 
 in-range-requires : tie.Need-in-range-requires
@@ -31,7 +31,7 @@ unfolding leaves
 returns c =
     let a : c .before .before .before .before .position-of .result ≡ c .before .before .before .before .before .before .args .first .0 - 1 = omega (arith, c .before .before .before .before .position-of .ensures) in
     let b : c .before .before .position-of2 .result ≡ c .before .before .before .before .before .before .args .at .0 - 1 = omega (arith, c .before .before .position-of2 .ensures) in
-    rw (c .in-range .ensures, c .before .before .before .set-of .ensures, c .before .set-of2 .ensures, a, b)
+    rw (c .in-range .ensures, c .before .sets .ensures, c .before .before .before .set-of .ensures, a, b)
 
 pub leaves-be-spec : {M : Type 1} → statement M
 leaves-be-spec =
@@ -40,6 +40,6 @@ leaves-be-spec =
     position-of-requires
     set-of-requires
     position-of-requires-2
-    set-of-requires-2
+    sets-requires
     in-range-requires
     returns)
