@@ -1,81 +1,106 @@
 //! The line protocol: one request a line, one answer a line.
 
-use crate::check::{check, open};
-use crate::compile::compile;
+use crate::lent::Lent;
+use crate::level::Level;
 use crate::limits::STACK;
-use crate::machine::{bench, run, Ran, State};
-use crate::map::map;
-use crate::object::{CONTENTS_BYTES, ENTRY_BYTES, ENTRY_LIMITS};
-use crate::program;
+use crate::machine::{Ran, State};
 use crate::refusal::Refusal;
 
 const UNREADABLE: &str = "BAD REQUEST";
 
-/// The answer to one request, neither with a line end.
+/// The base's answer to one request, neither with a line end.
 pub fn answer(request: &str) -> String {
-    read(request).unwrap_or_else(|| UNREADABLE.to_string())
+    Level::Base.answer(request)
+}
+
+impl Level {
+    /// The answer to one request, neither with a line end.
+    pub fn answer(self, request: &str) -> String {
+        read(self, request).unwrap_or_else(|| UNREADABLE.to_string())
+    }
 }
 
 /// None: the request cannot be read.
-fn read(request: &str) -> Option<String> {
+fn read(level: Level, request: &str) -> Option<String> {
     let fields: Vec<&str> = request.split(' ').collect();
     match fields[..] {
-        ["compile", k, deck, room] => Some(answer_compile(unsigned(k)?, &bytes(deck)?, unsigned(room)?)),
-        ["check", object] => Some(answer_check(&bytes(object)?)),
-        ["run", object, store, state, allowance] => Some(answer_run(
-            &bytes(object)?,
-            numbers(store)?,
-            read_state(state)?,
-            unsigned(allowance)?,
-        )),
-        ["bench", object, store, allowance] => {
-            Some(answer_bench(&bytes(object)?, numbers(store)?, unsigned(allowance)?))
+        ["compile", k, deck, room] => Some(compile(level, digits(level, k)?, &bytes(deck)?, unsigned(room)?)),
+        ["check", object] => Some(check(level, &bytes(object)?)),
+        ["run", object, store, state, allowance, ref lent @ ..] => {
+            let (object, store, state) = (bytes(object)?, numbers(store)?, read_state(state)?);
+            let (cards, room) = read_lent(level, lent)?;
+            Some(run(
+                level,
+                &object,
+                store,
+                state,
+                unsigned(allowance)?,
+                &mut Lent::new(&cards, room),
+            ))
         }
-        ["map", object] => Some(answer_map(&bytes(object)?)),
-        ["program", input] => Some(program::lines(&bytes(input)?).join(" | ")),
+        ["bench", object, store, allowance, ref lent @ ..] => {
+            let (object, store) = (bytes(object)?, numbers(store)?);
+            let (cards, room) = read_lent(level, lent)?;
+            Some(bench(
+                level,
+                &object,
+                store,
+                unsigned(allowance)?,
+                &mut Lent::new(&cards, room),
+            ))
+        }
+        ["map", object] => Some(map(level, &bytes(object)?)),
+        ["program", input] => Some(level.program(&bytes(input)?).join(" | ")),
         _ => None,
     }
 }
 
-/// The length of the longest object there can be.
-fn longest_object() -> usize {
-    CONTENTS_BYTES
-        + ENTRY_BYTES
-            .iter()
-            .zip(ENTRY_LIMITS)
-            .map(|(bytes, limit)| bytes * limit)
-            .sum::<usize>()
+/// The digits asked for. From 2026-01 on they may be negative, and are then wrong as 0 is.
+fn digits(level: Level, field: &str) -> Option<u32> {
+    match field.strip_prefix('-') {
+        Some(below) if level >= Level::Cards => all_digits(below).then_some(0),
+        _ => unsigned(field),
+    }
 }
 
-fn answer_compile(k: u32, deck: &[u8], room: u32) -> String {
+/// "two fields: the cards lent and the room for lines, in lines"; none in the base.
+fn read_lent(level: Level, fields: &[&str]) -> Option<(Vec<u8>, usize)> {
+    match (level, fields) {
+        (Level::Base, []) => Some((Vec::new(), 0)),
+        (Level::Cards, [cards, room]) => Some((bytes(cards)?, unsigned(room)? as usize)),
+        _ => None,
+    }
+}
+
+fn compile(level: Level, k: u32, deck: &[u8], room: u32) -> String {
     // No object needs more room than the longest.
-    let mut out = vec![0; longest_object().min(room as usize)];
-    match compile(k, deck, &mut out) {
+    let mut out = vec![0; level.edition().longest().min(room as usize)];
+    match level.compile(k, deck, &mut out) {
         Ok(length) => format!("OK {}", hexadecimal(&out[..length])),
         Err(refusal) => format!("REFUSED {} {}", refusal.number, refusal.place),
     }
 }
 
-fn answer_check(object: &[u8]) -> String {
-    check(object).map_or_else(refused, |()| "OK".to_string())
+fn check(level: Level, object: &[u8]) -> String {
+    level.check(object).map_or_else(refused, |()| "OK".to_string())
 }
 
-fn answer_run(object: &[u8], mut store: Vec<i64>, mut state: State, allowance: u32) -> String {
-    let ran = run(object, &mut store, &mut state, allowance);
-    ran.map_or_else(refused, |ran| show(&ran, &state, &store))
+fn run(level: Level, object: &[u8], mut store: Vec<i64>, mut state: State, allowance: u32, lent: &mut Lent) -> String {
+    let ran = level.run(object, &mut store, &mut state, allowance, lent);
+    ran.map_or_else(refused, |ran| show_lent(level, &ran, &state, &store, lent))
 }
 
-fn answer_bench(object: &[u8], mut store: Vec<i64>, allowance: u32) -> String {
-    let ran = bench(object, &mut store, allowance);
-    ran.map_or_else(refused, |(ran, state)| show(&ran, &state, &store))
+fn bench(level: Level, object: &[u8], mut store: Vec<i64>, allowance: u32, lent: &mut Lent) -> String {
+    let ran = level.bench(object, &mut store, allowance, lent);
+    ran.map_or_else(refused, |(ran, state)| show_lent(level, &ran, &state, &store, lent))
 }
 
-fn answer_map(object: &[u8]) -> String {
-    let mut table = vec![0; longest_object()];
-    if let Err(refusal) = map(object, &mut table) {
+fn map(level: Level, object: &[u8]) -> String {
+    let mut table = vec![0; level.edition().longest()];
+    if let Err(refusal) = level.map(object, &mut table) {
         return refused(refusal);
     }
-    let names = open(object).map_or(Vec::new(), |tables| tables.names);
+    let names = level.open(object).map_or(Vec::new(), |tables| tables.names);
     let shown = names
         .iter()
         .map(|n| format!("{} {} {} {}", n.text(), n.first, n.rows, n.columns));
@@ -86,13 +111,23 @@ pub fn refused(refusal: Refusal) -> String {
     format!("REFUSED {} {} {}", refusal.number, refusal.place, refusal.kind)
 }
 
+/// The base's answer to a run.
 pub fn show(ran: &Ran, state: &State, store: &[i64]) -> String {
+    show_lent(Level::Base, ran, state, store, &Lent::nothing())
+}
+
+fn show_lent(level: Level, ran: &Ran, state: &State, store: &[i64], lent: &Lent) -> String {
+    let mut halt = format!("HALT {} STEPS {} DROP {}", ran.halt, ran.steps, ran.sequence);
+    if level >= Level::Cards {
+        halt += &format!(" CARDS {} LINES {}", lent.taken(), lent.lines().len());
+    }
     let mut lines = vec![
-        format!("HALT {} STEPS {} DROP {}", ran.halt, ran.steps, ran.sequence),
+        halt,
         format!("{} {} {}", state.index, state.height, state.mark),
         state.places.map(|number| number.to_string()).join(" "),
     ];
     lines.extend(store.iter().map(|cell| cell.to_string()));
+    lines.extend(lent.shown().map(|line| format!("={line}")));
     lines.join(" | ")
 }
 

@@ -1,5 +1,6 @@
 //! Cards (01 "Cards"): refusals 1 to 7, the statements' texts and numbers.
 
+use crate::level::Level;
 use crate::limits::{CARDS, CARD_BYTES, CONTINUATIONS, STATEMENTS};
 use crate::number::digits_right;
 use crate::refusal::Refusal;
@@ -18,17 +19,19 @@ pub struct Punched {
     pub sequence: Sequence,
     pub number: Option<StatementNumber>,
     pub text: Vec<u8>,
+    /// Columns 7-72 as they are, for a FORMAT; none in the base.
+    pub columns: Vec<u8>,
 }
 
 /// The statements of a deck: "Order: 1, 2; card by card 3-5; 7".
-pub fn read_cards(k: u32, deck: &[u8]) -> Result<Vec<Punched>, Refusal> {
+pub fn read_cards(level: Level, k: u32, deck: &[u8]) -> Result<Vec<Punched>, Refusal> {
     if !digits_right(k) {
         return Err(Refusal::whole(1));
     }
     if deck.is_empty() || deck.len() % CARD_BYTES != 0 || deck.len() > CARDS * CARD_BYTES {
         return Err(Refusal::whole(2));
     }
-    let statements = collect(deck)?;
+    let statements = collect(level, deck)?;
     if statements.len() > STATEMENTS {
         return Err(Refusal::whole(7));
     }
@@ -36,7 +39,7 @@ pub fn read_cards(k: u32, deck: &[u8]) -> Result<Vec<Punched>, Refusal> {
 }
 
 /// Goes over the cards once, giving 3, 4 and 5 at the card, comments counted.
-fn collect(deck: &[u8]) -> Result<Vec<Punched>, Refusal> {
+fn collect(level: Level, deck: &[u8]) -> Result<Vec<Punched>, Refusal> {
     let mut statements: Vec<Punched> = Vec::new();
     let mut continuations = 0;
     for (index, card) in deck.chunks_exact(CARD_BYTES).enumerate() {
@@ -55,6 +58,7 @@ fn collect(deck: &[u8]) -> Result<Vec<Punched>, Refusal> {
                 sequence,
                 number,
                 text: Vec::new(),
+                columns: Vec::new(),
             });
         } else {
             // "and then columns 1-5 are blank", before "tenth or orphan continuation".
@@ -68,6 +72,9 @@ fn collect(deck: &[u8]) -> Result<Vec<Punched>, Refusal> {
         }
         if let Some(statement) = statements.last_mut() {
             statement.text.extend(text_of(card));
+            if level >= Level::Cards {
+                statement.columns.extend(&card[6..72]);
+            }
         }
     }
     Ok(statements)
@@ -79,7 +86,7 @@ fn is_comment(card: &[u8]) -> bool {
 }
 
 /// "columns 1-72 hold blank, A-Z, 0-9 or `. ) + $ * - / , ( =`".
-fn is_allowed(c: u8) -> bool {
+pub fn is_allowed(c: u8) -> bool {
     c == b' ' || c.is_ascii_uppercase() || c.is_ascii_digit() || b".)+$*-/,(=".contains(&c)
 }
 

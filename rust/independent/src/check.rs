@@ -1,31 +1,46 @@
 //! The checker: refusals 40 to 44, "lowest kind, then lowest entry".
 
+mod transfers;
+
+use crate::level::Level;
 use crate::limits::{CELLS, STACK};
 use crate::number::{digits_right, fits};
-use crate::object::{
-    unpack, word_at, DoEntry, ElementEntry, NameEntry, SubscriptEntry, Tables, BODIES, CONTENTS_BYTES, EDITION,
-    ENTRY_BYTES, ENTRY_LIMITS,
-};
+use crate::object::{unpack, word_at, DoEntry, Edition, ElementEntry, NameEntry, SubscriptEntry, Tables};
 use crate::operation::*;
 use crate::refusal::Refusal;
+pub use transfers::{format_words, transfer_uses_right};
+use transfers::{item_right, transfer_right, word_right};
 
 /// "a table gives each instruction 0 to 40 or never" (None).
 pub type Heights = Vec<Option<u8>>;
 
+/// Checking in the base.
 pub fn check(object: &[u8]) -> Result<(), Refusal> {
-    judge(&open(object)?).map(|_| ())
+    Level::Base.check(object)
 }
 
-/// 40 and 41: an object whose bytes are tables of a right size.
+/// Opening in the base.
 pub fn open(object: &[u8]) -> Result<Tables, Refusal> {
-    let bodies = find_bodies(object).ok_or(Refusal::whole(40))?;
-    let (k, cells) = (word_at(object, 4), word_at(object, 8));
-    let too_many = (0..BODIES).any(|b| bodies[b].len() / ENTRY_BYTES[b] > ENTRY_LIMITS[b]);
-    // "41: k not 1-9; cells or a table over its limit"
-    if !digits_right(k) || cells as usize > CELLS || too_many {
-        return Err(Refusal::whole(41));
+    Level::Base.open(object)
+}
+
+impl Level {
+    pub fn check(self, object: &[u8]) -> Result<(), Refusal> {
+        judge(&self.open(object)?).map(|_| ())
     }
-    Ok(Tables::from_bodies(k, cells, bodies))
+
+    /// 40 and 41: an object whose bytes are tables of a right size.
+    pub fn open(self, object: &[u8]) -> Result<Tables, Refusal> {
+        let (edition, bodies) = find_bodies(self, object).ok_or(Refusal::whole(40))?;
+        let (k, cells) = (word_at(object, 4), word_at(object, 8));
+        let (bytes, limits) = (edition.entry_bytes(), edition.entry_limits());
+        let too_many = (0..bodies.len()).any(|b| bodies[b].len() / bytes[b] > limits[b]);
+        // "41: k not 1-9; cells or a table over its limit"
+        if !digits_right(k) || cells as usize > CELLS || too_many {
+            return Err(Refusal::whole(41));
+        }
+        Ok(Tables::from_bodies(edition, k, cells, &bodies))
+    }
 }
 
 /// 42 to 44 on an opened object; its least table of heights if it breaks none.
@@ -38,32 +53,27 @@ pub fn judge(tables: &Tables) -> Result<Heights, Refusal> {
 }
 
 /// "40: object or body length, contents or edition wrong, or no code at all".
-fn find_bodies(object: &[u8]) -> Option<[&[u8]; BODIES]> {
-    if object.len() < CONTENTS_BYTES || word_at(object, 0) != EDITION || word_at(object, 12) as usize != BODIES {
+fn find_bodies(level: Level, object: &[u8]) -> Option<(Edition, Vec<&[u8]>)> {
+    let edition = Edition::named(u32::from_le_bytes(*object.first_chunk()?)).filter(|e| level.takes(*e))?;
+    let contents = edition.contents_bytes();
+    if object.len() < contents || word_at(object, 12) as usize != edition.bodies() {
         return None;
     }
-    let mut first = CONTENTS_BYTES as u64;
-    let mut lengths = [0u64; BODIES];
-    for index in 0..BODIES {
+    let mut rest = &object[contents..];
+    let mut bodies = Vec::with_capacity(edition.bodies());
+    for (index, entry) in edition.entry_bytes().iter().enumerate() {
         let at = 16 + 12 * index;
         let kind = word_at(object, at) as usize;
-        let stands = u64::from(word_at(object, at + 4));
-        let length = u64::from(word_at(object, at + 8));
-        if kind != index + 1 || stands != first || length % ENTRY_BYTES[index] as u64 != 0 {
+        let stands = word_at(object, at + 4) as usize;
+        let length = word_at(object, at + 8) as usize;
+        if kind != index + 1 || stands != object.len() - rest.len() || length % entry != 0 {
             return None;
         }
-        lengths[index] = length;
-        first += length;
-    }
-    if first != object.len() as u64 || lengths[4] == 0 {
-        return None;
-    }
-    let mut rest = &object[CONTENTS_BYTES..];
-    Some(lengths.map(|length| {
-        let (body, after) = rest.split_at(length as usize);
+        let (body, after) = rest.split_at_checked(length)?;
+        bodies.push(body);
         rest = after;
-        body
-    }))
+    }
+    (rest.is_empty() && !bodies[4].is_empty()).then_some((edition, bodies))
 }
 
 /// 42, kind by kind, entry by entry.
@@ -72,7 +82,12 @@ fn entries_right(t: &Tables) -> Result<(), Refusal> {
     find_wrong(&t.elements, 2, |e| element_right(t, e))?;
     find_wrong(&t.dos, 4, |d| do_right(t, d))?;
     find_wrong(&t.statements, 6, |s| in_code(t, s.address))?;
-    find_wrong(&t.names, 7, |n| name_right(t, n))
+    find_wrong(&t.names, 7, |n| name_right(t, n))?;
+    if let Some(word) = (0..t.words.len()).find(|word| !word_right(t, *word)) {
+        return Err(Refusal::in_body(42, word, 8));
+    }
+    find_wrong(&t.items, 9, |i| item_right(t, i))?;
+    find_wrong(&t.transfers, 10, |x| transfer_right(t, x))
 }
 
 fn find_wrong<T>(entries: &[T], kind: u32, right: impl Fn(&T) -> bool) -> Result<(), Refusal> {
@@ -139,6 +154,7 @@ pub fn instruction_right(t: &Tables, index: usize) -> bool {
         JMP => in_code(t, operand),
         BR3 | BRC => targets(t, operation, operand).is_some(),
         DOI | DOE => within(t.dos.len()),
+        READ | PRINT => within(t.transfers.len()),
         _ => false,
     }
 }

@@ -1,10 +1,13 @@
 //! The meaning of a deck (01 "Meaning"), "defined on its statements and named values, with no
 //! object, instruction or machine in it".
 
+mod transfers;
+
 use std::collections::BTreeMap;
 
 use crate::cards::{Sequence, StatementNumber};
 use crate::compile::{Deck, Statement};
+use crate::lent::{Lent, Trouble};
 use crate::number::keep;
 use crate::reader::{Array, Do, Expression, Factor, Form, Name, Parameter, Product, Reference, Subscript, Sum, Term};
 
@@ -15,8 +18,10 @@ pub type Values = BTreeMap<Name, Vec<i64>>;
 #[derive(Clone, Debug, PartialEq, Eq)]
 pub struct Outcome {
     /// 0 STOP, 1 END, 2 budget used, 3 division by zero, 4 subscript, 5 computed exit,
-    /// 6 DO parameter.
+    /// 6 DO parameter, 9 cards or lines run out, 10 field.
     pub halt: u32,
+    /// Why a READ or PRINT halted, if one did.
+    pub trouble: Option<Trouble>,
     pub values: Values,
     /// The sequence number of the first statement that lost digits, or 0.
     pub first_loss: u32,
@@ -24,11 +29,18 @@ pub struct Outcome {
     pub statements: u64,
 }
 
-/// Carries out a deck's statements from the given values (0 where none is given), at most
-/// `budget` of them.
+/// The meaning of a deck to which nothing is lent.
 pub fn interpret(deck: &Deck, start: &Values, budget: u64) -> Outcome {
+    interpret_lent(deck, start, budget, &mut Lent::nothing())
+}
+
+/// Carries out a deck's statements from the given values (0 where none is given), at most
+/// `budget` of them, with the cards and lines lent.
+pub fn interpret_lent(deck: &Deck, start: &Values, budget: u64, lent: &mut Lent) -> Outcome {
     let mut meaning = Meaning {
         deck,
+        lent,
+        trouble: None,
         values: start.clone(),
         shapes: BTreeMap::new(),
         turns: BTreeMap::new(),
@@ -48,14 +60,17 @@ pub fn interpret(deck: &Deck, start: &Values, budget: u64) -> Outcome {
     };
     Outcome {
         halt,
+        trouble: meaning.trouble,
         values: meaning.values,
         first_loss: meaning.first_loss,
         statements,
     }
 }
 
-struct Meaning<'d> {
+struct Meaning<'d, 'l, 'c> {
     deck: &'d Deck,
+    lent: &'l mut Lent<'c>,
+    trouble: Option<Trouble>,
     values: Values,
     /// Rows and columns of each array.
     shapes: BTreeMap<Name, (u32, u32)>,
@@ -69,7 +84,7 @@ struct Meaning<'d> {
 /// A value, or the halt met in working it out.
 type Worked<T> = Result<T, u32>;
 
-impl<'d> Meaning<'d> {
+impl<'d> Meaning<'d, '_, '_> {
     /// Gives every array its elements. DIMENSION does nothing when it is met.
     fn lay_out(&mut self) {
         for statement in self.deck.statements() {
@@ -97,7 +112,9 @@ impl<'d> Meaning<'d> {
             Form::Do(parts) => self.begin(statement.sequence, parts)?,
             Form::Stop => return Err(0),
             Form::End => return Err(1),
-            Form::Continue | Form::Dimension(_) => {}
+            Form::Read(transfer) => self.read(transfer)?,
+            Form::Print(transfer) => self.print(transfer)?,
+            Form::Continue | Form::Dimension(_) | Form::Format(_) => {}
         }
         self.end_turns(statement);
         Ok(())

@@ -22,3 +22,10 @@ pub const PARENTHESES: usize = 16;
 pub const LARGEST_NUMBER: u32 = 99_999;
 /// "a table gives each instruction 0 to 40".
 pub const STACK: usize = 40;
+
+/// "Most: 4,096 format words, 1,024 list items, 400 transfers".
+pub const FORMAT_WORDS: usize = 4096;
+pub const LIST_ITEMS: usize = 1024;
+pub const TRANSFERS: usize = 400;
+/// "column 80 of a card, 132 of a line".
+pub const LINE_BYTES: usize = 132;

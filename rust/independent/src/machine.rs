@@ -1,6 +1,12 @@
 //! The machine (01 "Running"): runs with a state, refusals 50 to 52, and bench runs.
 
-use crate::check::{constant_right, do_right, element_right, instruction_right, judge, open, targets, Heights};
+mod transfers;
+
+use crate::check::{
+    constant_right, do_right, element_right, instruction_right, judge, targets, transfer_uses_right, Heights,
+};
+use crate::lent::Lent;
+use crate::level::Level;
 use crate::limits::STACK;
 use crate::number::{fits, keep_near, power};
 use crate::object::{unpack, DoEntry, ElementEntry, SubscriptEntry, Tables};
@@ -44,22 +50,47 @@ pub struct Ran {
     pub sequence: u32,
 }
 
-/// A run: refuses by 40 to 44 and 50 to 52.
+/// A run in the base.
 pub fn run(object: &[u8], store: &mut [i64], state: &mut State, allowance: u32) -> Result<Ran, Refusal> {
-    let tables = open(object)?;
-    let heights = judge(&tables)?;
-    store_right(&tables, store)?;
-    state_right(&tables, &heights, state)?;
-    Ok(go::<false>(&tables, store, state, allowance))
+    Level::Base.run(object, store, state, allowance, &mut Lent::nothing())
 }
 
-/// A bench run: "starts fresh, refuses only by 40, 41, 50 and 51".
+/// A bench run in the base.
 pub fn bench(object: &[u8], store: &mut [i64], allowance: u32) -> Result<(Ran, State), Refusal> {
-    let tables = open(object)?;
-    store_right(&tables, store)?;
-    let mut state = State::fresh();
-    let ran = go::<true>(&tables, store, &mut state, allowance);
-    Ok((ran, state))
+    Level::Base.bench(object, store, allowance, &mut Lent::nothing())
+}
+
+impl Level {
+    /// A run: refuses by 40 to 44 and 50 to 52.
+    pub fn run(
+        self,
+        object: &[u8],
+        store: &mut [i64],
+        state: &mut State,
+        allowance: u32,
+        lent: &mut Lent,
+    ) -> Result<Ran, Refusal> {
+        let tables = self.open(object)?;
+        let heights = judge(&tables)?;
+        store_right(&tables, store)?;
+        state_right(&tables, &heights, state)?;
+        Ok(go::<false>(&tables, store, state, allowance, lent))
+    }
+
+    /// A bench run: "starts fresh, refuses only by 40, 41, 50 and 51".
+    pub fn bench(
+        self,
+        object: &[u8],
+        store: &mut [i64],
+        allowance: u32,
+        lent: &mut Lent,
+    ) -> Result<(Ran, State), Refusal> {
+        let tables = self.open(object)?;
+        store_right(&tables, store)?;
+        let mut state = State::fresh();
+        let ran = go::<true>(&tables, store, &mut state, allowance, lent);
+        Ok((ran, state))
+    }
 }
 
 /// "50, 51: store shorter than the cell count; one of those cells over k digits".
@@ -117,6 +148,9 @@ enum Act {
     Choose(u32, u32),
     Begin(DoEntry),
     EndTurn(DoEntry),
+    /// The entry's index.
+    Read(usize),
+    Print(usize),
 }
 
 fn decode(t: &Tables) -> Vec<Decoded> {
@@ -147,6 +181,7 @@ fn entry_right(t: &Tables, operation: u32, operand: u32) -> bool {
         CON => constant_right(t, t.constants[entry]),
         LDE | STE => element_right(t, &t.elements[entry]),
         DOI | DOE => do_right(t, &t.dos[entry]),
+        READ | PRINT => transfer_uses_right(t, &t.transfers[entry]),
         _ => true,
     }
 }
@@ -174,18 +209,21 @@ fn act(t: &Tables, operation: u32, operand: u32) -> Act {
         BRC => Act::Choose(operand + 1, t.exits[entry]),
         DOI => Act::Begin(t.dos[entry]),
         DOE => Act::EndTurn(t.dos[entry]),
+        READ => Act::Read(entry),
+        PRINT => Act::Print(entry),
         _ => Act::Wrong,
     }
 }
 
 /// The machine in the middle of a run.
-struct Machine<'r> {
+struct Machine<'r, 'c> {
     tables: &'r Tables,
     /// 10^k
     power: i64,
     code: &'r [Decoded],
     store: &'r mut [i64],
     state: &'r mut State,
+    lent: &'r mut Lent<'c>,
 }
 
 /// What comes after an instruction.
@@ -198,7 +236,13 @@ enum After {
 }
 
 /// The loop of both runs. Only a guarded one tests the stack: what passed the check needs no test.
-fn go<const GUARDED: bool>(tables: &Tables, store: &mut [i64], state: &mut State, allowance: u32) -> Ran {
+fn go<const GUARDED: bool>(
+    tables: &Tables,
+    store: &mut [i64],
+    state: &mut State,
+    allowance: u32,
+    lent: &mut Lent,
+) -> Ran {
     let code = decode(tables);
     let mut machine = Machine {
         tables,
@@ -206,6 +250,7 @@ fn go<const GUARDED: bool>(tables: &Tables, store: &mut [i64], state: &mut State
         code: &code,
         store,
         state,
+        lent,
     };
     let mut steps = 0;
     let halt = loop {
@@ -213,7 +258,7 @@ fn go<const GUARDED: bool>(tables: &Tables, store: &mut [i64], state: &mut State
         if steps == allowance {
             break 2;
         }
-        // "Halts 0, 1 and 3-8 count as a step".
+        // "Halts 0, 1 and 3-8 count as a step", 9 and 10 as they do.
         steps += 1;
         if let Some(halt) = machine.step::<GUARDED>() {
             break halt;
@@ -238,7 +283,7 @@ fn sequence(t: &Tables, mark: u32) -> u32 {
     entry.map_or(0, |entry| entry.sequence)
 }
 
-impl Machine<'_> {
+impl Machine<'_, '_> {
     /// One instruction; a halt leaves "state and store as before that instruction".
     fn step<const GUARDED: bool>(&mut self) -> Option<u32> {
         let Some(decoded) = self.code.get(self.state.index as usize) else {
@@ -288,6 +333,8 @@ impl Machine<'_> {
             Act::Choose(first, count) => self.choose(self.state.places[height - 1], first, count),
             Act::Begin(entry) => self.begin(entry, height),
             Act::EndTurn(entry) => self.end_turn(entry),
+            Act::Read(entry) => self.read(entry),
+            Act::Print(entry) => self.print(entry),
         }
     }
 

@@ -1,25 +1,19 @@
 //! The object (01 "Object"): its tables, and its bytes.
 
-use crate::limits;
+pub use crate::edition::{Edition, BODIES, CONTENTS_BYTES, ENTRY_BYTES, ENTRY_LIMITS};
 
-/// "edition 1"
-pub const EDITION: u32 = 1;
-/// "body count 7"
-pub const BODIES: usize = 7;
-/// Four words, then three for each body.
-pub const CONTENTS_BYTES: usize = 4 * (4 + 3 * BODIES);
-/// The bytes of one entry of each body, kind 1 first.
-pub const ENTRY_BYTES: [usize; BODIES] = [4, 36, 4, 16, 4, 12, 20];
-/// The most entries of each body, kind 1 first.
-pub const ENTRY_LIMITS: [usize; BODIES] = [
-    limits::CONSTANTS,
-    limits::ELEMENTS,
-    limits::EXITS,
-    limits::DOS,
-    limits::CODE,
-    limits::STATEMENTS,
-    limits::NAMES,
-];
+/// The kinds of a format word (02, 2026-01), each with its operand.
+pub mod word {
+    /// A width.
+    pub const NUMBER: u32 = 1;
+    /// A count of columns.
+    pub const BLANKS: u32 = 2;
+    /// A character.
+    pub const TEXT: u32 = 3;
+    pub const SLASH: u32 = 4;
+    /// "the index in body 8 of the word where the scan begins again".
+    pub const END: u32 = 5;
+}
 
 /// One of body 2: "base, rows, columns, then multiplier, cell, signed addend for each subscript".
 #[derive(Clone, Copy, Debug, PartialEq, Eq)]
@@ -81,9 +75,26 @@ impl NameEntry {
     }
 }
 
+/// One of body 9: "A plain name: its cell, 1. A whole array: its first cell, the number of its cells.
+/// An element: its entry in body 2, 0."
+#[derive(Clone, Copy, Debug, PartialEq, Eq)]
+pub struct ItemEntry {
+    pub first: u32,
+    pub count: u32,
+}
+
+/// One of body 10: "index of the FORMAT's first word, index of the first item, number of items".
+#[derive(Clone, Copy, Debug, PartialEq, Eq)]
+pub struct TransferEntry {
+    pub format: u32,
+    pub first: u32,
+    pub count: u32,
+}
+
 /// An object as its tables.
 #[derive(Clone, Debug, PartialEq, Eq)]
 pub struct Tables {
+    pub edition: Edition,
     pub k: u32,
     pub cells: u32,
     pub constants: Vec<u32>,
@@ -93,11 +104,21 @@ pub struct Tables {
     pub code: Vec<u32>,
     pub statements: Vec<StatementEntry>,
     pub names: Vec<NameEntry>,
+    /// Body 8, and so on; empty in edition 1.
+    pub words: Vec<u32>,
+    pub items: Vec<ItemEntry>,
+    pub transfers: Vec<TransferEntry>,
 }
 
 impl Tables {
+    /// Tables of edition 1.
     pub fn empty(k: u32) -> Tables {
+        Tables::empty_of(Edition::One, k)
+    }
+
+    pub fn empty_of(edition: Edition, k: u32) -> Tables {
         Tables {
+            edition,
             k,
             cells: 0,
             constants: Vec::new(),
@@ -107,6 +128,9 @@ impl Tables {
             code: Vec::new(),
             statements: Vec::new(),
             names: Vec::new(),
+            words: Vec::new(),
+            items: Vec::new(),
+            transfers: Vec::new(),
         }
     }
 
@@ -114,10 +138,10 @@ impl Tables {
     pub fn to_bytes(&self) -> Vec<u8> {
         let bodies = self.bodies();
         let mut bytes = Vec::new();
-        for word in [EDITION, self.k, self.cells, BODIES as u32] {
+        for word in [self.edition.word(), self.k, self.cells, bodies.len() as u32] {
             put(&mut bytes, word);
         }
-        let mut first = CONTENTS_BYTES;
+        let mut first = self.edition.contents_bytes();
         for (index, body) in bodies.iter().enumerate() {
             for word in [index + 1, first, body.len()] {
                 put(&mut bytes, word as u32);
@@ -129,8 +153,8 @@ impl Tables {
     }
 
     /// Each body's bytes, kind 1 first.
-    pub fn bodies(&self) -> [Vec<u8>; BODIES] {
-        [
+    pub fn bodies(&self) -> Vec<Vec<u8>> {
+        let mut bodies = vec![
             words_to_bytes(self.constants.iter().copied()),
             words_to_bytes(self.elements.iter().flat_map(element_words)),
             words_to_bytes(self.exits.iter().copied()),
@@ -138,21 +162,33 @@ impl Tables {
             words_to_bytes(self.code.iter().copied()),
             words_to_bytes(self.statements.iter().flat_map(|s| [s.sequence, s.number, s.address])),
             self.names.iter().flat_map(name_bytes).collect(),
-        ]
+        ];
+        if self.edition >= Edition::Two {
+            bodies.push(words_to_bytes(self.words.iter().copied()));
+            bodies.push(words_to_bytes(self.items.iter().flat_map(|i| [i.first, i.count])));
+            bodies.push(words_to_bytes(
+                self.transfers.iter().flat_map(|t| [t.format, t.first, t.count]),
+            ));
+        }
+        bodies
     }
 
-    /// The tables in bodies that are whole numbers of entries.
-    pub fn from_bodies(k: u32, cells: u32, bodies: [&[u8]; BODIES]) -> Tables {
+    /// The tables in an edition's bodies that are whole numbers of entries.
+    pub fn from_bodies(edition: Edition, k: u32, cells: u32, bodies: &[&[u8]]) -> Tables {
         Tables {
+            edition,
             k,
             cells,
-            constants: words(bodies[0]),
+            constants: words(body(bodies, 1)),
             elements: entries(bodies, 2, element_from),
-            exits: words(bodies[2]),
+            exits: words(body(bodies, 3)),
             dos: entries(bodies, 4, do_from),
-            code: words(bodies[4]),
+            code: words(body(bodies, 5)),
             statements: entries(bodies, 6, statement_from),
             names: entries(bodies, 7, name_from),
+            words: words(body(bodies, 8)),
+            items: entries(bodies, 9, item_from),
+            transfers: entries(bodies, 10, transfer_from),
         }
     }
 }
@@ -183,8 +219,14 @@ fn words(body: &[u8]) -> Vec<u32> {
     body.chunks_exact(4).map(|word| word_at(word, 0)).collect()
 }
 
-fn entries<T>(bodies: [&[u8]; BODIES], kind: usize, from: fn(&[u8]) -> T) -> Vec<T> {
-    bodies[kind - 1].chunks_exact(ENTRY_BYTES[kind - 1]).map(from).collect()
+fn entries<T>(bodies: &[&[u8]], kind: usize, from: fn(&[u8]) -> T) -> Vec<T> {
+    let bytes = Edition::Two.entry_bytes()[kind - 1];
+    body(bodies, kind).chunks_exact(bytes).map(from).collect()
+}
+
+/// A body's bytes; none where the edition has no such body.
+fn body<'o>(bodies: &[&'o [u8]], kind: usize) -> &'o [u8] {
+    bodies.get(kind - 1).copied().unwrap_or_default()
 }
 
 fn element_words(entry: &ElementEntry) -> [u32; 9] {
@@ -230,6 +272,21 @@ fn statement_from(entry: &[u8]) -> StatementEntry {
         sequence: word_at(entry, 0),
         number: word_at(entry, 4),
         address: word_at(entry, 8),
+    }
+}
+
+fn item_from(entry: &[u8]) -> ItemEntry {
+    ItemEntry {
+        first: word_at(entry, 0),
+        count: word_at(entry, 4),
+    }
+}
+
+fn transfer_from(entry: &[u8]) -> TransferEntry {
+    TransferEntry {
+        format: word_at(entry, 0),
+        first: word_at(entry, 4),
+        count: word_at(entry, 8),
     }
 }
 

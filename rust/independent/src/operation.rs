@@ -16,6 +16,9 @@ pub const BR3: u32 = 12;
 pub const BRC: u32 = 13;
 pub const DOI: u32 = 14;
 pub const DOE: u32 = 15;
+/// 02, 2026-01: "16 READ t and 17 PRINT t, t an entry of body 10; pops 0, pushes 0".
+pub const READ: u32 = 16;
+pub const PRINT: u32 = 17;
 
 /// "pops, pushes" of a known operation.
 pub fn pops_pushes(operation: u32) -> (usize, usize) {

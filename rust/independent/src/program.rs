@@ -1,9 +1,9 @@
 //! The program (01 "Worked examples"): a control card and a deck in, printed lines out.
 
-use crate::check::open;
-use crate::compile::accept;
+use crate::lent::Lent;
+use crate::level::Level;
 use crate::limits::CARD_BYTES;
-use crate::machine::{run, State};
+use crate::machine::State;
 use crate::object::NameEntry;
 use crate::refusal::Refusal;
 
@@ -11,31 +11,42 @@ use crate::refusal::Refusal;
 const ALLOWANCE: u32 = 1_000_000;
 /// "blank for 5"
 const USUAL_DIGITS: u32 = 5;
+/// "The program lends no cards and 1,000 lines".
+const ROOM: usize = 1_000;
 
-/// The text that the program prints for its standard input, a line end after each line.
+/// The text that the base's program prints for its standard input, a line end after each line.
 pub fn program(input: &[u8]) -> String {
-    lines(input).iter().map(|line| format!("{line}\n")).collect()
+    let lines = Level::Base.program(input);
+    lines.iter().map(|line| format!("{line}\n")).collect()
 }
 
-/// The same, line by line.
-pub fn lines(input: &[u8]) -> Vec<String> {
-    match answer(input) {
-        Ok(lines) => lines,
-        // "A refusal prints REFUSED, number, place."
-        Err(refusal) => vec![format!("REFUSED {} {}", refusal.number, refusal.place)],
+impl Level {
+    /// What the program prints, line by line.
+    pub fn program(self, input: &[u8]) -> Vec<String> {
+        match answer(self, input) {
+            Ok(lines) => lines,
+            // "A refusal prints REFUSED, number, place."
+            Err(refusal) => vec![format!("REFUSED {} {}", refusal.number, refusal.place)],
+        }
     }
 }
 
-fn answer(input: &[u8]) -> Result<Vec<String>, Refusal> {
+fn answer(level: Level, input: &[u8]) -> Result<Vec<String>, Refusal> {
     let k = digits(input).ok_or(Refusal::whole(1))?;
-    let object = accept(k, &input[CARD_BYTES..])?.1.to_bytes();
-    let tables = open(&object)?;
+    let (_, tables) = level.accept(k, &input[CARD_BYTES..])?;
     let mut store = vec![0; tables.cells as usize];
-    let ran = run(&object, &mut store, &mut State::fresh(), ALLOWANCE)?;
-    let mut lines = vec![format!("HALT {} STEPS {} DROP {}", ran.halt, ran.steps, ran.sequence)];
-    for name in &tables.names {
-        values(name, &store, &mut lines);
-    }
+    let mut lent = Lent::new(&[], ROOM);
+    let ran = level.run(
+        &tables.to_bytes(),
+        &mut store,
+        &mut State::fresh(),
+        ALLOWANCE,
+        &mut lent,
+    )?;
+    // "prints the lines (blanks at the end cut) before the halt line"
+    let mut lines: Vec<String> = lent.shown().collect();
+    lines.push(format!("HALT {} STEPS {} DROP {}", ran.halt, ran.steps, ran.sequence));
+    lines.extend(values(&tables.names, &store));
     Ok(lines)
 }
 
@@ -53,15 +64,17 @@ fn digits(input: &[u8]) -> Option<u32> {
 }
 
 /// "names with values, elements as `L(2,1) 5` in storage order"
-fn values(name: &NameEntry, store: &[i64], lines: &mut Vec<String>) {
-    let first = name.first as usize;
-    let size = name.size() as usize;
-    for (index, value) in store[first..first + size].iter().enumerate() {
-        let text = name.text();
-        lines.push(match (name.rows as usize, name.columns) {
-            (0, _) => format!("{text} {value}"),
-            (_, 0) => format!("{text}({}) {value}", index + 1),
-            (rows, _) => format!("{text}({},{}) {value}", index % rows + 1, index / rows + 1),
-        });
+pub fn values(names: &[NameEntry], store: &[i64]) -> Vec<String> {
+    let mut lines = Vec::new();
+    for name in names {
+        let (first, text) = (name.first as usize, name.text());
+        for (index, value) in store[first..first + name.size() as usize].iter().enumerate() {
+            lines.push(match (name.rows as usize, name.columns) {
+                (0, _) => format!("{text} {value}"),
+                (_, 0) => format!("{text}({}) {value}", index + 1),
+                (rows, _) => format!("{text}({},{}) {value}", index % rows + 1, index / rows + 1),
+            });
+        }
     }
+    lines
 }

@@ -4,6 +4,8 @@
 //! length, parentheses of any depth; the lowest of 11-14 met on the way is kept beside the tree.
 
 use crate::cards::StatementNumber;
+use crate::format::Field;
+use crate::level::Level;
 use crate::limits::{LARGEST_NUMBER, PARENTHESES};
 
 pub type Name = String;
@@ -35,6 +37,19 @@ pub enum Form {
     End,
     /// `DIMENSIONv(c),v(c,c)..`
     Dimension(Vec<Array>),
+    /// `READn`, `READn,list`
+    Read(Transfer),
+    /// `PRINTn`, `PRINTn,list`
+    Print(Transfer),
+    /// `FORMAT(list)`
+    Format(Vec<Field>),
+}
+
+/// A READ's or PRINT's FORMAT, and its list: "names, elements and whole arrays".
+#[derive(Clone, Debug, PartialEq, Eq)]
+pub struct Transfer {
+    pub format: StatementNumber,
+    pub list: Vec<Reference>,
 }
 
 #[derive(Clone, Debug, PartialEq, Eq)]
@@ -66,6 +81,13 @@ pub struct Array {
 pub struct Reference {
     pub name: Name,
     pub subscripts: Vec<Subscript>,
+}
+
+impl Reference {
+    /// Whether it is the plain name.
+    pub fn is_plain(&self, name: &str) -> bool {
+        self.subscripts.is_empty() && self.name == name
+    }
 }
 
 /// "`v`, `c`, `v+c`, `v-c`, `c*v`, `c*v+c` or `c*v-c`"
@@ -136,9 +158,9 @@ pub struct Reading {
     pub fault: Option<u32>,
 }
 
-/// The statement's tree, or 10 to 14.
-pub fn read(k: u32, text: &[u8]) -> Result<Form, u32> {
-    match readings(k, text).pop() {
+/// The statement's tree, or 10 to 14. A FORMAT is read from its columns, not from its text: here it is 10.
+pub fn read(level: Level, k: u32, text: &[u8]) -> Result<Form, u32> {
+    match readings(level, k, text).pop() {
         None => Err(10),
         Some(Reading {
             fault: Some(number), ..
@@ -148,8 +170,8 @@ pub fn read(k: u32, text: &[u8]) -> Result<Form, u32> {
 }
 
 /// Every form the whole text is of. There is never more than one (tested).
-pub fn readings(k: u32, text: &[u8]) -> Vec<Reading> {
-    let forms: [FormReader; 7] = [
+pub fn readings(level: Level, k: u32, text: &[u8]) -> Vec<Reading> {
+    let forms: [FormReader; 9] = [
         Reader::assignment,
         Reader::go_to,
         Reader::computed_go_to,
@@ -157,7 +179,10 @@ pub fn readings(k: u32, text: &[u8]) -> Vec<Reading> {
         Reader::do_loop,
         Reader::single_word,
         Reader::dimension,
+        Reader::read,
+        Reader::print,
     ];
+    let forms = if level >= Level::Cards { &forms[..] } else { &forms[..7] };
     forms.iter().filter_map(|form| whole(k, text, *form)).collect()
 }
 
@@ -265,6 +290,26 @@ impl<'t> Reader<'t> {
             arrays.push(self.array()?);
         }
         Some(Form::Dimension(arrays))
+    }
+
+    fn read(&mut self) -> Option<Form> {
+        self.word("READ")?;
+        self.transfer().map(Form::Read)
+    }
+
+    fn print(&mut self) -> Option<Form> {
+        self.word("PRINT")?;
+        self.transfer().map(Form::Print)
+    }
+
+    /// "List items are `v`, `v(s)`, `v(s,s)`".
+    fn transfer(&mut self) -> Option<Transfer> {
+        let format = self.number()?;
+        let mut list = Vec::new();
+        while self.mark(b',').is_some() {
+            list.push(self.reference()?);
+        }
+        Some(Transfer { format, list })
     }
 
     fn array(&mut self) -> Option<Array> {

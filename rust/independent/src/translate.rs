@@ -1,11 +1,15 @@
 //! Translation (01 "Translation"), statement by statement, with refusals 15, 16 and 18.
 
+mod mentions;
+mod transfers;
+
 use crate::cards::{Sequence, StatementNumber};
 use crate::compile::Statement;
 use crate::limits;
-use crate::object::{pack, DoEntry, ElementEntry, NameEntry, StatementEntry, SubscriptEntry, Tables};
+use crate::object::{pack, DoEntry, Edition, ElementEntry, NameEntry, StatementEntry, SubscriptEntry, Tables};
 use crate::operation::*;
 use crate::reader::{Array, Do, Expression, Factor, Form, Parameter, Product, Reference, Subscript, Sum, Term};
+use mentions::mentions;
 
 /// An exit word before the statements' addresses are known.
 enum Exit {
@@ -15,10 +19,13 @@ enum Exit {
 
 /// What the deck has brought so far.
 pub struct Translator {
-    /// All but the exits and the targets of JMP, which wait in the next two.
+    /// All but the exits, the targets of JMP and the FORMATs of transfers, which wait in the next three.
     tables: Tables,
     exits: Vec<Exit>,
     jumps: Vec<(usize, StatementNumber)>,
+    used_formats: Vec<StatementNumber>,
+    /// Each FORMAT's number and first word.
+    formats: Vec<(StatementNumber, u32)>,
     /// DOs whose last statement has not come: its number, and the DO's entry.
     open: Vec<(StatementNumber, u32)>,
     addresses: Vec<(StatementNumber, u32)>,
@@ -27,11 +34,13 @@ pub struct Translator {
 type Judged<T> = Result<T, u32>;
 
 impl Translator {
-    pub fn new(k: u32) -> Translator {
+    pub fn new(edition: Edition, k: u32) -> Translator {
         Translator {
-            tables: Tables::empty(k),
+            tables: Tables::empty_of(edition, k),
             exits: Vec::new(),
             jumps: Vec::new(),
+            used_formats: Vec::new(),
+            formats: Vec::new(),
             open: Vec::new(),
             addresses: Vec::new(),
         }
@@ -42,6 +51,9 @@ impl Translator {
         if let Form::Dimension(arrays) = &statement.form {
             self.arrays_right(arrays)?;
             return self.declare(arrays);
+        }
+        if let Form::Format(list) = &statement.form {
+            return self.lay_format(statement.number, list);
         }
         let mentions = mentions(&statement.form);
         for (name, subscripts) in &mentions {
@@ -60,6 +72,7 @@ impl Translator {
 
     /// The finished tables of a deck that broke nothing.
     pub fn finish(mut self) -> Tables {
+        self.settle_formats();
         let addresses = self.addresses;
         let address = |number: StatementNumber| {
             addresses
@@ -93,9 +106,9 @@ impl Translator {
     }
 
     /// "16: element of an undeclared array or wrong subscript count; array name bare".
-    fn mention_right(&self, name: &str, subscripts: usize) -> Judged<()> {
+    fn mention_right(&self, name: &str, subscripts: Option<usize>) -> Judged<()> {
         let declared = self.known(name).map_or(0, dimensions);
-        if subscripts == declared {
+        if subscripts.is_none_or(|count| count == declared) {
             Ok(())
         } else {
             Err(16)
@@ -182,7 +195,9 @@ impl Translator {
             Form::Do(parts) => self.emit_do(parts),
             Form::Stop => self.code(HLT, 0),
             Form::End => self.code(HLT, 1),
-            Form::Continue | Form::Dimension(_) => Ok(()),
+            Form::Read(transfer) => self.emit_transfer(READ, transfer),
+            Form::Print(transfer) => self.emit_transfer(PRINT, transfer),
+            Form::Continue | Form::Dimension(_) | Form::Format(_) => Ok(()),
         }
     }
 
@@ -395,53 +410,5 @@ fn dimensions(entry: &NameEntry) -> usize {
         (0, _) => 0,
         (_, 0) => 1,
         _ => 2,
-    }
-}
-
-/// The names in a statement other than DIMENSION, each with its count of subscripts, in the
-/// order of the text.
-fn mentions(form: &Form) -> Vec<(&str, usize)> {
-    let mut found = Vec::new();
-    match form {
-        Form::Assign { target, value } => {
-            mention_reference(target, &mut found);
-            mention_expression(value, &mut found);
-        }
-        Form::Computed { selector, .. } => found.push((selector.as_str(), 0)),
-        Form::If { value, .. } => mention_expression(value, &mut found),
-        Form::Do(parts) => {
-            found.push((parts.variable.as_str(), 0));
-            let parameters = [Some(&parts.first), Some(&parts.limit), parts.step.as_ref()];
-            for parameter in parameters.into_iter().flatten() {
-                if let Parameter::Name(name) = parameter {
-                    found.push((name.as_str(), 0));
-                }
-            }
-        }
-        Form::GoTo(_) | Form::Continue | Form::Stop | Form::End | Form::Dimension(_) => {}
-    }
-    found
-}
-
-fn mention_reference<'f>(reference: &'f Reference, found: &mut Vec<(&'f str, usize)>) {
-    found.push((reference.name.as_str(), reference.subscripts.len()));
-    for subscript in &reference.subscripts {
-        if let Subscript::Linear { name, .. } = subscript {
-            found.push((name.as_str(), 0));
-        }
-    }
-}
-
-fn mention_expression<'f>(expression: &'f Expression, found: &mut Vec<(&'f str, usize)>) {
-    let terms = std::iter::once(&expression.first).chain(expression.rest.iter().map(|(_, term)| term));
-    for term in terms {
-        let factors = std::iter::once(&term.first).chain(term.rest.iter().map(|(_, factor)| factor));
-        for factor in factors {
-            match factor {
-                Factor::Constant(_) => {}
-                Factor::Reference(reference) => mention_reference(reference, found),
-                Factor::Parenthesis(inner) => mention_expression(inner, found),
-            }
-        }
     }
 }

@@ -2,8 +2,9 @@
 
 use crate::cards::{Sequence, StatementNumber};
 use crate::compile::Statement;
+use crate::format::has_number;
 use crate::limits::DO_DEPTH;
-use crate::reader::{Do, Form};
+use crate::reader::{Do, Form, Transfer};
 use crate::refusal::Refusal;
 
 /// A DO and where its last statement stands.
@@ -23,7 +24,7 @@ impl Range<'_> {
 pub fn judge_whole(statements: &[Statement]) -> Result<(), Refusal> {
     end_stands_last(statements)?;
     numbers_defined_once(statements)?;
-    numbers_used_are_defined(statements)?;
+    numbers_used_are_right(statements)?;
     let ranges = ranges(statements);
     refuse_first(23, ranges.iter().map(|r| r.sequence), |sequence| {
         range_wrong(statements, &ranges, sequence)
@@ -73,18 +74,30 @@ fn numbers_defined_once(statements: &[Statement]) -> Result<(), Refusal> {
     Ok(())
 }
 
-/// "22: number used, never defined"; the place is the user.
-fn numbers_used_are_defined(statements: &[Statement]) -> Result<(), Refusal> {
+/// "22: number used, never defined", "also for a FORMAT's number used as an exit or DO end, another's used as a FORMAT,
+/// or a list whose FORMAT has no I"; the place is the user.
+fn numbers_used_are_right(statements: &[Statement]) -> Result<(), Refusal> {
     for statement in statements {
-        let used = match &statement.form {
-            Form::Do(parts) => vec![parts.last],
-            form => targets(form),
+        let right = match &statement.form {
+            Form::Do(parts) => executable(statements, parts.last),
+            Form::Read(transfer) | Form::Print(transfer) => format_right(statements, transfer),
+            form => targets(form).iter().all(|number| executable(statements, *number)),
         };
-        if used.iter().any(|number| find(statements, *number).is_none()) {
+        if !right {
             return Err(Refusal::at(22, statement.sequence.0));
         }
     }
     Ok(())
+}
+
+/// Whether a number is defined, and not on a FORMAT.
+fn executable(statements: &[Statement], number: StatementNumber) -> bool {
+    find(statements, number).is_some_and(|s| !matches!(s.form, Form::Format(_)))
+}
+
+fn format_right(statements: &[Statement], transfer: &Transfer) -> bool {
+    let named = find(statements, transfer.format).map(|s| &s.form);
+    matches!(named, Some(Form::Format(fields)) if transfer.list.is_empty() || has_number(fields))
 }
 
 fn find(statements: &[Statement], number: StatementNumber) -> Option<&Statement> {
@@ -147,11 +160,12 @@ fn jumps_in(statements: &[Statement], ranges: &[Range], sequence: Sequence) -> b
 /// "25: DO's variable set, or taken by another DO, in its range"; the place: "the setter".
 fn sets_variable(statements: &[Statement], ranges: &[Range], sequence: Sequence) -> bool {
     statements.iter().filter(|s| s.sequence == sequence).any(|statement| {
-        let set = match &statement.form {
-            Form::Assign { target, .. } if target.subscripts.is_empty() => &target.name,
-            Form::Do(parts) => &parts.variable,
-            _ => return false,
+        let sets = |variable: &str| match &statement.form {
+            Form::Assign { target, .. } => target.is_plain(variable),
+            Form::Do(parts) => parts.variable == variable,
+            Form::Read(transfer) => transfer.list.iter().any(|item| item.is_plain(variable)),
+            _ => false,
         };
-        ranges.iter().any(|r| r.holds(sequence) && r.parts.variable == *set)
+        ranges.iter().any(|r| r.holds(sequence) && sets(&r.parts.variable))
     })
 }

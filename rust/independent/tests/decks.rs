@@ -8,7 +8,7 @@ use independent::generate::{self, Made, Rng};
 use independent::interpret::{interpret, Values};
 use independent::object::Tables;
 use independent::reader::readings;
-use independent::{bench, check, compile, run, Ran, State};
+use independent::{bench, check, compile, run, Level, Ran, State};
 
 const DECKS: u64 = 5_000;
 const STEPS: u32 = 20_000;
@@ -195,7 +195,7 @@ fn no_text_is_of_two_forms() {
     let (mut none, mut one) = (0, 0);
     for seed in 0..20_000 {
         for text in generate::texts(&mut Rng::new(seed)) {
-            match readings(5, text.as_bytes()).len() {
+            match readings(Level::Base, 5, text.as_bytes()).len() {
                 0 => none += 1,
                 1 => one += 1,
                 _ => panic!("{text} is of two forms"),

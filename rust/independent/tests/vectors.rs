@@ -4,37 +4,42 @@ use std::fs;
 use std::path::PathBuf;
 
 use independent::batch::answer;
+use independent::Level;
 
-const LINES: usize = 324;
-
-fn lines(name: &str) -> Vec<String> {
-    let path = PathBuf::from(env!("CARGO_MANIFEST_DIR"))
-        .join("../../tests/vectors")
-        .join(name);
+fn lines(path: &str) -> Vec<String> {
+    let path = PathBuf::from(env!("CARGO_MANIFEST_DIR")).join("../../tests").join(path);
     let text = fs::read_to_string(&path).unwrap_or_else(|error| panic!("{}: {error}", path.display()));
     text.lines().map(str::to_string).collect()
 }
 
-#[test]
-fn every_vector_is_answered_alike() {
-    let requests = lines("readings.requests");
-    let answers = lines("readings.answers");
-    assert_eq!(requests.len(), LINES);
-    assert_eq!(answers.len(), LINES);
+fn answered_alike(level: Level, vectors: &str, count: usize) {
+    let requests = lines(&format!("{vectors}.requests"));
+    let answers = lines(&format!("{vectors}.answers"));
+    assert_eq!((requests.len(), answers.len()), (count, count));
     let wrong: Vec<String> = requests
         .iter()
         .zip(&answers)
         .enumerate()
-        .filter(|(_, (request, expected))| answer(request) != **expected)
+        .filter(|(_, (request, expected))| level.answer(request) != **expected)
         .map(|(index, (request, expected))| {
             format!(
                 "line {}: {request}\n  expected {expected}\n  answered {}",
                 index + 1,
-                answer(request)
+                level.answer(request)
             )
         })
         .collect();
     assert!(wrong.is_empty(), "{} lines differ:\n{}", wrong.len(), wrong.join("\n"));
+}
+
+#[test]
+fn every_vector_is_answered_alike() {
+    answered_alike(Level::Base, "vectors/readings", 324);
+}
+
+#[test]
+fn every_vector_of_cards_is_answered_alike() {
+    answered_alike(Level::Cards, "vectors-02/level-1", 440);
 }
 
 #[test]

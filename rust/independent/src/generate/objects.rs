@@ -1,7 +1,7 @@
 //! Objects made of random tables, and damage to objects.
 
 use super::Rng;
-use crate::check::open;
+use crate::level::Level;
 use crate::limits::STACK;
 use crate::object::*;
 use crate::operation::*;
@@ -172,20 +172,22 @@ fn change_length(rng: &mut Rng, bytes: &mut Vec<u8>) {
 
 /// Two bodies change places; the contents tell it, or tell only the lengths.
 fn swap_bodies(rng: &mut Rng, object: &[u8]) -> Vec<u8> {
-    let Ok(t) = open(object) else { return object.to_vec() };
+    let Ok(t) = Level::Cards.open(object) else {
+        return object.to_vec();
+    };
     let mut bodies = t.bodies();
-    let (one, other) = (rng.below(BODIES), rng.below(BODIES));
+    let (one, other) = (rng.below(bodies.len()), rng.below(bodies.len()));
     bodies.swap(one, other);
-    let mut kinds: Vec<u32> = (1..=BODIES as u32).collect();
+    let mut kinds: Vec<u32> = (1..=bodies.len() as u32).collect();
     if rng.chance(30) {
         kinds.swap(one, other);
     }
-    write(t.k, t.cells, &kinds, &bodies)
+    write(&t, &kinds, &bodies)
 }
 
-fn write(k: u32, cells: u32, kinds: &[u32], bodies: &[Vec<u8>]) -> Vec<u8> {
-    let mut words = vec![EDITION, k, cells, BODIES as u32];
-    let mut first = CONTENTS_BYTES;
+fn write(t: &Tables, kinds: &[u32], bodies: &[Vec<u8>]) -> Vec<u8> {
+    let mut words = vec![t.edition.word(), t.k, t.cells, bodies.len() as u32];
+    let mut first = t.edition.contents_bytes();
     for (kind, body) in kinds.iter().zip(bodies) {
         words.extend([*kind, first as u32, body.len() as u32]);
         first += body.len();
@@ -195,7 +197,7 @@ fn write(k: u32, cells: u32, kinds: &[u32], bodies: &[Vec<u8>]) -> Vec<u8> {
 }
 
 fn damaged_tables(rng: &mut Rng, object: &[u8]) -> Vec<u8> {
-    let Ok(mut t) = open(object) else {
+    let Ok(mut t) = Level::Cards.open(object) else {
         return object.to_vec();
     };
     for _ in 0..rng.range(1, 2) {
