@@ -1,10 +1,14 @@
 //! Seeded random decks, stores, states and objects, right and damaged, for comparisons.
 
 mod broken;
+#[rustfmt::skip]
+mod card_templates;
 mod cards_wrong;
 mod crowded;
 mod damage;
 mod faults;
+mod fields;
+mod formats;
 mod limits;
 mod objects;
 mod overfull;
@@ -16,9 +20,12 @@ mod templates;
 pub use broken::{broken_object, broken_state, broken_store, right_state, sound_object};
 pub use crowded::crowded_deck;
 pub use damage::damaged_deck;
-pub use faults::{deck_reasons, faulty_deck, Faulty};
+pub use faults::{deck_reasons, deck_reasons_at, faulty_deck, faulty_deck_at, Faulty};
+pub use fields::{told_deck, Told, PRINTED, PUNCHED};
+pub use formats::cards;
 pub use objects::{damaged_object, made_object};
 
+use crate::level::Level;
 use crate::limits::STACK;
 use crate::machine::State;
 use punch::{punch, Style};
@@ -72,14 +79,19 @@ pub struct Made {
     pub deck: Vec<u8>,
 }
 
-/// A deck of any sort: ordinary, with slips, damaged in its texts or on its cards, near a limit.
+/// A deck of the base.
 pub fn deck(rng: &mut Rng) -> Made {
+    deck_at(Level::Base, rng)
+}
+
+/// A deck of any sort: ordinary, with slips, damaged in its texts or on its cards, near a limit.
+pub fn deck_at(level: Level, rng: &mut Rng) -> Made {
     match rng.below(20) {
-        0..=7 => ordinary_deck(rng),
-        8..=10 => slipping_deck(rng),
-        11..=13 => misspelt_deck(rng),
+        0..=7 => ordinary_deck_at(level, rng),
+        8..=10 => written_deck(level, rng, true),
+        11..=13 => misspelt_deck_at(level, rng),
         14..=15 => {
-            let made = ordinary_deck(rng);
+            let made = ordinary_deck_at(level, rng);
             Made {
                 k: made.k,
                 deck: damaged_deck(rng, &made.deck),
@@ -89,19 +101,24 @@ pub fn deck(rng: &mut Rng) -> Made {
     }
 }
 
-/// A deck meant to be accepted, of every form of statement.
+/// An ordinary deck of the base.
 pub fn ordinary_deck(rng: &mut Rng) -> Made {
-    written_deck(rng, false)
+    ordinary_deck_at(Level::Base, rng)
 }
 
-/// A deck in which here and there a rule is broken.
+/// A deck meant to be accepted, of every form of statement.
+pub fn ordinary_deck_at(level: Level, rng: &mut Rng) -> Made {
+    written_deck(level, rng, false)
+}
+
+/// A deck of the base in which here and there a rule is broken.
 pub fn slipping_deck(rng: &mut Rng) -> Made {
-    written_deck(rng, true)
+    written_deck(Level::Base, rng, true)
 }
 
-fn written_deck(rng: &mut Rng, slips: bool) -> Made {
+fn written_deck(level: Level, rng: &mut Rng, slips: bool) -> Made {
     let k = rng.range(1, 9) as u32;
-    let lines = source::program(rng, k, slips);
+    let lines = source::program(level, rng, k, slips);
     let style = Style::any(rng);
     Made {
         k,
@@ -109,10 +126,15 @@ fn written_deck(rng: &mut Rng, slips: bool) -> Made {
     }
 }
 
-/// A deck with a character or a statement wrong, missing, moved or said twice.
+/// A misspelt deck of the base.
 pub fn misspelt_deck(rng: &mut Rng) -> Made {
+    misspelt_deck_at(Level::Base, rng)
+}
+
+/// A deck with a character or a statement wrong, missing, moved or said twice.
+pub fn misspelt_deck_at(level: Level, rng: &mut Rng) -> Made {
     let k = rng.range(1, 9) as u32;
-    let mut lines = source::program(rng, k, false);
+    let mut lines = source::program(level, rng, k, false);
     for _ in 0..rng.range(1, 2) {
         damage::misspell(rng, &mut lines);
     }
@@ -146,8 +168,8 @@ pub fn judged_limit_deck(rng: &mut Rng) -> (Made, Option<u32>) {
 }
 
 /// The texts of a deck's statements, as an ordinary or misspelt deck would hold them.
-pub fn texts(rng: &mut Rng) -> Vec<String> {
-    let mut lines = source::program(rng, 5, true);
+pub fn texts(level: Level, rng: &mut Rng) -> Vec<String> {
+    let mut lines = source::program(level, rng, 5, true);
     if rng.chance(70) {
         damage::misspell(rng, &mut lines);
     }

@@ -194,8 +194,8 @@ fn heights_stay_below_the_bound() {
 fn no_text_is_of_two_forms() {
     let (mut none, mut one) = (0, 0);
     for seed in 0..20_000 {
-        for text in generate::texts(&mut Rng::new(seed)) {
-            match readings(Level::Base, 5, text.as_bytes()).len() {
+        for text in generate::texts(Level::Cards, &mut Rng::new(seed)) {
+            match readings(Level::Cards, 5, text.as_bytes()).len() {
                 0 => none += 1,
                 1 => one += 1,
                 _ => panic!("{text} is of two forms"),

@@ -2,7 +2,8 @@
 
 use super::faults::Faulty;
 use super::punch::comment;
-use super::{ordinary_deck, Made, Rng};
+use super::{ordinary_deck_at, Made, Rng};
+use crate::level::Level;
 use crate::limits::{CARDS, CARD_BYTES, STATEMENTS};
 
 pub type Wrong = (&'static str, fn(&mut Rng, &mut Made) -> u32);
@@ -40,8 +41,8 @@ pub const REASONS: &[Wrong] = &[
     ("20 no statement at all", comments_only),
 ];
 
-pub fn faulty(rng: &mut Rng, (reason, wrong): &Wrong) -> Faulty {
-    let mut made = ordinary_deck(rng);
+pub fn faulty(level: Level, rng: &mut Rng, (reason, wrong): &Wrong) -> Faulty {
+    let mut made = ordinary_deck_at(level, rng);
     let place = wrong(rng, &mut made);
     Faulty {
         reason: reason.to_string(),

@@ -6,6 +6,7 @@ use super::punch::{punch, Style};
 use super::source;
 use super::templates::{Where, JUMPS, RANGES, STATEMENTS};
 use super::{Made, Rng};
+use crate::level::Level;
 
 /// Right and wrong operands; capital letters are punched, small ones are as in the templates.
 const OPERANDS: [&str; 12] = [
@@ -42,7 +43,7 @@ const ARRAYS: [&str; 12] = [
 /// A deck in which one statement has any number of faults, or two statements have one each.
 pub fn crowded_deck(rng: &mut Rng) -> Made {
     let k = rng.range(1, 9) as u32;
-    let mut program = source::program(rng, k, false);
+    let mut program = source::program(Level::Base, rng, k, false);
     if rng.chance(60) {
         let declared = if rng.chance(80) {
             "DIMENSIONLADDER(2)|"

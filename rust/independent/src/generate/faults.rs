@@ -1,11 +1,13 @@
 //! Decks with exactly one fault, by its reason.
 
+use super::card_templates;
 use super::cards_wrong;
-use super::overfull;
+use super::overfull::{self, Overfull};
 use super::punch::{punch, Style};
 use super::source::{self, Line};
-use super::templates::{Where, JUMPS, RANGES, STATEMENTS};
+use super::templates::{Template, Where, JUMPS, RANGES, STATEMENTS};
 use super::{Made, Rng};
+use crate::level::Level;
 use crate::limits::LARGEST_NUMBER;
 
 /// A deck that is refused for one reason, which begins with the number, and where.
@@ -24,37 +26,81 @@ impl Faulty {
     }
 }
 
-/// How many reasons there are from 1 to 25.
-pub fn deck_reasons() -> usize {
-    cards_wrong::REASONS.len() + STATEMENTS.len() + JUMPS.len() * RANGES.len() + overfull::REASONS.len()
+/// The templates that come at a level, and what goes over a limit there.
+fn new_at(level: Level) -> (&'static [Template], &'static [Overfull]) {
+    match level {
+        Level::Base => (STATEMENTS, overfull::REASONS),
+        Level::Cards => (card_templates::STATEMENTS, overfull::CARD_REASONS),
+    }
 }
 
-/// A deck with the fault of a reason, counted from 0.
+/// How many reasons the base has from 1 to 25.
+pub fn deck_reasons() -> usize {
+    cards_wrong::REASONS.len() + JUMPS.len() * RANGES.len() + new_reasons(Level::Base)
+}
+
+/// How many reasons come with a level, the base's about cards and jumps not among them.
+fn new_reasons(level: Level) -> usize {
+    let (templates, overfull) = new_at(level);
+    templates.len() + overfull.len()
+}
+
+/// How many reasons there are at a level.
+pub fn deck_reasons_at(level: Level) -> usize {
+    match level {
+        Level::Base => deck_reasons(),
+        Level::Cards => deck_reasons() + new_reasons(level),
+    }
+}
+
+/// A deck of the base with the fault of a reason, counted from 0.
 pub fn faulty_deck(rng: &mut Rng, reason: usize) -> Faulty {
+    faulty_deck_at(Level::Base, rng, reason)
+}
+
+/// A deck of a level with the fault of a reason, counted from 0, the base's first.
+pub fn faulty_deck_at(level: Level, rng: &mut Rng, reason: usize) -> Faulty {
+    match reason.checked_sub(deck_reasons()) {
+        None => faulty_by_base(level, rng, reason),
+        Some(left) => {
+            let (templates, overfull) = new_at(Level::Cards);
+            match templates.get(left) {
+                Some(template) => insert_template(level, rng, template),
+                None => overfull::faulty(rng, &overfull[left - templates.len()]),
+            }
+        }
+    }
+}
+
+fn faulty_by_base(level: Level, rng: &mut Rng, reason: usize) -> Faulty {
     let mut left = reason;
     if let Some(reason) = cards_wrong::REASONS.get(left) {
-        return cards_wrong::faulty(rng, reason);
+        return cards_wrong::faulty(level, rng, reason);
     }
     left -= cards_wrong::REASONS.len();
-    if let Some((reason, place, choices)) = STATEMENTS.get(left) {
-        let lines = *rng.pick(choices);
-        return insert(rng, reason.to_string(), *place, lines);
+    if let Some(template) = STATEMENTS.get(left) {
+        return insert_template(level, rng, template);
     }
     left -= STATEMENTS.len();
     if left < JUMPS.len() * RANGES.len() {
         let ((jump, jumps), (range, ranges)) = (JUMPS[left % JUMPS.len()], RANGES[left / JUMPS.len()]);
         let (lines, jumping) = (*rng.pick(ranges), *rng.pick(jumps));
         let lines = lines.replace('J', jumping);
-        return insert(rng, format!("24 {jump} {range}"), Where::Outside, &lines);
+        return insert(level, rng, format!("24 {jump} {range}"), Where::Outside, &lines);
     }
     left -= JUMPS.len() * RANGES.len();
     overfull::faulty(rng, &overfull::REASONS[left])
 }
 
+fn insert_template(level: Level, rng: &mut Rng, (reason, place, choices): &Template) -> Faulty {
+    let lines = *rng.pick(choices);
+    insert(level, rng, reason.to_string(), *place, lines)
+}
+
 /// An ordinary deck with the lines in it.
-fn insert(rng: &mut Rng, reason: String, place: Where, lines: &str) -> Faulty {
+fn insert(level: Level, rng: &mut Rng, reason: String, place: Where, lines: &str) -> Faulty {
     let k = rng.range(1, 9) as u32;
-    let mut program = source::program(rng, k, false);
+    let mut program = source::program(level, rng, k, false);
     let (fault, lines) = fill(rng, k, &program, lines);
     let at = place_lines(rng, &mut program, place, lines);
     let style = Style::any(rng);

@@ -110,6 +110,55 @@ pub const REASONS: &[Overfull] = &[
     ),
 ];
 
+/// What 2026-01 brings.
+pub const CARD_REASONS: &[Overfull] = &[
+    (
+        "18 format words",
+        |rng| format_words(rng, 3),
+        &[
+            "!n FORMAT(2I5,1X)",
+            "!n FORMAT(3(I5))",
+            "!n FORMAT(3HA B)",
+            "!n FORMAT(///)",
+        ],
+    ),
+    (
+        "18 format words: repeated",
+        |_| vec!["PRINT9".to_string(), "9 FORMAT(1X)".to_string()],
+        &[
+            "!n FORMAT(4095(I5))",
+            "!n FORMAT(99999(99999(99999(1X))))",
+            "!n FORMAT(64(64I5))",
+            "!n FORMAT(99999I1)",
+        ],
+    ),
+    (
+        "18 list items",
+        |rng| items(LIST_ITEMS - rng.below(3)),
+        &["!PRINTn,MINE,MORE,MINE|n FORMAT(I5)", "!READn,J,J,J|n FORMAT(I5)"],
+    ),
+    (
+        "18 names: in a list",
+        names,
+        &["!PRINTn,MINE|n FORMAT(I5)", "!READn,N1,MINE|n FORMAT(I5)"],
+    ),
+    (
+        "18 elements: in a list",
+        elements,
+        &["!PRINTn,MAST(1)|n FORMAT(I5)", "!READn,MAST,MAST(I+1)|n FORMAT(I5)"],
+    ),
+    (
+        "18 cells: in a list",
+        |_| cells(CELLS),
+        &["!READn,MINE|n FORMAT(I5)", "!PRINTn,MAST(MINE)|n FORMAT(I5)"],
+    ),
+    (
+        "18 code: a READ or PRINT",
+        |_| fill_code(CODE),
+        &["!READn|n FORMAT(I5)", "!PRINTn|n FORMAT(I5)"],
+    ),
+];
+
 /// Enough digits for every constant above.
 pub fn faulty(rng: &mut Rng, (reason, before, choices): &Overfull) -> Faulty {
     let k = rng.range(4, 9) as u32;
@@ -175,6 +224,23 @@ fn exits(rng: &mut Rng, taken: usize) -> Vec<String> {
 /// Fewer words left than the next statement takes.
 fn code(rng: &mut Rng, taken: usize) -> Vec<String> {
     fill_code(CODE - rng.below(taken))
+}
+
+/// At most so many format words left.
+fn format_words(rng: &mut Rng, most: usize) -> Vec<String> {
+    let filled = FORMAT_WORDS - rng.below(most + 1);
+    vec![format!("9 FORMAT(4000X,{}I1)", filled - 2)]
+}
+
+/// PRINTs with so many items.
+fn items(count: usize) -> Vec<String> {
+    let all = vec!["J"; count];
+    let mut texts: Vec<String> = all
+        .chunks(300)
+        .map(|part| format!("PRINT9,{}", part.join(",")))
+        .collect();
+    texts.push("9 FORMAT(I5)".to_string());
+    texts
 }
 
 fn cells(filled: usize) -> Vec<String> {

@@ -47,13 +47,15 @@ pub fn punch(rng: &mut Rng, lines: &[Line], style: Style) -> Vec<u8> {
         if comments && rng.chance(20) {
             deck.extend(comment(rng));
         }
-        let text = if blanks {
+        // In a FORMAT every column may count.
+        let as_it_is = line.text.starts_with("FORMAT(");
+        let text = if blanks && !as_it_is {
             spread(rng, &line.text)
         } else {
             line.text.clone().into_bytes()
         };
         let least = text.len() / 9 + 1;
-        let room = if short && least < TEXT {
+        let room = if short && least < TEXT && !as_it_is {
             rng.range(least, TEXT)
         } else {
             TEXT

@@ -1,6 +1,9 @@
 //! Random programs as lines of text: nested DOs, jumps that know which ranges they are in.
 
+mod transfers;
+
 use super::Rng;
+use crate::level::Level;
 
 /// A statement before it is punched.
 #[derive(Clone, Debug)]
@@ -11,13 +14,15 @@ pub struct Line {
 }
 
 /// A statement while the program is being written. In its text `@` stands for the number of a
-/// statement to jump to and `#` for that of a DO's last statement.
+/// statement to jump to, `#` for that of a DO's last statement and `%` for that of a FORMAT.
 struct Draft {
     text: String,
     /// The DOs around it, outermost first.
     inside: Vec<usize>,
     /// The draft that is this DO's last statement.
     last: Option<usize>,
+    /// The draft that is this READ's or PRINT's FORMAT.
+    format: Option<usize>,
     executable: bool,
     numbered: bool,
 }
@@ -29,6 +34,7 @@ struct Array {
 }
 
 struct Writer<'r> {
+    level: Level,
     rng: &'r mut Rng,
     k: u32,
     /// Whether rules may be broken.
@@ -36,6 +42,8 @@ struct Writer<'r> {
     drafts: Vec<Draft>,
     names: Vec<&'static str>,
     arrays: Vec<Array>,
+    /// The FORMATs that have an I.
+    formats: Vec<usize>,
     /// The DOs around the next statement and their variables.
     around: Vec<(usize, &'static str)>,
     dos: usize,
@@ -47,17 +55,19 @@ const NAMES: [&str; 12] = [
 const ARRAYS: [&str; 5] = ["L", "LIST", "MATRIX", "NN", "K2"];
 
 /// A program of up to some forty statements.
-pub fn program(rng: &mut Rng, k: u32, slips: bool) -> Vec<Line> {
+pub fn program(level: Level, rng: &mut Rng, k: u32, slips: bool) -> Vec<Line> {
     let count = rng.range(2, 6);
     let first = rng.below(NAMES.len());
     let names = (0..count).map(|n| NAMES[(first + n) % NAMES.len()]).collect();
     let mut writer = Writer {
+        level,
         rng,
         k,
         slips,
         drafts: Vec::new(),
         names,
         arrays: Vec::new(),
+        formats: Vec::new(),
         around: Vec::new(),
         dos: 0,
     };
@@ -85,11 +95,12 @@ impl Writer<'_> {
     /// Adds a statement and returns its index.
     fn draft(&mut self, text: &str) -> usize {
         let inside = self.around.iter().map(|(id, _)| *id).collect();
-        let executable = !text.starts_with("DIMENSION") && text != "END";
+        let executable = !text.starts_with("DIMENSION") && !text.starts_with("FORMAT(") && text != "END";
         self.drafts.push(Draft {
             text: text.to_string(),
             inside,
             last: None,
+            format: None,
             executable,
             numbered: false,
         });
@@ -98,6 +109,10 @@ impl Writer<'_> {
 
     fn block(&mut self, length: usize) {
         for _ in 0..length {
+            if self.level >= Level::Cards && self.rng.chance(35) {
+                self.transfer();
+                continue;
+            }
             match self.rng.below(20) {
                 0..=8 => self.assignment(),
                 9..=11 => self.arithmetic_if(),
@@ -200,6 +215,9 @@ impl Writer<'_> {
     fn last_statement(&mut self) -> usize {
         if self.slip(5) {
             return self.draft("STOP");
+        }
+        if self.level >= Level::Cards && self.rng.chance(25) {
+            return self.transfer();
         }
         if self.rng.chance(50) {
             return self.draft("CONTINUE");
@@ -357,6 +375,10 @@ impl Writer<'_> {
             if let Some(last) = self.drafts[index].last {
                 self.drafts[last].numbered = true;
                 text = text.replace('#', &number(last).to_string());
+            }
+            if let Some(format) = self.drafts[index].format {
+                self.drafts[format].numbered = true;
+                text = text.replace('%', &number(format).to_string());
             }
             self.drafts[index].text = text;
         }

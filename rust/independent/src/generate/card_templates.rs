@@ -1,0 +1,37 @@
+//! Statements with one fault each that 2026-01 brings, as `templates` has those of the base.
+
+use super::templates::{Template, Where::*};
+
+pub const STATEMENTS: &[Template] = &[
+    ("10 READ or PRINT", Anywhere, &["!READ", "!PRINT", "!READMINE", "!READ,MINE", "!PRINT(n),MINE", "!PRINTnMINE", "!READn.", "!PRINT-n"]),
+    ("10 a list", Anywhere, &["!READn,", "!PRINTn,,MINE", "!PRINTn,MINE,", "!PRINTn,(LADDER(I),I=1,3)", "!READn,(MINE)", "!READnMINE,MORE", "!READn,MINE=2"]),
+    ("10 an item", Anywhere, &["!PRINTn,5", "!PRINTn,MINE+1", "!READn,-MINE", "!PRINTn,LADDER(1+MORE)", "!READn,LADDER(1,2,3)", "!READn,MINE,LADDER()", "!PRINTn,x,2*3"]),
+    ("11 in a list", Anywhere, &["!READn,A", "!PRINTn,MINEOWN", "!READn,LADDER(H+1)", "!PRINTn,MINE,Z(1)", "!READn,MINE,LADDERS(2)"]),
+    ("11 an assignment to READ, PRINT or FORMAT", Anywhere, &["!READd=3", "!PRINT=x", "!n READ(1)=2", "!FORMATI=5", "!FORMAT(I)=3", "!n FORMAT(1,2)=x"]),
+    ("12 in a list", Anywhere, &["!READn,LADDER(z)", "!PRINTn,LADDER(y*MINE)", "!PRINTn,MINE,LADDER(1,MORE+z)"]),
+    ("13 a FORMAT's number 0", Anywhere, &["!READ0,MINE", "!PRINT0", "!READ00000000000,MINE"]),
+    ("13 a FORMAT's number over 99999", Anywhere, &["!READ100000,MINE", "!PRINT4294967297", "!PRINT000100000,MINE"]),
+    ("15 seen in a list", Anywhere, &["PRINTn,LADDER|!DIMENSIONLADDER(2)|n FORMAT(I5)", "READn,MINE,LADDER|f|!DIMENSIONMAST(2),LADDER(2)|n FORMAT(I5)"]),
+    ("16 undeclared in a list", Anywhere, &["!PRINTn,LADDER(1)", "!READn,MINE,LADDER(1,MORE)", "LADDER=1|!READn,LADDER(1)", "!READn,LADDER(1)|DIMENSIONLADDER(2)"]),
+    ("16 wrong count in a list", Anywhere, &["DIMENSIONLADDER(2)|!READn,LADDER(1,1)", "DIMENSIONLADDER(2,2)|!PRINTn,LADDER,LADDER(1)"]),
+    ("16 bare in a list's subscript", Anywhere, &["DIMENSIONLADDER(2)|!PRINTn,LADDER(LADDER)", "DIMENSIONLADDER(2),MAST(2)|!READn,MAST(2*LADDER)"]),
+    ("17 unnumbered", Anywhere, &["!FORMAT(I5)", "!FORMAT(5HA B C)", "!FORMAT(///)", "!FORMAT"]),
+    ("17 parentheses", Anywhere, &["!n FORMAT", "!n FORMATI5", "!n FORMAT(I5", "!n FORMATI5)", "!n FORMAT(2(I5)", "!n FORMAT(I5))", "!n FORMAT(3HA))"]),
+    ("17 an empty list", Anywhere, &["!n FORMAT()", "!n FORMAT(())", "!n FORMAT(I5,2())"]),
+    ("17 a comma", Anywhere, &["!n FORMAT(I5,/I6)", "!n FORMAT(I5/,I6)", "!n FORMAT(,I5)", "!n FORMAT(I5,)", "!n FORMAT(I5,,I6)", "!n FORMAT(2(I5,))"]),
+    ("17 no comma", Anywhere, &["!n FORMAT(I5I6)", "!n FORMAT(3XI5)", "!n FORMAT(1HAI5)", "!n FORMAT((I5)(I6))", "!n FORMAT(I5(I6))", "!n FORMAT(2(I5)1X)"]),
+    ("17 a field without its number", Anywhere, &["!n FORMAT(X)", "!n FORMAT(HA)", "!n FORMAT(I)", "!n FORMAT(2I)", "!n FORMAT(2)", "!n FORMAT(I5,2/)"]),
+    ("17 a number 0", Anywhere, &["!n FORMAT(I0)", "!n FORMAT(0I5)", "!n FORMAT(0X)", "!n FORMAT(0HA)", "!n FORMAT(0(I5))", "!n FORMAT(I000)"]),
+    ("17 a number over 99999", Anywhere, &["!n FORMAT(I100000)", "!n FORMAT(100000I5)", "!n FORMAT(100000X)", "!n FORMAT(100000(I5))", "!n FORMAT(4294967297X)"]),
+    ("17 H past the cards", Anywhere, &["!n FORMAT(70HA)", "!n FORMAT(660HA)", "!n FORMAT(99999HA)", "!n FORMAT(I5,3(58HA))"]),
+    ("17 another field", Anywhere, &["!n FORMAT(F5)", "!n FORMAT(A4)", "!n FORMAT(-I5)", "!n FORMAT(I-5)", "!n FORMAT(I5.2)", "!n FORMAT(2I5*3)", "!n FORMAT(2 3X4)"]),
+    ("17 something after it", Anywhere, &["!n FORMAT(I5)I5", "!n FORMAT(I5),", "!n FORMAT(1HA)A", "!n FORMAT(/)/"]),
+    ("21 a FORMAT's number twice", Outside, &["n FORMAT(I5)|f|!n FORMAT(I5)", "n CONTINUE|!n FORMAT(I5)", "n FORMAT(1X)|!n CONTINUE"]),
+    ("22 READ or PRINT", Outside, &["!READu,MINE", "!PRINTu", "!PRINTu,MINE|n FORMAT(I5)"]),
+    ("22 not a FORMAT", Outside, &["!PRINTn,MINE|n CONTINUE", "n MINE=x|f|!READn,MORE", "!n PRINTn"]),
+    ("22 a list and no I", Outside, &["!PRINTn,MINE|n FORMAT(1X)", "n FORMAT(2HI5,2(/))|f|!READn,MINE", "!PRINTn,MINE,MORE|n FORMAT(2(1X,(3HI55)))"]),
+    ("22 an exit to a FORMAT", Outside, &["!GOTOn|n FORMAT(I5)", "!IF(x)m,n,m|n FORMAT(1X)|m CONTINUE", "n FORMAT(/)|f|!GOTO(m,n),MINE|m CONTINUE"]),
+    ("22 a DO's end a FORMAT", Outside, &["!DOnMINE=1,2|f|n FORMAT(I5)", "n FORMAT(1X)|!DOnMINE=1,2"]),
+    ("25 set by a READ", Outside, &["DOnMINE=1,2|f|!READm,MINE|n CONTINUE|m FORMAT(I5)", "DOnMINE=1,2|!n READm,MORE,MINE|m FORMAT(I5)",
+        "m FORMAT(I5)|DOnMINE=1,2|DOpMORE=1,2|f|!READm,LAST,MINE|p CONTINUE|n CONTINUE"]),
+];
