@@ -16,14 +16,17 @@ mod punch;
 mod source;
 #[rustfmt::skip]
 mod templates;
+mod transfers;
 
-pub use broken::{broken_object, broken_state, broken_store, right_state, sound_object};
+pub use broken::{
+    broken_object, broken_object_at, broken_state, broken_store, right_state, sound_object, sound_object_at,
+};
 pub use crowded::crowded_deck;
 pub use damage::damaged_deck;
 pub use faults::{deck_reasons, deck_reasons_at, faulty_deck, faulty_deck_at, Faulty};
 pub use fields::{told_deck, Told, PRINTED, PUNCHED};
 pub use formats::cards;
-pub use objects::{damaged_object, made_object};
+pub use objects::{damaged_object, made_object, made_object_at};
 
 use crate::level::Level;
 use crate::limits::STACK;

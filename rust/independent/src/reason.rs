@@ -1,19 +1,23 @@
 //! Which of the separate reasons in the paper's lines 41 to 44 and 50 to 52 a refusal has, for tests to count. A reason
 //! begins with its number.
 
+mod transfers;
+
 use std::collections::BTreeSet;
 
-use crate::check::{check, instruction_right, judge, open, successors, Heights};
+use crate::check::{instruction_right, judge, successors, Heights};
+use crate::level::Level;
 use crate::limits::{CELLS, STACK};
 use crate::machine::State;
 use crate::number::{fits, power};
-use crate::object::{unpack, word_at, DoEntry, ElementEntry, NameEntry, Tables, BODIES, ENTRY_BYTES, ENTRY_LIMITS};
+use crate::object::{unpack, word_at, DoEntry, Edition, ElementEntry, NameEntry, Tables};
 use crate::operation::*;
 use crate::refusal::Refusal;
+pub use transfers::CARD_REASONS;
 
 type Reason = &'static str;
 
-/// Every reason there is.
+/// Every reason of the base.
 pub const REASONS: [Reason; 72] = [
     "41 k 0",
     "41 k over 9",
@@ -89,10 +93,15 @@ pub const REASONS: [Reason; 72] = [
     "52 mark outside the code",
 ];
 
-/// All reasons that hold where a run of these is refused; none if it is not, or by 40.
+/// The reasons of the base's run.
 pub fn of_run(object: &[u8], store: &[i64], state: &State) -> Vec<Reason> {
-    let found = of_object(object);
-    let (Ok(t), true) = (open(object), found.is_empty()) else {
+    of_run_at(Level::Base, object, store, state)
+}
+
+/// All reasons that hold where a run of these is refused; none if it is not, or by 40.
+pub fn of_run_at(level: Level, object: &[u8], store: &[i64], state: &State) -> Vec<Reason> {
+    let found = of_object_at(level, object);
+    let (Ok(t), true) = (level.open(object), found.is_empty()) else {
         return found;
     };
     let found = of_store(&t, store);
@@ -102,9 +111,14 @@ pub fn of_run(object: &[u8], store: &[i64], state: &State) -> Vec<Reason> {
     of_state(&t, &heights, state)
 }
 
-/// All reasons that hold where the check refuses.
+/// The reasons of the base's check.
 pub fn of_object(object: &[u8]) -> Vec<Reason> {
-    match (check(object), open(object)) {
+    of_object_at(Level::Base, object)
+}
+
+/// All reasons that hold where the check refuses.
+pub fn of_object_at(level: Level, object: &[u8]) -> Vec<Reason> {
+    match (level.check(object), level.open(object)) {
         (Err(Refusal { number: 41, .. }), _) => of_limits(object),
         (
             Err(Refusal {
@@ -122,7 +136,7 @@ pub fn of_object(object: &[u8]) -> Vec<Reason> {
 
 /// Whether the check refuses by 43 at an instruction that no way from instruction 0 leads to.
 pub fn unreachable(object: &[u8]) -> bool {
-    let (Err(Refusal { number: 43, place, .. }), Ok(t)) = (check(object), open(object)) else {
+    let (Err(Refusal { number: 43, place, .. }), Ok(t)) = (Level::Base.check(object), Level::Base.open(object)) else {
         return false;
     };
     let mut met = BTreeSet::new();
@@ -145,13 +159,16 @@ fn held(reasons: &[(bool, Reason)]) -> Vec<Reason> {
 
 fn of_limits(object: &[u8]) -> Vec<Reason> {
     let (k, cells) = (word_at(object, 4), word_at(object, 8));
-    let over = |body: usize| word_at(object, 24 + 12 * body) as usize / ENTRY_BYTES[body] > ENTRY_LIMITS[body];
+    let edition = Edition::named(word_at(object, 0)).unwrap_or(Edition::One);
+    let (bytes, limits) = (edition.entry_bytes(), edition.entry_limits());
+    let over = |body: &usize| word_at(object, 24 + 12 * body) as usize / bytes[*body] > limits[*body];
+    let reasons = [&REASONS[3..10], &CARD_REASONS[..3]].concat();
     let mut found = held(&[
         (k == 0, "41 k 0"),
         (k > 9, "41 k over 9"),
         (cells as usize > CELLS, "41 cells"),
     ]);
-    found.extend((0..BODIES).filter(|body| over(*body)).map(|body| REASONS[3 + body]));
+    found.extend((0..bytes.len()).filter(over).map(|body| reasons[body]));
     found
 }
 
@@ -161,7 +178,8 @@ fn of_entry(t: &Tables, kind: u32, entry: usize) -> Vec<Reason> {
         2 => of_element(t, &t.elements[entry]),
         4 => of_do(t, &t.dos[entry]),
         6 => vec!["42 statement: address"],
-        _ => of_name(t, &t.names[entry]),
+        7 => of_name(t, &t.names[entry]),
+        _ => transfers::of_entry(t, kind, entry),
     }
 }
 
@@ -237,6 +255,8 @@ fn of_instruction(t: &Tables, index: usize) -> Reason {
         JMP => "43 JMP: operand",
         DOI => "43 DOI: operand",
         DOE => "43 DOE: operand",
+        READ if t.edition >= Edition::Two => "43 READ: operand",
+        PRINT if t.edition >= Edition::Two => "43 PRINT: operand",
         _ => "43 unknown operation",
     }
 }

@@ -1,21 +1,28 @@
 //! Right objects and states, and objects, stores and states in which one rule is broken, mostly at its edge.
 
-use super::objects::{made_do, made_element, made_name, made_statement, made_word};
-use super::{value, Rng};
+use super::objects::{made_do, made_edition, made_element, made_name, made_statement, made_word};
+use super::{transfers, value, Rng};
 use crate::check::{instruction_right, Heights};
+use crate::level::Level;
 use crate::limits::{CELLS, STACK};
 use crate::machine::State;
 use crate::object::*;
 use crate::operation::*;
 
-/// An object that passes the check: something in each body, code that goes on to a halt by some way, and words that are
-/// never reached.
+/// A sound object of the base.
 pub fn sound_object(rng: &mut Rng) -> Vec<u8> {
-    sound_tables(rng).to_bytes()
+    sound_object_at(Level::Base, rng)
 }
 
-fn sound_tables(rng: &mut Rng) -> Tables {
-    let mut t = Tables::empty(rng.range(1, 9) as u32);
+/// An object that passes the check: something in each body, code that goes on to a halt by some way, and words that are
+/// never reached.
+pub fn sound_object_at(level: Level, rng: &mut Rng) -> Vec<u8> {
+    sound_tables(level, rng).to_bytes()
+}
+
+fn sound_tables(level: Level, rng: &mut Rng) -> Tables {
+    let edition = made_edition(level, rng);
+    let mut t = Tables::empty_of(edition, rng.range(1, 9) as u32);
     t.cells = if rng.chance(5) {
         CELLS as u32
     } else {
@@ -24,6 +31,9 @@ fn sound_tables(rng: &mut Rng) -> Tables {
     t.constants = (0..rng.range(1, 4)).map(|_| rng.below(10) as u32).collect();
     t.elements = (0..rng.range(1, 3)).map(|_| made_element(rng, t.cells)).collect();
     t.dos = (0..rng.range(1, 3)).map(|_| made_do(rng, t.cells, 1)).collect();
+    if edition >= Edition::Two {
+        transfers::fill(rng, &mut t);
+    }
     let length = rng.below(20);
     let (code, height) = straight_code(rng, &t, length);
     t.code = code;
@@ -72,6 +82,7 @@ fn straight_code(rng: &mut Rng, t: &Tables, length: usize) -> (Vec<u32>, usize) 
     let mut code = Vec::new();
     while code.len() < length {
         let operation = match rng.below(10) {
+            0 if !t.transfers.is_empty() && rng.chance(60) => *rng.pick(&[READ, PRINT]),
             0 => *rng.pick(&[LDE, STE, DOI]),
             _ => *rng.pick(&[CON, LOD, CON, LOD, CON, LOD, STO, ADD, SUB, MUL, DIV, NEG]),
         };
@@ -91,13 +102,14 @@ fn operand(rng: &mut Rng, t: &Tables, operation: u32) -> u32 {
         LOD | STO => t.cells as usize,
         LDE | STE => t.elements.len(),
         DOI | DOE => t.dos.len(),
+        READ | PRINT => t.transfers.len(),
         _ => 1,
     };
     rng.below(length) as u32
 }
 
 /// A number from `bound` on, mostly near it.
-fn over(rng: &mut Rng, bound: u32) -> u32 {
+pub(super) fn over(rng: &mut Rng, bound: u32) -> u32 {
     match rng.below(4) {
         0..=1 => bound,
         2 => bound + rng.below(4) as u32,
@@ -110,11 +122,17 @@ fn over_operand(rng: &mut Rng, bound: usize) -> u32 {
     over(rng, bound as u32).min(0xFF_FFFF)
 }
 
-/// A sound object but for one rule of 41 to 44.
+/// A broken object of the base.
 pub fn broken_object(rng: &mut Rng) -> Vec<u8> {
-    let mut t = sound_tables(rng);
+    broken_object_at(Level::Base, rng)
+}
+
+/// A sound object but for one rule of 41 to 44.
+pub fn broken_object_at(level: Level, rng: &mut Rng) -> Vec<u8> {
+    let mut t = sound_tables(level, rng);
     match rng.below(60) {
         0..=9 => break_limit(rng, &mut t),
+        10..=30 if t.edition >= Edition::Two && rng.chance(50) => transfers::break_entry(rng, &mut t),
         10..=30 => break_entry(rng, &mut t),
         31..=53 => break_word(rng, &mut t),
         _ => break_heights(rng, &mut t),
@@ -127,17 +145,21 @@ fn break_limit(rng: &mut Rng, t: &mut Tables) {
         table.resize(length, table[0].clone());
     }
     let more = rng.range(1, 3);
-    match rng.below(10) {
+    let limits = t.edition.entry_limits();
+    match rng.below(3 + limits.len()) {
         0 => t.k = 0,
         1 => t.k = over(rng, 10),
         2 => t.cells = over(rng, 4097),
-        3 => grow(&mut t.constants, ENTRY_LIMITS[0] + more),
-        4 => grow(&mut t.elements, ENTRY_LIMITS[1] + more),
-        5 => grow(&mut t.exits, ENTRY_LIMITS[2] + more),
-        6 => grow(&mut t.dos, ENTRY_LIMITS[3] + more),
-        7 => grow(&mut t.code, ENTRY_LIMITS[4] + more),
-        8 => grow(&mut t.statements, ENTRY_LIMITS[5] + more),
-        _ => grow(&mut t.names, ENTRY_LIMITS[6] + more),
+        3 => grow(&mut t.constants, limits[0] + more),
+        4 => grow(&mut t.elements, limits[1] + more),
+        5 => grow(&mut t.exits, limits[2] + more),
+        6 => grow(&mut t.dos, limits[3] + more),
+        7 => grow(&mut t.code, limits[4] + more),
+        8 => grow(&mut t.statements, limits[5] + more),
+        9 => grow(&mut t.names, limits[6] + more),
+        10 => grow(&mut t.words, limits[7] + more),
+        11 => grow(&mut t.items, limits[8] + more),
+        _ => grow(&mut t.transfers, limits[9] + more),
     }
 }
 
@@ -193,8 +215,11 @@ fn break_entry(rng: &mut Rng, t: &mut Tables) {
 /// An instruction anywhere, reached or not, that breaks 43.
 fn break_word(rng: &mut Rng, t: &mut Tables) {
     let (code, exits) = (t.code.len(), t.exits.len());
+    let transfers = t.transfers.len();
     let word = match rng.below(24) {
+        0 if transfers > 0 => pack(*rng.pick(&[18, 31, 32, 127, 128, 255]), rng.below(3) as u32),
         0 => pack(*rng.pick(&[16, 17, 31, 32, 127, 128, 255]), rng.below(3) as u32),
+        1..=6 if transfers > 0 && rng.chance(40) => pack(*rng.pick(&[READ, PRINT]), over_operand(rng, transfers)),
         1 => pack(HLT, over_operand(rng, 2)),
         2 => pack(CON, over_operand(rng, t.constants.len())),
         3 => pack(LOD, over_operand(rng, t.cells as usize)),

@@ -1,17 +1,31 @@
 //! Objects made of random tables, and damage to objects.
 
-use super::Rng;
+use super::{transfers, Rng};
 use crate::level::Level;
 use crate::limits::STACK;
 use crate::object::*;
 use crate::operation::*;
 
-/// An object of a few random entries, its contents right.
+/// Edition 1 in the base, and now and then at any level.
+pub fn made_edition(level: Level, rng: &mut Rng) -> Edition {
+    if level > Level::Base && rng.chance(15) {
+        return Edition::One;
+    }
+    level.edition()
+}
+
+/// A made-up object of the base.
 pub fn made_object(rng: &mut Rng) -> Vec<u8> {
+    made_object_at(Level::Base, rng)
+}
+
+/// An object of a few random entries, its contents right.
+pub fn made_object_at(level: Level, rng: &mut Rng) -> Vec<u8> {
     if rng.chance(5) {
         return tall_object(rng);
     }
-    let mut t = Tables::empty(rng.range(1, 9) as u32);
+    let edition = made_edition(level, rng);
+    let mut t = Tables::empty_of(edition, rng.range(1, 9) as u32);
     t.cells = rng.range(1, 8) as u32;
     let code = rng.range(1, 9);
     t.constants = (0..rng.below(4)).map(|_| rng.below(10) as u32).collect();
@@ -22,6 +36,9 @@ pub fn made_object(rng: &mut Rng) -> Vec<u8> {
     t.elements = (0..rng.below(3)).map(|_| made_element(rng, t.cells)).collect();
     t.statements = (0..rng.below(4)).map(|n| made_statement(rng, n, code)).collect();
     t.names = (0..rng.below(3)).map(|n| made_name(rng, n, t.cells)).collect();
+    if edition >= Edition::Two {
+        transfers::fill(rng, &mut t);
+    }
     t.code = (0..code).map(|_| made_word(rng, &t, code)).collect();
     if rng.chance(60) {
         // A halt at the end lets more codes have their heights.
@@ -94,9 +111,12 @@ pub fn made_name(rng: &mut Rng, index: usize, cells: u32) -> NameEntry {
 
 /// A word whose operand is mostly right.
 pub fn made_word(rng: &mut Rng, t: &Tables, code: usize) -> u32 {
-    let operation = *rng.pick(&[
+    let mut operation = *rng.pick(&[
         HLT, CON, CON, LOD, LOD, STO, LDE, STE, ADD, SUB, MUL, DIV, NEG, JMP, BR3, BRC, DOI, DOE,
     ]);
+    if t.edition >= Edition::Two && rng.chance(15) {
+        operation = *rng.pick(&[READ, PRINT]);
+    }
     let length = match operation {
         HLT => 2,
         CON => t.constants.len(),
@@ -106,6 +126,7 @@ pub fn made_word(rng: &mut Rng, t: &Tables, code: usize) -> u32 {
         BR3 => t.exits.len().saturating_sub(2),
         BRC => t.exits.len().min(1),
         DOI | DOE => t.dos.len(),
+        READ | PRINT => t.transfers.len(),
         _ => 1,
     };
     if length == 0 {
@@ -144,10 +165,14 @@ fn change_bytes(rng: &mut Rng, bytes: &mut [u8]) {
 
 /// One word of the contents.
 fn change_contents(rng: &mut Rng, bytes: &mut [u8]) {
-    if bytes.len() < CONTENTS_BYTES {
+    let edition = bytes
+        .first_chunk()
+        .and_then(|word| Edition::named(u32::from_le_bytes(*word)));
+    let contents = edition.unwrap_or(Edition::One).contents_bytes();
+    if bytes.len() < contents {
         return;
     }
-    let at = 4 * rng.below(CONTENTS_BYTES / 4);
+    let at = 4 * rng.below(contents / 4);
     let old = word_at(bytes, at);
     let new = match rng.below(8) {
         0 => 0,
@@ -224,9 +249,9 @@ fn damaged_tables(rng: &mut Rng, object: &[u8]) -> Vec<u8> {
 
 /// A table loses an entry, gains one, or goes to its limit or one over.
 fn cut_or_grow(rng: &mut Rng, t: &mut Tables) {
-    let kind = rng.below(BODIES);
+    let kind = rng.below(t.edition.bodies());
     let how = rng.below(4);
-    let limit = ENTRY_LIMITS[kind];
+    let limit = t.edition.entry_limits()[kind];
     match kind {
         0 => resize(&mut t.constants, how, limit),
         1 => resize(&mut t.elements, how, limit),
@@ -234,7 +259,10 @@ fn cut_or_grow(rng: &mut Rng, t: &mut Tables) {
         3 => resize(&mut t.dos, how, limit),
         4 => resize(&mut t.code, how, limit),
         5 => resize(&mut t.statements, how, limit),
-        _ => resize(&mut t.names, how, limit),
+        6 => resize(&mut t.names, how, limit),
+        7 => resize(&mut t.words, how, limit),
+        8 => resize(&mut t.items, how, limit),
+        _ => resize(&mut t.transfers, how, limit),
     }
 }
 
@@ -277,6 +305,9 @@ fn code_edge(rng: &mut Rng, t: &mut Tables) {
 fn edge(rng: &mut Rng, t: &mut Tables) {
     let edges = edges(t);
     let value = *rng.pick(&edges);
+    if t.edition >= Edition::Two && rng.chance(40) {
+        return transfers::edge(rng, t, value);
+    }
     match rng.below(6) {
         0 => change(rng, &mut t.constants, |_, c| *c = value),
         1 => change(rng, &mut t.elements, |rng, e| set_element_word(rng, e, value)),
@@ -344,6 +375,9 @@ fn edges(t: &Tables) -> Vec<u32> {
         1 << 31,
         u32::MAX,
     ];
+    if t.edition >= Edition::Two {
+        edges.extend([t.words.len() as u32, t.items.len() as u32, 99_999, 100_000]);
+    }
     edges.extend(near.iter().flat_map(|n| [n.wrapping_sub(1), *n, n.wrapping_add(1)]));
     edges.extend([
         power.wrapping_neg(),
