@@ -1,5 +1,7 @@
 //! The line protocol: one request a line, one answer a line.
 
+mod meaning;
+
 use crate::lent::Lent;
 use crate::level::Level;
 use crate::limits::STACK;
@@ -48,6 +50,12 @@ fn read(level: Level, request: &str) -> Option<String> {
                 unsigned(allowance)?,
                 &mut Lent::new(&cards, room),
             ))
+        }
+        ["meaning", k, deck, most, store, ref lent @ ..] if level >= Level::Cards => {
+            let (k, deck, store) = (digits(level, k)?, bytes(deck)?, numbers(store)?);
+            let (cards, room) = read_lent(level, lent)?;
+            let lent = &mut Lent::new(&cards, room);
+            Some(meaning::answer(level, k, &deck, unsigned(most)?, &store, lent))
         }
         ["map", object] => Some(map(level, &bytes(object)?)),
         ["program", input] => Some(level.program(&bytes(input)?).join(" | ")),
@@ -119,7 +127,7 @@ pub fn show(ran: &Ran, state: &State, store: &[i64]) -> String {
 fn show_lent(level: Level, ran: &Ran, state: &State, store: &[i64], lent: &Lent) -> String {
     let mut halt = format!("HALT {} STEPS {} DROP {}", ran.halt, ran.steps, ran.sequence);
     if level >= Level::Cards {
-        halt += &format!(" CARDS {} LINES {}", lent.taken(), lent.lines().len());
+        halt += &counts(lent);
     }
     let mut lines = vec![
         halt,
@@ -129,6 +137,11 @@ fn show_lent(level: Level, ran: &Ran, state: &State, store: &[i64], lent: &Lent)
     lines.extend(store.iter().map(|cell| cell.to_string()));
     lines.extend(lent.shown().map(|line| format!("={line}")));
     lines.join(" | ")
+}
+
+/// Cards taken and lines written.
+fn counts(lent: &Lent) -> String {
+    format!(" CARDS {} LINES {}", lent.taken(), lent.lines().len())
 }
 
 /// "an empty hexadecimal field is `-`"

@@ -25,7 +25,7 @@ pub struct Outcome {
     pub values: Values,
     /// The sequence number of the first statement that lost digits, or 0.
     pub first_loss: u32,
-    /// Statements carried out, one that halts among them.
+    /// Statements carried out, one that halts among them; a DIMENSION or FORMAT is not.
     pub statements: u64,
 }
 
@@ -50,6 +50,7 @@ pub fn interpret_lent(deck: &Deck, start: &Values, budget: u64, lent: &mut Lent)
     meaning.lay_out();
     let mut statements = 0;
     let halt = loop {
+        meaning.pass_over();
         if statements == budget {
             break 2;
         }
@@ -85,7 +86,15 @@ struct Meaning<'d, 'l, 'c> {
 type Worked<T> = Result<T, u32>;
 
 impl<'d> Meaning<'d, '_, '_> {
-    /// Gives every array its elements. DIMENSION does nothing when it is met.
+    /// "FORMAT is passed over as DIMENSION is, and does not count".
+    fn pass_over(&mut self) {
+        let declares = |statement: &Statement| matches!(statement.form, Form::Dimension(_) | Form::Format(_));
+        while self.deck.statements().get(self.at).is_some_and(declares) {
+            self.at += 1;
+        }
+    }
+
+    /// Gives every array its elements.
     fn lay_out(&mut self) {
         for statement in self.deck.statements() {
             if let Form::Dimension(arrays) = &statement.form {
