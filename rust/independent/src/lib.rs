@@ -26,6 +26,7 @@ pub mod reader;
 pub mod reason;
 pub mod refusal;
 mod translate;
+mod tree;
 mod whole;
 
 pub use check::check;

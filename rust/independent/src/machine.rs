@@ -1,17 +1,16 @@
 //! The machine (01 "Running"): runs with a state, refusals 50 to 52, and bench runs.
 
+mod decode;
 mod transfers;
 
-use crate::check::{
-    constant_right, do_right, element_right, instruction_right, judge, targets, transfer_uses_right, Heights,
-};
+use crate::check::{judge, Heights};
 use crate::lent::Lent;
 use crate::level::Level;
 use crate::limits::STACK;
 use crate::number::{fits, keep_near, power};
-use crate::object::{unpack, DoEntry, ElementEntry, SubscriptEntry, Tables};
-use crate::operation::*;
+use crate::object::{DoEntry, ElementEntry, SubscriptEntry, Tables};
 use crate::refusal::Refusal;
+use decode::{decode, Act, Decoded};
 
 /// Where a run stands.
 #[derive(Clone, Copy, Debug, PartialEq, Eq)]
@@ -114,104 +113,6 @@ fn state_right(t: &Tables, heights: &Heights, state: &State) -> Result<(), Refus
         Ok(())
     } else {
         Err(Refusal::whole(52))
-    }
-}
-
-/// An instruction word made ready for the loop.
-#[derive(Clone, Copy)]
-struct Decoded {
-    pops: u8,
-    pushes: u8,
-    act: Act,
-}
-
-#[derive(Clone, Copy)]
-enum Act {
-    /// "breaks 43, or uses an entry that breaks 42"
-    Wrong,
-    Halt(u32),
-    Constant(i64),
-    Load(usize),
-    Store(usize),
-    /// The entry's index.
-    LoadElement(usize),
-    StoreElement(usize),
-    Add,
-    Subtract,
-    Multiply,
-    Divide,
-    Negate,
-    Jump(u32),
-    /// Below, at, above 0.
-    Branch([u32; 3]),
-    /// The index of the first target in body 3, and the count.
-    Choose(u32, u32),
-    Begin(DoEntry),
-    EndTurn(DoEntry),
-    /// The entry's index.
-    Read(usize),
-    Print(usize),
-}
-
-fn decode(t: &Tables) -> Vec<Decoded> {
-    (0..t.code.len()).map(|index| decode_one(t, index)).collect()
-}
-
-fn decode_one(t: &Tables, index: usize) -> Decoded {
-    let (operation, operand) = unpack(t.code[index]);
-    let (pops, pushes) = pops_pushes(operation);
-    let right = instruction_right(t, index) && entry_right(t, operation, operand);
-    // A wrong instruction pops nothing, for 8 comes before 7.
-    let (pops, pushes, act) = if right {
-        (pops, pushes, act(t, operation, operand))
-    } else {
-        (0, 0, Act::Wrong)
-    };
-    Decoded {
-        pops: pops as u8,
-        pushes: pushes as u8,
-        act,
-    }
-}
-
-/// Whether the entry that a right instruction uses does not break 42.
-fn entry_right(t: &Tables, operation: u32, operand: u32) -> bool {
-    let entry = operand as usize;
-    match operation {
-        CON => constant_right(t, t.constants[entry]),
-        LDE | STE => element_right(t, &t.elements[entry]),
-        DOI | DOE => do_right(t, &t.dos[entry]),
-        READ | PRINT => transfer_uses_right(t, &t.transfers[entry]),
-        _ => true,
-    }
-}
-
-/// What a right instruction does.
-fn act(t: &Tables, operation: u32, operand: u32) -> Act {
-    let entry = operand as usize;
-    match operation {
-        HLT => Act::Halt(operand),
-        CON => Act::Constant(i64::from(t.constants[entry])),
-        LOD => Act::Load(entry),
-        STO => Act::Store(entry),
-        LDE => Act::LoadElement(entry),
-        STE => Act::StoreElement(entry),
-        ADD => Act::Add,
-        SUB => Act::Subtract,
-        MUL => Act::Multiply,
-        DIV => Act::Divide,
-        NEG => Act::Negate,
-        JMP => Act::Jump(operand),
-        BR3 => match targets(t, operation, operand) {
-            Some([below, at, above]) => Act::Branch([*below, *at, *above]),
-            _ => Act::Wrong,
-        },
-        BRC => Act::Choose(operand + 1, t.exits[entry]),
-        DOI => Act::Begin(t.dos[entry]),
-        DOE => Act::EndTurn(t.dos[entry]),
-        READ => Act::Read(entry),
-        PRINT => Act::Print(entry),
-        _ => Act::Wrong,
     }
 }
 

@@ -194,7 +194,7 @@ impl Tables {
 }
 
 /// "The top eight bits name the operation, the low twenty-four the operand."
-pub fn pack(operation: u32, operand: u32) -> u32 {
+pub const fn pack(operation: u32, operand: u32) -> u32 {
     operation << 24 | operand & 0xFF_FFFF
 }
 

@@ -175,49 +175,51 @@ fn with_word(kind: usize, entry: usize, word: usize, value: u32) -> Vec<u8> {
     object
 }
 
+use word::{BLANKS, END, NUMBER, SLASH, TEXT};
+
+/// Kind, entry, word, right values, wrong values.
+const EDGES: [(usize, usize, usize, &[u32], &[u32]); 11] = [
+    (
+        8,
+        0,
+        0,
+        &[pack(NUMBER, 1), pack(NUMBER, 99_999)],
+        &[pack(NUMBER, 0), pack(NUMBER, 100_000), 0, pack(6, 1)],
+    ),
+    (
+        8,
+        3,
+        0,
+        &[pack(BLANKS, 1), pack(BLANKS, 99_999)],
+        &[pack(BLANKS, 0), pack(BLANKS, 100_000), pack(255, 1)],
+    ),
+    (
+        8,
+        1,
+        0,
+        &[pack(TEXT, 32), pack(TEXT, 90), pack(TEXT, 36)],
+        &[pack(TEXT, 31), pack(TEXT, 35), pack(TEXT, 97), pack(TEXT, 288)],
+    ),
+    (8, 5, 0, &[pack(SLASH, 0)], &[pack(SLASH, 1), pack(SLASH, 0xFF_FFFF)]),
+    (
+        8,
+        7,
+        0,
+        &[pack(END, 5), pack(END, 6)],
+        &[pack(END, 4), pack(END, 7), pack(SLASH, 0), pack(NUMBER, 5)],
+    ),
+    (9, 0, 0, &[0], &[1, u32::MAX]),
+    (9, 0, 1, &[1, 6], &[7, u32::MAX]),
+    (9, 1, 0, &[0], &[1, u32::MAX]),
+    (10, 0, 0, &[0, 5], &[1, 2, 3, 4, 6, 7, 8, u32::MAX]),
+    (10, 0, 1, &[0], &[1, u32::MAX]),
+    (10, 0, 2, &[0, 1, 2], &[3, u32::MAX]),
+];
+
 #[test]
 fn the_last_right_word_and_the_first_wrong_one() {
-    use word::*;
     assert_eq!(LEVEL.check(&small().to_bytes()), Ok(()));
-    // Kind, entry, word, right values, wrong values.
-    let edges: [(usize, usize, usize, &[u32], &[u32]); 11] = [
-        (
-            8,
-            0,
-            0,
-            &[pack(NUMBER, 1), pack(NUMBER, 99_999)],
-            &[pack(NUMBER, 0), pack(NUMBER, 100_000), 0, pack(6, 1)],
-        ),
-        (
-            8,
-            3,
-            0,
-            &[pack(BLANKS, 1), pack(BLANKS, 99_999)],
-            &[pack(BLANKS, 0), pack(BLANKS, 100_000), pack(255, 1)],
-        ),
-        (
-            8,
-            1,
-            0,
-            &[pack(TEXT, 32), pack(TEXT, 90), pack(TEXT, 36)],
-            &[pack(TEXT, 31), pack(TEXT, 35), pack(TEXT, 97), pack(TEXT, 288)],
-        ),
-        (8, 5, 0, &[pack(SLASH, 0)], &[pack(SLASH, 1), pack(SLASH, 0xFF_FFFF)]),
-        (
-            8,
-            7,
-            0,
-            &[pack(END, 5), pack(END, 6)],
-            &[pack(END, 4), pack(END, 7), pack(SLASH, 0), pack(NUMBER, 5)],
-        ),
-        (9, 0, 0, &[0], &[1, u32::MAX]),
-        (9, 0, 1, &[1, 6], &[7, u32::MAX]),
-        (9, 1, 0, &[0], &[1, u32::MAX]),
-        (10, 0, 0, &[0, 5], &[1, 2, 3, 4, 6, 7, 8, u32::MAX]),
-        (10, 0, 1, &[0], &[1, u32::MAX]),
-        (10, 0, 2, &[0, 1, 2], &[3, u32::MAX]),
-    ];
-    for (kind, entry, word, right, wrong) in edges {
+    for (kind, entry, word, right, wrong) in EDGES {
         for value in right {
             assert_eq!(
                 LEVEL.check(&with_word(kind, entry, word, *value)),

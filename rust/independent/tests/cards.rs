@@ -134,16 +134,23 @@ fn a_run_in_parts_is_lent_the_rest() {
             (whole_lent.taken(), whole_lent.lines()),
             "seed {seed}"
         );
-
-        let mut bench_store = start;
-        let mut bench_lent = Lent::new(&cards, room);
-        let benched = LEVEL
-            .bench(&object, &mut bench_store, allowance, &mut bench_lent)
-            .unwrap();
-        assert_eq!(benched, (whole, whole_state), "seed {seed}");
-        assert_eq!((bench_store, bench_lent), (whole_store, whole_lent), "seed {seed}");
     }
     assert!(parted > 200, "{parted}");
+}
+
+#[test]
+fn a_bench_run_of_a_compiled_deck_is_a_run() {
+    for (seed, mut rng, deck, tables) in accepted() {
+        let object = tables.to_bytes();
+        let start = generate::store(&mut rng, deck.k(), tables.cells as usize);
+        let (cards, room) = (generate::cards(&mut rng), room(&mut rng));
+        let (mut store, mut state, mut lent) = (start.clone(), State::fresh(), Lent::new(&cards, room));
+        let ran = LEVEL.run(&object, &mut store, &mut state, 100, &mut lent).unwrap();
+        let (mut bench_store, mut bench_lent) = (start, Lent::new(&cards, room));
+        let benched = LEVEL.bench(&object, &mut bench_store, 100, &mut bench_lent).unwrap();
+        assert_eq!(benched, (ran, state), "seed {seed}");
+        assert_eq!((bench_store, bench_lent), (store, lent), "seed {seed}");
+    }
 }
 
 #[test]

@@ -68,18 +68,7 @@ pub fn told_deck(rng: &mut Rng) -> Told {
         printed_widths.push(format!("I{width}"));
         printed.push(sort);
     }
-    let names: String = (1..=count).map(|name| format!(",N{name}")).collect();
-    let statements = [
-        format!("      READ1{names}"),
-        format!("      PRINT2{names}"),
-        format!("1     FORMAT({})", widths.join(",")),
-        format!("2     FORMAT({})", printed_widths.join(",")),
-        "      END".to_string(),
-    ];
-    let deck = statements
-        .iter()
-        .flat_map(|text| format!("{text:<80}").into_bytes())
-        .collect();
+    let deck = reads_and_prints(&widths, &printed_widths);
     Told {
         made: Made { k, deck },
         card: format!("{card:<CARD_BYTES$}").into_bytes(),
@@ -88,6 +77,20 @@ pub fn told_deck(rng: &mut Rng) -> Told {
         values: (wrong_at == count).then_some(values),
         line: line.trim_end().to_string(),
     }
+}
+
+/// A READ by one FORMAT and a PRINT by another, of as many names as there are fields.
+fn reads_and_prints(read: &[String], printed: &[String]) -> Vec<u8> {
+    let names: String = (1..=read.len()).map(|name| format!(",N{name}")).collect();
+    let statements = [
+        format!("      READ1{names}"),
+        format!("      PRINT2{names}"),
+        format!("1     FORMAT({})", read.join(",")),
+        format!("2     FORMAT({})", printed.join(",")),
+        "      END".to_string(),
+    ];
+    let card = |text: &String| format!("{text:<CARD_BYTES$}").into_bytes();
+    statements.iter().flat_map(card).collect()
 }
 
 /// A field of a sort, and its number.
