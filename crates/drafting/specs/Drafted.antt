@@ -6,7 +6,7 @@ use mathlib.Core.List.{List}
 use lib.ListN.{length}
 use Rattle.rules_shared.specs.Refusals.{refusal}
 use Rattle.rules_deck.specs.Trees.{Statement}
-use Rattle.rules_deck.specs.Cards.{Punched, statements, carded, grouped}
+use Rattle.rules_deck.specs.Cards.{Punched, statements, carded}
 use Rattle.rules_deck.specs.Compile.{Read, notRead, read}
 use Rattle.draft.specs.declared.Counts.{Counts}
 use Rattle.draft.specs.Draft.{draftOf}

@@ -20,7 +20,7 @@ use Rattle.draft.specs.Names.{dimsHeld, Told, Lists}
 use Rattle.names.specs.Find.{firstEntry, itemLength}
 use Rattle.names.specs.Lookups.{Holds}
 use Rattle.judge_references.specs.Rights.{rightWords, rightItem, RightPlace, RightItem, References}
-use Rattle.names.proofs.Tests.{and-true, and-false, all-both, split-all}
+use Rattle.names.proofs.Tests.{and-true, and-false, all-both}
 use Rattle.names.proofs.Looks.{array-spot, reference-none, reference-count}
 use Rattle.names.proofs.Fronts.{front, none-left, step-on, kind-is, no-operand}
 

@@ -11,7 +11,7 @@ use lib.IntN.{ℤ}
 use borrow.Author.Tests.{eqb-true, eqb-false}
 use Rattle.rules_shared.specs.Limits.{limits}
 use Rattle.rules_shared.specs.Refusals.{accepted}
-use Rattle.rules_object.specs.Calls.{Lent, Ran, running}
+use Rattle.rules_object.specs.Calls.{Lent, running}
 use Rattle.rules_object.specs.Safe.{afterSteps}
 use Rattle.rules_object.proofs.GoesOn.{goes-on, stays-halted}
 use Rattle.rules_object.proofs.Accepts.{accepts, accepts-run}

@@ -16,7 +16,6 @@ use Rattle.names.specs.declared.Grown.the-variants.{Names, Full}
 use Rattle.names.specs.Find.{itemLength}
 use Rattle.take_names.specs.Takes.{TakesItem, Appears}
 use Rattle.names.proofs.Fronts.{front, none-left, Ahead, step-on, lent}
-use Rattle.names.proofs.Tests.{split-all}
 use Rattle.names.proofs.Growth.{over-appear, appear-append}
 
 -- the items that are left at a place, and what is held there

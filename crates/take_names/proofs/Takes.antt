@@ -20,7 +20,6 @@ use Rattle.names.specs.declared.Grown.the-variants.{Names, Full}
 use Rattle.names.specs.Lookups.{Holds}
 use Rattle.names.specs.Appears.{Appeared, Within}
 use Rattle.take_names.specs.Takes.{TakesName, TakesAny, TakesItem}
-use Rattle.names.proofs.Tests.{split-all}
 use Rattle.draft.proofs.NameWords.{some-word}
 use Rattle.names.proofs.Fronts.{no-operand, kind-is}
 use Rattle.names.proofs.Growth.{count-append, cells-append, lists-more, over-names, over-cells, over-appear, appear-append}
