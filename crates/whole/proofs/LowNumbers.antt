@@ -11,7 +11,7 @@ use Rattle.rules_deck.specs.Cards.{Punched, textOf, Carded, cardsRefused, state
 use Rattle.rules_deck.specs.Grammar.{formOf}
 use Rattle.rules_deck.specs.Judge.{Taken, nothingTaken, takes, judgeForm}
 use Rattle.rules_deck.specs.Compile.{Read, notRead, read, withStatement, afterJudging, afterReading, readText, readFrom, readCarded}
-use Rattle.rules_deck.proofs.CardsLaws.{Each, empty, also, RightStatement, statements-right}
+use Rattle.rules_deck.proofs.CardsLaws.{RightStatement, statements-right}
 use Rattle.rules_shared.specs.Lists.{Each, each-none, each-more}
 use Rattle.whole.specs.Whole.{LowNumber}
 
@@ -37,8 +37,8 @@ module _ (k q number : ℕ) (t : Taken) (n : number ≤ limits .statementNumber)
   read-text (c ∷ text) = after-reading (formOf (c ∷ text))
 
 read-from : (k q : ℕ) (t : Taken) (ps : List Punched) → Each RightStatement ps → Low (readFrom k q t ps)
-read-from k q t [] empty = low each-none
-read-from k q t (p ∷ ps) (also r h) = read-text k q (p .number) t (r .number-small) (λ u. readFrom k (suc q) u ps) (λ u. read-from k (suc q) u ps h) (textOf (p .raw))
+read-from k q t [] each-none = low each-none
+read-from k q t (p ∷ ps) (each-more r h) = read-text k q (p .number) t (r .number-small) (λ u. readFrom k (suc q) u ps) (λ u. read-from k (suc q) u ps h) (textOf (p .raw))
 
 read-carded : (k : ℕ) (bytes : List ℕ) (c : Carded) → carded k bytes ≡ c → Low (readCarded k c)
 read-carded k bytes (cardsRefused number place) e = refused

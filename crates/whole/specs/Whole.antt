@@ -33,7 +33,7 @@ pub record Sketched (deck : List Statement) (rows : List ℕ) (count : ℕ) (loo
   pub loops-are : take (2 * dos) loops ≡ loopsFrom 0 0 deck
   pub jumps-are : take many jumps ≡ deckJumps deck
   pub told : Each SetsTold deck
-  pub numbered : All LowNumber deck
+  pub numbered : Each LowNumber deck
 
 -- the tables hold some deck: what keeps reading inside them
 pub record Whole (rows : List ℕ) (count : ℕ) (loops : List ℕ) (dos : ℕ) (jumps : List ℕ) (many : ℕ) : Type 0 where
