@@ -142,6 +142,7 @@ fn in_code(t: &Tables, address: u32) -> bool {
 }
 
 /// Whether an instruction does not break 43.
+#[inline]
 pub fn instruction_right(t: &Tables, index: usize) -> bool {
     let (operation, operand) = unpack(t.code[index]);
     let within = |length: usize| (operand as usize) < length;

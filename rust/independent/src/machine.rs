@@ -205,6 +205,7 @@ impl Machine<'_, '_> {
     }
 
     /// Does an instruction for which the stack is right, but for the index and the height.
+    #[inline(always)]
     fn act(&mut self, act: &Act, height: usize) -> After {
         match *act {
             Act::Wrong => After::Halt(8),
@@ -212,11 +213,11 @@ impl Machine<'_, '_> {
             Act::Constant(value) => self.put(height, value),
             Act::Load(cell) => self.put(height, self.store[cell]),
             Act::Store(cell) => self.set(cell, self.state.places[height - 1]),
-            Act::LoadElement(entry) => match self.element(entry) {
+            Act::LoadElement(entry) => match element(self.tables, self.store, entry) {
                 Some(cell) => self.put(height, self.store[cell]),
                 None => After::Halt(4),
             },
-            Act::StoreElement(entry) => match self.element(entry) {
+            Act::StoreElement(entry) => match element(self.tables, self.store, entry) {
                 Some(cell) => self.set(cell, self.state.places[height - 1]),
                 None => After::Halt(4),
             },
@@ -234,8 +235,7 @@ impl Machine<'_, '_> {
             Act::Choose(first, count) => self.choose(self.state.places[height - 1], first, count),
             Act::Begin(entry) => self.begin(entry, height),
             Act::EndTurn(entry) => self.end_turn(entry),
-            Act::Read(entry) => self.read(entry),
-            Act::Print(entry) => self.print(entry),
+            Act::Transfer { entry, reads } => transfers::transfer(self.tables, self.store, self.lent, entry, reads),
         }
     }
 
@@ -267,21 +267,6 @@ impl Machine<'_, '_> {
             return After::Halt(3);
         }
         self.put(height - 2, lower / upper)
-    }
-
-    /// An element's cell: "a subscript is right when its value is from 1 to its dimension",
-    /// "Elements lie by columns".
-    fn element(&self, entry: usize) -> Option<usize> {
-        let e: &ElementEntry = &self.tables.elements[entry];
-        let row = self.subscript(&e.subscripts[0], e.rows)?;
-        let column = self.subscript(&e.subscripts[1], e.columns)?;
-        Some(e.base as usize + row - 1 + (column - 1) * e.rows as usize)
-    }
-
-    /// "Subscripts are worked out exactly".
-    fn subscript(&self, s: &SubscriptEntry, dimension: u32) -> Option<usize> {
-        let value = i64::from(s.multiplier) * self.store[s.cell as usize] + i64::from(s.addend);
-        (1..=i64::from(dimension)).contains(&value).then_some(value as usize)
     }
 
     /// "5 computed exit not 1 to its count".
@@ -319,4 +304,19 @@ impl Machine<'_, '_> {
         self.store[entry.variable as usize] = sum;
         After::To(entry.body)
     }
+}
+
+/// An element's cell: "a subscript is right when its value is from 1 to its dimension",
+/// "Elements lie by columns".
+fn element(tables: &Tables, store: &[i64], entry: usize) -> Option<usize> {
+    let e: &ElementEntry = &tables.elements[entry];
+    let row = subscript(store, &e.subscripts[0], e.rows)?;
+    let column = subscript(store, &e.subscripts[1], e.columns)?;
+    Some(e.base as usize + row - 1 + (column - 1) * e.rows as usize)
+}
+
+/// "Subscripts are worked out exactly".
+fn subscript(store: &[i64], s: &SubscriptEntry, dimension: u32) -> Option<usize> {
+    let value = i64::from(s.multiplier) * store[s.cell as usize] + i64::from(s.addend);
+    (1..=i64::from(dimension)).contains(&value).then_some(value as usize)
 }

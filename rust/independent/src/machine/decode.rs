@@ -35,9 +35,11 @@ pub enum Act {
     Choose(u32, u32),
     Begin(DoEntry),
     EndTurn(DoEntry),
-    /// The entry's index.
-    Read(usize),
-    Print(usize),
+    /// The entry's index, and whether it is a READ.
+    Transfer {
+        entry: u32,
+        reads: bool,
+    },
 }
 
 pub fn decode(t: &Tables) -> Vec<Decoded> {
@@ -96,8 +98,10 @@ fn act(t: &Tables, operation: u32, operand: u32) -> Act {
         BRC => Act::Choose(operand + 1, t.exits[entry]),
         DOI => Act::Begin(t.dos[entry]),
         DOE => Act::EndTurn(t.dos[entry]),
-        READ => Act::Read(entry),
-        PRINT => Act::Print(entry),
+        READ | PRINT => Act::Transfer {
+            entry: operand,
+            reads: operation == READ,
+        },
         _ => Act::Wrong,
     }
 }

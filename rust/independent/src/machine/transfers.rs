@@ -1,7 +1,7 @@
 //! READ and PRINT (02, 2026-01): a FORMAT's words beside the items of a list.
 
-use super::{After, Machine};
-use crate::lent::{Printing, Reading, Trouble};
+use super::{element, After};
+use crate::lent::{Lent, Printing, Reading, Trouble};
 use crate::object::{unpack, word, ItemEntry, Tables};
 
 /// What is left of a list: items, and the cells of the first of them that are done.
@@ -40,99 +40,100 @@ impl<'t> List<'t> {
     }
 }
 
-impl<'c> Machine<'_, 'c> {
-    /// "Both .. leave state, store, cards and lines as before that instruction."
-    #[inline(never)]
-    pub(super) fn read(&mut self, entry: usize) -> After {
-        let mut before = Vec::new();
-        match self.take_cards(entry, &mut before) {
-            Ok(reading) => {
-                reading.done(self.lent);
-                After::Next
+/// A READ or PRINT: "Both .. leave state, store, cards and lines as before that instruction" where they halt. The loop
+/// is quicker for decks without them if this stays out of it.
+#[cold]
+#[inline(never)]
+pub fn transfer(tables: &Tables, store: &mut [i64], lent: &mut Lent, entry: u32, reads: bool) -> After {
+    let transferred = match reads {
+        true => read(tables, store, lent, entry as usize),
+        false => print(tables, store, lent, entry as usize),
+    };
+    match transferred {
+        Ok(()) => After::Next,
+        Err(trouble) => After::Halt(trouble.halt()),
+    }
+}
+
+fn read(tables: &Tables, store: &mut [i64], lent: &mut Lent, entry: usize) -> Result<(), Trouble> {
+    let mut before = Vec::new();
+    let read = take_cards(tables, store, lent, entry, &mut before);
+    if read.is_err() {
+        for (cell, value) in before.into_iter().rev() {
+            store[cell] = value;
+        }
+    }
+    read
+}
+
+/// Sets the cells of the list, and notes what they were.
+fn take_cards(
+    tables: &Tables,
+    store: &mut [i64],
+    lent: &mut Lent,
+    entry: usize,
+    before: &mut Vec<(usize, i64)>,
+) -> Result<(), Trouble> {
+    let mut list = List::of(tables, entry);
+    let mut at = tables.transfers[entry].format as usize;
+    let mut reading = Reading::begin(lent)?;
+    loop {
+        let (kind, operand) = unpack(tables.words[at]);
+        at += 1;
+        match kind {
+            word::NUMBER => {
+                let Some(place) = list.next() else { break };
+                let cell = cell(tables, store, place)?;
+                let value = reading.number(tables.k, operand as usize)?;
+                before.push((cell, store[cell]));
+                store[cell] = value;
             }
-            Err(trouble) => {
-                for (cell, value) in before.into_iter().rev() {
-                    self.store[cell] = value;
-                }
-                After::Halt(trouble.halt())
+            word::BLANKS => reading.skip(operand as usize)?,
+            word::TEXT => reading.skip(1)?,
+            word::SLASH => reading.next_card()?,
+            _ if list.items.is_empty() => break,
+            _ => {
+                reading.next_card()?;
+                at = operand as usize;
             }
         }
     }
+    reading.done(lent);
+    Ok(())
+}
 
-    /// Sets the cells of the list, and notes what they were.
-    fn take_cards(&mut self, entry: usize, before: &mut Vec<(usize, i64)>) -> Result<Reading<'c>, Trouble> {
-        let tables = self.tables;
-        let mut list = List::of(tables, entry);
-        let mut at = tables.transfers[entry].format as usize;
-        let mut reading = Reading::begin(self.lent)?;
-        loop {
-            let (kind, operand) = unpack(tables.words[at]);
-            at += 1;
-            match kind {
-                word::NUMBER => {
-                    let Some(place) = list.next() else { break };
-                    let cell = self.cell(place)?;
-                    let value = reading.number(tables.k, operand as usize)?;
-                    before.push((cell, self.store[cell]));
-                    self.store[cell] = value;
-                }
-                word::BLANKS => reading.skip(operand as usize)?,
-                word::TEXT => reading.skip(1)?,
-                word::SLASH => reading.next_card()?,
-                _ if list.items.is_empty() => break,
-                _ => {
-                    reading.next_card()?;
-                    at = operand as usize;
-                }
+/// "PRINT writes a line at each slash, at each new scan and when it ends."
+fn print(tables: &Tables, store: &[i64], lent: &mut Lent, entry: usize) -> Result<(), Trouble> {
+    let mut list = List::of(tables, entry);
+    let mut at = tables.transfers[entry].format as usize;
+    let mut printing = Printing::begin(lent);
+    loop {
+        let (kind, operand) = unpack(tables.words[at]);
+        at += 1;
+        match kind {
+            word::NUMBER => {
+                let Some(place) = list.next() else { break };
+                let cell = cell(tables, store, place)?;
+                printing.number(store[cell], operand as usize)?;
+            }
+            word::BLANKS => printing.skip(operand as usize)?,
+            word::TEXT => printing.character(operand as u8)?,
+            word::SLASH => printing.next_line()?,
+            _ if list.items.is_empty() => break,
+            _ => {
+                printing.next_line()?;
+                at = operand as usize;
             }
         }
-        Ok(reading)
     }
+    printing.next_line()?;
+    printing.done(lent);
+    Ok(())
+}
 
-    #[inline(never)]
-    pub(super) fn print(&mut self, entry: usize) -> After {
-        match self.write_lines(entry) {
-            Ok(printing) => {
-                printing.done(self.lent);
-                After::Next
-            }
-            Err(trouble) => After::Halt(trouble.halt()),
-        }
-    }
-
-    /// "PRINT writes a line at each slash, at each new scan and when it ends."
-    fn write_lines(&self, entry: usize) -> Result<Printing, Trouble> {
-        let tables = self.tables;
-        let mut list = List::of(tables, entry);
-        let mut at = tables.transfers[entry].format as usize;
-        let mut printing = Printing::begin(self.lent);
-        loop {
-            let (kind, operand) = unpack(tables.words[at]);
-            at += 1;
-            match kind {
-                word::NUMBER => {
-                    let Some(place) = list.next() else { break };
-                    let cell = self.cell(place)?;
-                    printing.number(self.store[cell], operand as usize)?;
-                }
-                word::BLANKS => printing.skip(operand as usize)?,
-                word::TEXT => printing.character(operand as u8)?,
-                word::SLASH => printing.next_line()?,
-                _ if list.items.is_empty() => break,
-                _ => {
-                    printing.next_line()?;
-                    at = operand as usize;
-                }
-            }
-        }
-        printing.next_line()?;
-        Ok(printing)
-    }
-
-    fn cell(&self, place: Place) -> Result<usize, Trouble> {
-        match place {
-            Place::Cell(cell) => Ok(cell),
-            Place::Element(entry) => self.element(entry).ok_or(Trouble::Subscript),
-        }
+fn cell(tables: &Tables, store: &[i64], place: Place) -> Result<usize, Trouble> {
+    match place {
+        Place::Cell(cell) => Ok(cell),
+        Place::Element(entry) => element(tables, store, entry).ok_or(Trouble::Subscript),
     }
 }
