@@ -178,7 +178,9 @@ fn with_word(kind: usize, entry: usize, word: usize, value: u32) -> Vec<u8> {
 use word::{BLANKS, END, NUMBER, SLASH, TEXT};
 
 /// Kind, entry, word, right values, wrong values.
-const EDGES: [(usize, usize, usize, &[u32], &[u32]); 11] = [
+type Edge = (usize, usize, usize, &'static [u32], &'static [u32]);
+
+const EDGES: [Edge; 11] = [
     (
         8,
         0,
