@@ -3,6 +3,7 @@
 
 use independent::generate::{self, Made, Rng};
 use independent::reader::read;
+use independent::Level;
 use luvinqata::{compile_to_vec, punch, Explanation, Refusal, CARD};
 
 /// Decks of each reason, and others.
@@ -254,10 +255,10 @@ fn every_refused_deck_is_explained() {
 fn how_far_a_text_can_be_read() {
     let mut points = 0;
     for seed in 0..200 {
-        let texts = generate::texts(&mut Rng::new(seed));
+        let texts = generate::texts(Level::Base, &mut Rng::new(seed));
         for text in texts
             .iter()
-            .filter(|text| text.len() < 60 && read(9, text.as_bytes()).is_ok())
+            .filter(|text| text.len() < 60 && read(Level::Base, 9, text.as_bytes()).is_ok())
         {
             for at in 0..=text.len() {
                 let card = format!("      {}.{}\n      END", &text[..at], &text[at..]);
