@@ -33,7 +33,7 @@ pub fn jump(number: u64, code: &mut [u32], n: Counts) -> Emitted
     requires { ⌜ (length (now code) ≡ 4096) × Fit n ⌝ }
     ensures { λ r. ⌜ Grows 0 n r × EmitsJump number (now (code .entry)) (now (code .exit)) n r ⌝ }
 {
-    append(code, n, 11, entries::low(number))
+    append(code, n, opcodes::JMP, entries::low(number))
 }
 
 // 0 for STOP, 1 for END.
@@ -41,7 +41,7 @@ pub fn halt(x: u32, code: &mut [u32], n: Counts) -> Emitted
     requires { ⌜ (length (now code) ≡ 4096) × Fit n ⌝ }
     ensures { λ r. ⌜ Grows 0 n r × EmitsHalt x (now (code .entry)) (now (code .exit)) n r ⌝ }
 {
-    append(code, n, 0, x)
+    append(code, n, opcodes::HLT, x)
 }
 
 // An IF's branch, with three exits.
@@ -55,7 +55,7 @@ pub fn three(code: &mut [u32], n: Counts) -> Emitted
     }
     let mut m = n;
     m.exits = exits + 3;
-    append(code, m, 12, exits as u32)
+    append(code, m, opcodes::BR3, exits as u32)
 }
 
 // A computed GO TO's branch; its exits come after their count.
@@ -69,7 +69,7 @@ pub fn choose(count: usize, code: &mut [u32], n: Counts) -> Emitted
     }
     let mut m = n;
     m.exits = exits + count + 1;
-    append(code, m, 13, exits as u32)
+    append(code, m, opcodes::BRC, exits as u32)
 }
 
 // The DOI of the next DO. The caller counts the DO; its DOE has room.
@@ -80,5 +80,5 @@ pub fn enter(code: &mut [u32], n: Counts) -> Emitted
     if 4095 <= n.code + n.dos {
         return Emitted::Full;
     }
-    append(code, n, 14, n.dos as u32)
+    append(code, n, opcodes::DOI, n.dos as u32)
 }

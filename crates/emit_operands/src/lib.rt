@@ -25,7 +25,7 @@ fn constant(value: u64, constants: &mut [u32], code: &mut [u32], n: Counts) -> E
     };
     let mut m = n;
     m.constants = count;
-    emission::append(code, m, 1, index as u32)
+    emission::append(code, m, opcodes::CON, index as u32)
 }
 
 // A plain name's cell.
@@ -34,10 +34,10 @@ pub fn load(name: u64, names: &[u64], code: &mut [u32], n: Counts) -> Emitted
     ensures { λ r. ⌜ Grows 0 n r × EmitsLoad name (now (names .entry)) (now (code .entry)) (now (code .exit)) n r ⌝ }
 {
     let cell = names::cell_of(names, n.names, name);
-    emission::append(code, n, 2, cell)
+    emission::append(code, n, opcodes::LOD, cell)
 }
 
-// An element's entry and its word: 4 loads, 5 stores.
+// An element's entry and its word: LDE or STE.
 fn refer(
     operation: u32,
     element: Element,
@@ -109,7 +109,7 @@ fn item(
     }
     if kind == 4 {
         let element = element_at(items);
-        return refer(4, element, names, elements, code, n);
+        return refer(opcodes::LDE, element, names, elements, code, n);
     }
     emission::append(code, n, entries::low(kind), 0)
 }
@@ -152,8 +152,8 @@ pub fn store(
     match target {
         Target::Cell(name) => {
             let cell = names::cell_of(names, n.names, name);
-            emission::append(code, n, 3, cell)
+            emission::append(code, n, opcodes::STO, cell)
         }
-        Target::Element(element) => refer(5, element, names, elements, code, n),
+        Target::Element(element) => refer(opcodes::STE, element, names, elements, code, n),
     }
 }

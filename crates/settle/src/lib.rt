@@ -13,10 +13,6 @@ use kinds::COMPUTED;
 use kinds::GO_TO;
 use kinds::IF;
 
-const JMP: u32 = 11;
-
-const DOE: u32 = 15;
-
 // As many words, one after the other.
 fn copy(out: &mut [u32], top: usize, words: &[u32], from: usize, count: usize) -> usize
     requires { ⌜ (top + count ≤ length (now out)) × (from + count ≤ length (now words)) ⌝ }
@@ -38,7 +34,7 @@ fn put_end(out: &mut [u32], top: usize, last: usize, i: usize, d: usize) -> usiz
     if last != i {
         return top;
     }
-    addresses::put(out, top, word::pack(DOE, d as u32))
+    addresses::put(out, top, word::pack(opcodes::DOE, d as u32))
 }
 
 // The DOEs of the DOs that end with the statement at position i, the innermost first: the latest.
@@ -76,7 +72,7 @@ fn put_own(
     }
     let target = addresses::wide(jumps[j]);
     let address = starts[target];
-    addresses::put(out, top, word::pack(JMP, address))
+    addresses::put(out, top, word::pack(opcodes::JMP, address))
 }
 
 // The code of an accepted deck; how many words it is.
