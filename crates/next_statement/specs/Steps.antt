@@ -6,10 +6,9 @@ use mathlib.Core.List.{List, [], _∷_}
 use lib.ListN.{length, drop}
 use Rattle.rules_shared.specs.Refusals.{refusal}
 use Rattle.rules_deck.specs.Trees.{Form, Statement}
-use Rattle.rules_deck.specs.Cards.{Punched, cardsOf, textOf}
+use Rattle.rules_deck.specs.Cards.{Punched, cardsOf, textOf, grouped}
 use Rattle.rules_deck.specs.Judge.{Taken, takes}
 use Rattle.rules_deck.specs.Compile.{Read, notRead, withStatement, readText}
-use Rattle.rules_deck.proofs.CardsGroups.{grouped}
 use Rattle.texts.specs.Taking.{Accepted}
 use Rattle.draft.specs.declared.Counts.{Counts}
 use Rattle.draft.specs.Draft.{Draft, drafts}
