@@ -77,7 +77,7 @@ module _ {k : ℕ} {deck : List Statement} {n : Counts} {names constants element
   pub told : Each SetsTold deck
   told = sets-told deck (subst (λ l. Each Told (namesHeld l)) (draft-held deck) (h .kept .held .told))
 
-  pub low : All LowNumber deck
+  pub low : Each LowNumber deck
   low = numbered k (h .bytes) deck (h .is)
 
   pub whole-refused : {number : ℕ} {place : Sequence} (output : List ℕ) (r : Placed) → whole.Judged deck r → r .verdict ≡ verdict.Refused number place
