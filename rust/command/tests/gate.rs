@@ -3,11 +3,10 @@
 mod common;
 
 use std::fs;
-use std::os::unix::fs::PermissionsExt;
 use std::path::{Path, PathBuf};
 use std::process::Command;
 
-use common::top;
+use common::{script, top};
 
 /// A prover that has passed two crates and an edit.
 const RT: &str = "#!/bin/sh
@@ -21,11 +20,6 @@ esac
 const CARGO: &str = "#!/bin/sh
 echo \"archive ${LUVINQATA_ARCHIVE:-unset} cases ${LUVINQATA_CASES:-unset}\"
 ";
-
-fn script(path: &Path, text: &str) {
-    fs::write(path, text).expect("a script");
-    fs::set_permissions(path, fs::Permissions::from_mode(0o755)).expect("its rights");
-}
 
 /// A folder with the test command and stand-ins for all that it calls.
 fn folder(name: &str, kit: &str) -> PathBuf {

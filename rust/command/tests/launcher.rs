@@ -4,12 +4,11 @@
 mod common;
 
 use std::fs;
-use std::os::unix::fs::PermissionsExt;
 use std::path::{Path, PathBuf};
 use std::process::Command;
 use std::time::SystemTime;
 
-use common::top;
+use common::{script, top};
 
 /// A program that prints the source that it was built from.
 const CARGO: &str = "#!/bin/sh
@@ -20,11 +19,6 @@ mkdir -p target/cargo/release
 { echo '#!/bin/sh'; echo \"echo $(cat crates/source) \\\"\\$@\\\"\"; } >target/cargo/release/luvinqata
 chmod +x target/cargo/release/luvinqata
 ";
-
-fn script(path: &Path, text: &str) {
-    fs::write(path, text).expect("a script");
-    fs::set_permissions(path, fs::Permissions::from_mode(0o755)).expect("its rights");
-}
 
 fn folder(name: &str) -> PathBuf {
     let folder = Path::new(env!("CARGO_TARGET_TMPDIR")).join(name);
