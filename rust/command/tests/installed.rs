@@ -6,7 +6,7 @@ use std::fs::{create_dir_all, read_to_string, remove_dir_all};
 use std::path::Path;
 use std::process::Command;
 
-use common::top;
+use common::{command_of, top};
 
 #[test]
 fn the_command_elsewhere() {
@@ -37,15 +37,7 @@ fn the_command_elsewhere() {
 /// Status and standard output of the gale, with nothing in the environment.
 fn run(program: &Path, folder: &Path) -> (Option<i32>, String) {
     std::fs::write(folder.join("gale.txt"), "      I=47\n      J=I*I*I\n      END\n").expect("a deck");
-    let mut command = match std::env::var("CARGO_TARGET_X86_64_UNKNOWN_LINUX_GNU_RUNNER") {
-        Ok(runner) => {
-            let mut command = Command::new(runner);
-            command.arg(program);
-            command
-        }
-        Err(_) => Command::new(program),
-    };
-    let output = command
+    let output = command_of(program)
         .args(["run", "gale.txt"])
         .current_dir(folder)
         .env_clear()

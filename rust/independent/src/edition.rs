@@ -7,17 +7,9 @@ pub const BODIES: usize = 7;
 /// Four words, then three for each body.
 pub const CONTENTS_BYTES: usize = contents_bytes(BODIES);
 /// The bytes of one entry of each body, kind 1 first.
-pub const ENTRY_BYTES: [usize; BODIES] = [4, 36, 4, 16, 4, 12, 20];
+pub const ENTRY_BYTES: [usize; BODIES] = first_bodies(ENTRY_BYTES_OF_TWO);
 /// The most entries of each body, kind 1 first.
-pub const ENTRY_LIMITS: [usize; BODIES] = [
-    limits::CONSTANTS,
-    limits::ELEMENTS,
-    limits::EXITS,
-    limits::DOS,
-    limits::CODE,
-    limits::STATEMENTS,
-    limits::NAMES,
-];
+pub const ENTRY_LIMITS: [usize; BODIES] = first_bodies(ENTRY_LIMITS_OF_TWO);
 
 /// Edition 2: "Bodies 1-7 are as in edition 1. Then: 8 format words, 9 list items, 10 transfers".
 const ENTRY_BYTES_OF_TWO: [usize; 10] = [4, 36, 4, 16, 4, 12, 20, 4, 8, 12];
@@ -33,6 +25,17 @@ const ENTRY_LIMITS_OF_TWO: [usize; 10] = [
     limits::LIST_ITEMS,
     limits::TRANSFERS,
 ];
+
+/// Of what edition 2 has for each body, that of edition 1's bodies.
+const fn first_bodies(of_two: [usize; 10]) -> [usize; BODIES] {
+    let mut first = [0; BODIES];
+    let mut kind = 0;
+    while kind < BODIES {
+        first[kind] = of_two[kind];
+        kind += 1;
+    }
+    first
+}
 
 #[derive(Clone, Copy, Debug, PartialEq, Eq, PartialOrd, Ord)]
 pub enum Edition {

@@ -27,16 +27,20 @@ pub fn run<S: AsRef<OsStr>>(program: &Path, arguments: &[S], input: &[u8]) -> En
     finish(start(program, arguments, Stdio::piped(), Stdio::piped()), input)
 }
 
-pub fn start<S: AsRef<OsStr>>(program: &Path, arguments: &[S], out: Stdio, told: Stdio) -> Child {
-    // On a machine that is not the archive's, the emulator that runs this test runs the command too.
-    let mut command = match std::env::var("CARGO_TARGET_X86_64_UNKNOWN_LINUX_GNU_RUNNER") {
+/// A program of the archive's machine: elsewhere the emulator that runs this test runs it too.
+pub fn command_of(program: &Path) -> Command {
+    match std::env::var("CARGO_TARGET_X86_64_UNKNOWN_LINUX_GNU_RUNNER") {
         Ok(runner) => {
             let mut command = Command::new(runner);
             command.arg(program);
             command
         }
         Err(_) => Command::new(program),
-    };
+    }
+}
+
+pub fn start<S: AsRef<OsStr>>(program: &Path, arguments: &[S], out: Stdio, told: Stdio) -> Child {
+    let mut command = command_of(program);
     command.args(arguments).stdin(Stdio::piped()).stdout(out).stderr(told);
     command.spawn().expect("the command")
 }
