@@ -22,8 +22,9 @@ use Rattle.draft.specs.Sketch.{deckJumps}
 use Rattle.addresses.proofs.Told.{row-jumps}
 use Rattle.addresses.proofs.Lasts.{take-more}
 use Rattle.addresses.proofs.Holding.{map-append}
-use Rattle.settle.specs.Settling.{Settling, Leading, Aimed, targets}
-use Rattle.settle.proofs.Filling.{piece, piece-inside, slice-get}
+use Rattle.settle.specs.Settling.{Settling, Leading}
+use Rattle.settle_statement.specs.Words.{Aimed, targets}
+use Rattle.settle_statement.proofs.Filling.{piece, piece-inside, slice-get}
 use Rattle.settle.proofs.Splitting.{jumps-split, jumps-append}
 
 pub leading : {k : ℕ} {deck : List Statement} {rows : List ℕ} {count : ℕ} {loops : List ℕ} {n : ℕ} {jumps starts draft : List ℕ}

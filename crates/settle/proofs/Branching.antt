@@ -25,7 +25,8 @@ use Rattle.addresses.specs.Given.{Holds}
 use Rattle.addresses.proofs.Told.{row-kind, row-jumps}
 use Rattle.addresses.proofs.Lasts.{take-more}
 use Rattle.addresses.proofs.Holding.{holds-more, holds-as, put-as}
-use Rattle.settle.specs.Settling.{Leading, Aimed, exitWords}
+use Rattle.settle.specs.Settling.{Leading}
+use Rattle.settle_statement.specs.Words.{Aimed, exitWords}
 use Rattle.settle.proofs.Splitting.{code-more, code-split}
 use Rattle.settle.proofs.Aiming.{targets-here, aimed-here, jumps-next}
 

@@ -25,8 +25,9 @@ use Rattle.addresses.specs.Ends.{endsAt}
 use Rattle.addresses.proofs.Told.{row-kind, row-own, own-length}
 use Rattle.addresses.proofs.Lasts.{take-more}
 use Rattle.addresses.proofs.DeckEnds.{ends-are}
-use Rattle.settle.specs.Settling.{Settling, Aimed, goWord, ownWords, endWord}
-use Rattle.settle.proofs.Filling.{piece, piece-inside, targets-get}
+use Rattle.settle.specs.Settling.{Settling}
+use Rattle.settle_statement.specs.Words.{Aimed, goWord, ownWords, endWord}
+use Rattle.settle_statement.proofs.Filling.{piece, piece-inside, targets-get}
 use Rattle.settle.proofs.Likeness.{Alike, alike-self, Like, enter, form-likes, form-tables, emit-like, emit-append}
 use Rattle.settle.proofs.Splitting.{dosIn, number-is, plainBefore, plainHere, plainAfter, plain-split, plain-more, code-split, code-more}
 use Rattle.settle.proofs.Aiming.{leading, jumps-inside, targets-here, aimed-here}

@@ -1,4 +1,3 @@
-pub mod Filling
 pub mod Likeness
 pub mod Splitting
 pub mod Aiming

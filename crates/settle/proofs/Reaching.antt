@@ -18,7 +18,8 @@ use Rattle.draft.specs.Sketch.{deckJumps}
 use Rattle.addresses.specs.Given.{Holds}
 use Rattle.addresses.specs.Ends.{endsAt}
 use Rattle.addresses.proofs.Holding.{holds-none, holds-more, holds-as, put-as}
-use Rattle.settle.specs.Settling.{Settling, Aimed, goWord, ownWords, endWord}
+use Rattle.settle.specs.Settling.{Settling}
+use Rattle.settle_statement.specs.Words.{Aimed, goWord, ownWords, endWord}
 use Rattle.settle.proofs.Aiming.{leading, jumps-next, jumps-inside}
 use Rattle.addresses.proofs.Told.{row-jumps}
 use Rattle.settle.proofs.Coding.{codeTo, plainTo, drafted-inside, own-is, plain-next, jump-aimed, ends-here, words-next, words-fit}

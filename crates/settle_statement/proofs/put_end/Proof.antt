@@ -6,11 +6,11 @@ use native.Mathlib.Omega.{arith}
 use Prim.Native.Nat.{ℕ}
 use lib.ListN.{length}
 use borrow.Author.Tests.{eq-eqb, ne-eqb}
-use Rattle.settle.specs.Settling.{endWord}
+use Rattle.settle_statement.specs.Words.{endWord}
 use Rattle.addresses.proofs.Holding.{put-none, put-as}
 use borrow.Author.Needs.{needs}
-use Rattle.settle.proofs.put_end.Statement.{statement}
-use Rattle.settle.proofs.put_end.Tie as tie
+use Rattle.settle_statement.proofs.put_end.Statement.{statement}
+use Rattle.settle_statement.proofs.put_end.Tie as tie
 
 returns : tie.Need-returns
 returns c =

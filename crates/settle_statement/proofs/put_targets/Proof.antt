@@ -4,11 +4,11 @@ use native.Mathlib.Omega.{arith}
 use Prim.Native.Nat.{ℕ, _≤_, _-_, _+_}
 use mathlib.Core.List.{_++_}
 use lib.ListN.{length, take, getD, length-set}
-use Rattle.settle.specs.Settling.{targets}
-use Rattle.settle.proofs.Filling.{fill-none, fill-more, fill-all, targets-length, targets-get}
+use Rattle.settle_statement.specs.Words.{targets}
+use Rattle.settle_statement.proofs.Filling.{fill-none, fill-more, fill-all, targets-length, targets-get}
 use borrow.Author.Needs.{needs}
-use Rattle.settle.proofs.put_targets.Statement.{statement}
-use Rattle.settle.proofs.put_targets.Tie as tie
+use Rattle.settle_statement.proofs.put_targets.Statement.{statement}
+use Rattle.settle_statement.proofs.put_targets.Tie as tie
 
 abbrev Inv-loop : tie.InvT-loop
 Inv-loop out₀ top jumps j many starts i₀ out i = (i ≤ many) × (length out ≡ length out₀) × (take (top + i) out ≡ take top out₀ ++ take i (targets jumps j many starts))

@@ -6,11 +6,11 @@ use mathlib.Core.List.{map}
 use lib.ListN.{length, length-map, length-append}
 use Rattle.addresses.specs.Ends.{lastAt, endsAt}
 use Rattle.addresses.proofs.Holding.{put-as}
-use Rattle.settle.specs.Settling.{endWord, endOf}
-use Rattle.settle.proofs.Filling.{Left, left-all, left-less, left-none, ends-less}
+use Rattle.settle_statement.specs.Words.{endWord, endOf}
+use Rattle.settle_statement.proofs.Filling.{Left, left-all, left-less, left-none, ends-less}
 use borrow.Author.Needs.{needs}
-use Rattle.settle.proofs.put_ends.Statement.{statement}
-use Rattle.settle.proofs.put_ends.Tie as tie
+use Rattle.settle_statement.proofs.put_ends.Statement.{statement}
+use Rattle.settle_statement.proofs.put_ends.Tie as tie
 
 abbrev Inv-loop : tie.InvT-loop
 Inv-loop out₀ top loops n jumps i at₀ d₀ out at d = (d ≤ n) × (length out ≡ length out₀) × Left out₀ out top at (map endWord (endsAt loops jumps i d)) (map endWord (endsAt loops jumps i n))

@@ -4,10 +4,10 @@ use native.Mathlib.Omega.{arith}
 use Prim.Native.Nat.{_≤_, _-_, _+_}
 use mathlib.Core.List.{_++_}
 use lib.ListN.{length, take, drop, getD, length-set}
-use Rattle.settle.proofs.Filling.{fill-none, fill-more, fill-all, slice-length, slice-get}
+use Rattle.settle_statement.proofs.Filling.{fill-none, fill-more, fill-all, slice-length, slice-get}
 use borrow.Author.Needs.{needs}
-use Rattle.settle.proofs.copy.Statement.{statement}
-use Rattle.settle.proofs.copy.Tie as tie
+use Rattle.settle_statement.proofs.copy.Statement.{statement}
+use Rattle.settle_statement.proofs.copy.Tie as tie
 
 abbrev Inv-loop : tie.InvT-loop
 Inv-loop out₀ top words from count i₀ out i = (i ≤ count) × (length out ≡ length out₀) × (take (top + i) out ≡ take top out₀ ++ take i (take count (drop from words)))

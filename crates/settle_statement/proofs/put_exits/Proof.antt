@@ -8,11 +8,11 @@ use lib.ListN.{length}
 use borrow.Author.Tests.{eq-eqb, ne-eqb}
 use Rattle.items.proofs.Tables.{put-more}
 use Rattle.addresses.proofs.Holding.{put-none, put-as}
-use Rattle.settle.specs.Settling.{targets, exitWords}
-use Rattle.settle.proofs.Filling.{targets-length}
+use Rattle.settle_statement.specs.Words.{targets, exitWords}
+use Rattle.settle_statement.proofs.Filling.{targets-length}
 use borrow.Author.Needs.{needs}
-use Rattle.settle.proofs.put_exits.Statement.{statement}
-use Rattle.settle.proofs.put_exits.Tie as tie
+use Rattle.settle_statement.proofs.put_exits.Statement.{statement}
+use Rattle.settle_statement.proofs.put_exits.Tie as tie
 
 cast-put : tie.Need-cast-put
 cast-put c =

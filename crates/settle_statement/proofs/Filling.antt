@@ -12,7 +12,7 @@ use lib.Seq.{take-suc, take-suc-set, take-all, take-at, drop-at, getD-take, getD
 use Rattle.items.specs.Parsed.{Put}
 use Rattle.addresses.specs.Ends.{lastAt, endsAt}
 use Rattle.addresses.proofs.Lasts.{map-get}
-use Rattle.settle.specs.Settling.{Aimed, endWord, endOf, targets}
+use Rattle.settle_statement.specs.Words.{Aimed, endWord, endOf, targets}
 
 -- ---- word by word
 

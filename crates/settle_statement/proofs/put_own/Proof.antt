@@ -7,11 +7,11 @@ use Prim.Native.Nat.{ℕ, _+_}
 use lib.ListN.{getD, take, drop}
 use borrow.Author.Tests.{eq-eqb, ne-eqb}
 use Rattle.addresses.proofs.Holding.{put-as}
-use Rattle.settle.specs.Settling.{goWord}
-use Rattle.settle.proofs.Filling.{aimed-first}
+use Rattle.settle_statement.specs.Words.{goWord}
+use Rattle.settle_statement.proofs.Filling.{aimed-first}
 use borrow.Author.Needs.{needs}
-use Rattle.settle.proofs.put_own.Statement.{statement}
-use Rattle.settle.proofs.put_own.Tie as tie
+use Rattle.settle_statement.proofs.put_own.Statement.{statement}
+use Rattle.settle_statement.proofs.put_own.Tie as tie
 
 copy-requires : tie.Need-copy-requires
 copy-requires c κs = search needs
