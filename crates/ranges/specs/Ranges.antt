@@ -1,16 +1,17 @@
 -- DOs and their ranges, by sequence numbers.
 -- Assumes nothing.
 use Prim.Native.Nat.{ℕ, suc, _-_, _*_, _≤_, _<_}
-use mathlib.Core.Bool.{Bool, _&&_, _||_, not, cond}
+use mathlib.Core.Bool.{Bool, _&&_, cond}
 use mathlib.Core.List.{List}
-use lib.Dec.{eqb, ltb, leb}
+use lib.Dec.{eqb, ltb}
 use lib.ListN.{length}
 use Rattle.rules_shared.specs.Limits.{limits}
 use Rattle.cards.specs.declared.Sequence.{Sequence}
 use Rattle.tables.specs.declared.Loops.{Loops}
-use Rattle.tables.specs.Rows.{kindAt, setAt, setsAt, jumpsAt, startOf}
+use Rattle.tables.specs.Rows.{kindAt, jumpsAt, startOf}
 use Rattle.tables.specs.Tables.{placeIn}
 use Rattle.numbers.specs.Numbers.{allFrom, countFrom}
+use Rattle.one_range.specs.Range.{covering, mayEndKind, uncrossed, outside, leaves}
 
 abbrev pub doAt : Loops → ℕ → ℕ
 doAt loops i = placeIn (loops .at) i
@@ -27,22 +28,10 @@ pub record Ranged (rows : List ℕ) (count : ℕ) (loops : Loops) : Type 0 where
   pub to-last : (i : ℕ) → i < loops .count → (doAt loops i ≤ count) × (lastAt loops i ≤ count)
   pub few-jumps : startOf rows count ≤ 1424
 
--- the range of a DO at `first` holds the statement at `at`
-unfoldable pub covering : ℕ → ℕ → ℕ → Bool
-covering first last at = ltb first at && leb at last
-
 unfoldable pub covers : Loops → ℕ → ℕ → Bool
 covers loops at i = covering (doAt loops i) (lastAt loops i) at
 
 -- ---- 23
-
--- assignment, CONTINUE, END, DIMENSION
-unfoldable pub mayEndKind : ℕ → Bool
-mayEndKind kind = eqb kind 0 || (eqb kind 5 || (eqb kind 7 || eqb kind 8))
-
--- a DO does not cross an outer one
-unfoldable pub uncrossed : ℕ → ℕ → ℕ → ℕ → Bool
-uncrossed first last outer end = not (covering outer end first && ltb end last)
 
 unfoldable pub apart : Loops → ℕ → ℕ → ℕ → Bool
 apart loops first last i = uncrossed first last (doAt loops i) (lastAt loops i)
@@ -53,10 +42,6 @@ doRight rows loops i =
     (allFrom (apart loops (doAt loops i) (lastAt loops i)) (loops .count) 0 && ltb (countFrom (covers loops (doAt loops i)) (loops .count) 0) (limits .nesting)))
 
 -- ---- 24
-
--- a jump does not go into a DO's range from outside
-unfoldable pub outside : ℕ → ℕ → ℕ → ℕ → Bool
-outside first last from target = not (covering first last target) || covering first last from
 
 unfoldable pub staysOut : Loops → ℕ → ℕ → ℕ → Bool
 staysOut loops from target i = outside (doAt loops i) (lastAt loops i) from target
@@ -73,10 +58,6 @@ unfoldable pub jumpsRight : List ℕ → Loops → List Sequence → ℕ → Boo
 jumpsRight rows loops places q = allFrom (jumpStays loops places (suc q)) (exitsAt rows q) (startOf rows q)
 
 -- ---- 25
-
--- what is set at a place is not the variable of a DO around it
-unfoldable pub leaves : List ℕ → ℕ → ℕ → ℕ → Bool
-leaves rows first last at = not (covering first last at && setsAt rows (at - 1) (setAt rows (first - 1)))
 
 unfoldable pub setRight : List ℕ → Loops → ℕ → Bool
 setRight rows loops at = allFrom (λ i. leaves rows (doAt loops i) (lastAt loops i) at) (loops .count) 0

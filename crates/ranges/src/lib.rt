@@ -4,39 +4,15 @@ ghost use mathlib.Core.Bool.{cond};
 ghost use Prim.Native.Nat.{suc, _+_, _*_, _≤_, _<_};
 ghost use lib.ListN.{length};
 ghost use Rattle.numbers.specs.Numbers.{allFrom, countFrom, firstFrom, foundOf};
-ghost use Rattle.ranges.specs.Ranges.{doAt, lastAt, Ranged, covering, covers, mayEndKind, uncrossed, apart, doRight, exitsAt, outside, staysOut, jumpsRight, leaves, setRight};
+ghost use Rattle.ranges.specs.Ranges.{doAt, Ranged, covers, apart, doRight, exitsAt, staysOut, jumpsRight, setRight};
 use cards::Sequence;
-use kinds::ASSIGNMENT;
-use kinds::CONTINUE;
-use kinds::DIMENSION;
 use kinds::DO;
-use kinds::END;
 use numbers::Found;
 use tables::Loops;
 
 const NESTING: usize = 8;
 
-// Whether a DO's range holds a statement: after the DO, through its last statement.
-fn in_range(first: Sequence, last: Sequence, at: Sequence) -> bool
-    ensures { λ r. ⌜ r ≡ covering (first .0) (last .0) (at .0) ⌝ }
-{
-    (first.0 < at.0) & (at.0 <= last.0)
-}
-
 // ---- 23
-
-fn may_end(kind: u64) -> bool
-    ensures { λ r. ⌜ r ≡ mayEndKind kind ⌝ }
-{
-    (kind == ASSIGNMENT) | ((kind == CONTINUE) | ((kind == END) | (kind == DIMENSION)))
-}
-
-// An outer DO around a DO does not end before it.
-fn is_apart(first: Sequence, last: Sequence, outer: Sequence, end: Sequence) -> bool
-    ensures { λ r. ⌜ r ≡ uncrossed (first .0) (last .0) (outer .0) (end .0) ⌝ }
-{
-    !(in_range(outer, end, first) & (end.0 < last.0))
-}
 
 fn crosses_none(loops: Loops, first: Sequence, last: Sequence) -> bool
     requires { ⌜ loops .count ≤ 64 ⌝ }
@@ -47,7 +23,7 @@ fn crosses_none(loops: Loops, first: Sequence, last: Sequence) -> bool
     while k < dos {
         let outer = loops.at[k];
         let end = loops.last[k];
-        if !is_apart(first, last, outer, end) {
+        if !one_range::is_apart(first, last, outer, end) {
             return false;
         }
         k += 1;
@@ -75,7 +51,7 @@ fn depth_at(loops: Loops, at: Sequence) -> usize
     while k < dos {
         let first = loops.at[k];
         let last = loops.last[k];
-        deep += one_if(in_range(first, last, at));
+        deep += one_if(one_range::in_range(first, last, at));
         k += 1;
     }
     deep
@@ -87,7 +63,7 @@ fn do_right(rows: &[u64], count: usize, loops: Loops, i: usize) -> bool
 {
     let first = loops.at[i];
     let last = loops.last[i];
-    let ends = may_end(tables::kind_of(rows, tables::position_of(last)));
+    let ends = one_range::may_end(tables::kind_of(rows, tables::position_of(last)));
     let apart = crosses_none(loops, first, last);
     let deep = depth_at(loops, first);
     (first.0 < last.0) & (ends & (apart & (deep < NESTING)))
@@ -112,12 +88,6 @@ pub fn wrong_do(rows: &[u64], count: usize, loops: Loops) -> Found
 
 // ---- 24
 
-fn stays_out(first: Sequence, last: Sequence, from: Sequence, target: Sequence) -> bool
-    ensures { λ r. ⌜ r ≡ outside (first .0) (last .0) (from .0) (target .0) ⌝ }
-{
-    !in_range(first, last, target) | in_range(first, last, from)
-}
-
 // A jump goes into no range from outside.
 fn stays_out_of_all(loops: Loops, from: Sequence, target: Sequence) -> bool
     requires { ⌜ loops .count ≤ 64 ⌝ }
@@ -128,7 +98,7 @@ fn stays_out_of_all(loops: Loops, from: Sequence, target: Sequence) -> bool
     while i < dos {
         let first = loops.at[i];
         let last = loops.last[i];
-        if !stays_out(first, last, from, target) {
+        if !one_range::stays_out(first, last, from, target) {
             return false;
         }
         i += 1;
@@ -172,16 +142,6 @@ pub fn wrong_jump(rows: &[u64], count: usize, loops: Loops, places: [Sequence; 1
 
 // ---- 25
 
-// What is set at a place is not the variable of a DO around it: its name is set in the DO's own row.
-fn leaves_be(rows: &[u64], first: Sequence, last: Sequence, at: Sequence) -> bool
-    requires { ⌜ ((1 ≤ first .0) × (5 * first .0 ≤ length (now rows))) × ((1 ≤ at .0) × (5 * at .0 ≤ length (now rows))) ⌝ }
-    ensures { λ r. ⌜ r ≡ leaves (now (rows .entry)) (first .0) (last .0) (at .0) ⌝ }
-{
-    let own = tables::set_of(rows, tables::position_of(first));
-    let set = tables::sets(rows, tables::position_of(at), own);
-    !(in_range(first, last, at) & set)
-}
-
 fn set_right(rows: &[u64], count: usize, loops: Loops, at: Sequence) -> bool
     requires { ⌜ Ranged (now rows) count loops × ((1 ≤ at .0) × (at .0 ≤ count)) ⌝ }
     ensures { λ r. ⌜ r ≡ setRight (now (rows .entry)) loops (at .0) ⌝ }
@@ -191,7 +151,7 @@ fn set_right(rows: &[u64], count: usize, loops: Loops, at: Sequence) -> bool
     while i < dos {
         let first = loops.at[i];
         let last = loops.last[i];
-        if !leaves_be(rows, first, last, at) {
+        if !one_range::leaves_be(rows, first, last, at) {
             return false;
         }
         i += 1;

@@ -24,7 +24,8 @@ use Rattle.tables.specs.Rows.{kindAt, setAt, startOf, doIndex, lastIndex}
 use Rattle.tables.specs.Tables.{placeIn, LoopsOf}
 use Rattle.numbers.specs.Numbers.{allFrom, firstFrom, countFrom}
 use Rattle.numbers.proofs.Tests.{all-same, all-true}
-use Rattle.ranges.specs.Ranges.{doAt, lastAt, covering, covers, mayEndKind, uncrossed, apart, doRight, outside, staysOut, jumpStays, exitsAt, jumpsRight, leaves, setRight}
+use Rattle.ranges.specs.Ranges.{doAt, lastAt, covers, apart, doRight, staysOut, jumpStays, exitsAt, jumpsRight, setRight}
+use Rattle.one_range.specs.Range.{covering, mayEndKind, uncrossed, outside, leaves}
 use Rattle.whole.specs.Whole.{SetsTold}
 use Rattle.draft.proofs.NameWords.{word-test, some-word}
 use Rattle.whole.proofs.ByIndex.{noDo, all-by, all-zero, first-zero, dos-zero, depth-zero, all-map}

@@ -6,7 +6,8 @@ use borrow.Author.Tests.{not-true, not-false}
 use Rattle.numbers.specs.Numbers.{allFrom}
 use Rattle.numbers.proofs.Tests.{all-left, all-more, all-stops, all-ends}
 use mathlib.Core.Bool.{Bool}
-use Rattle.ranges.specs.Ranges.{doAt, lastAt, leaves, setRight}
+use Rattle.ranges.specs.Ranges.{doAt, lastAt, setRight}
+use Rattle.one_range.specs.Range.{leaves}
 use borrow.Author.Needs.{needs}
 use Rattle.ranges.proofs.set_right.Statement.{statement}
 use Rattle.ranges.proofs.set_right.Tie as tie

@@ -2,10 +2,10 @@
 use mathlib.Core.Path.{_≡_}
 use Prim.Native.Nat.{_-_}
 use native.Mathlib.Omega.{arith}
-use Rattle.ranges.specs.Ranges.{leaves}
+use Rattle.one_range.specs.Range.{leaves}
 use borrow.Author.Needs.{needs}
-use Rattle.ranges.proofs.leaves_be.Statement.{statement}
-use Rattle.ranges.proofs.leaves_be.Tie as tie
+use Rattle.one_range.proofs.leaves_be.Statement.{statement}
+use Rattle.one_range.proofs.leaves_be.Tie as tie
 
 position-of-requires : tie.Need-position-of-requires
 position-of-requires c κs =

@@ -1,8 +1,8 @@
 -- `ranges::may_end` meets its contract. Assumes nothing.
 use mathlib.Core.Path.{refl}
-use Rattle.ranges.specs.Ranges.{mayEndKind}
-use Rattle.ranges.proofs.may_end.Statement.{statement}
-use Rattle.ranges.proofs.may_end.Tie as tie
+use Rattle.one_range.specs.Range.{mayEndKind}
+use Rattle.one_range.proofs.may_end.Statement.{statement}
+use Rattle.one_range.proofs.may_end.Tie as tie
 
 returns : tie.Need-returns
 unfolding mayEndKind

@@ -1,8 +1,8 @@
 -- `ranges::in_range` meets its contract. Assumes nothing.
 use mathlib.Core.Path.{refl}
-use Rattle.ranges.specs.Ranges.{covering}
-use Rattle.ranges.proofs.in_range.Statement.{statement}
-use Rattle.ranges.proofs.in_range.Tie as tie
+use Rattle.one_range.specs.Range.{covering}
+use Rattle.one_range.proofs.in_range.Statement.{statement}
+use Rattle.one_range.proofs.in_range.Tie as tie
 
 returns : tie.Need-returns
 unfolding covering

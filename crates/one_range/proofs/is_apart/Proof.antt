@@ -1,8 +1,8 @@
 -- `ranges::is_apart` meets its contract. Assumes nothing.
-use Rattle.ranges.specs.Ranges.{uncrossed}
+use Rattle.one_range.specs.Range.{uncrossed}
 use borrow.Author.Needs.{needs}
-use Rattle.ranges.proofs.is_apart.Statement.{statement}
-use Rattle.ranges.proofs.is_apart.Tie as tie
+use Rattle.one_range.proofs.is_apart.Statement.{statement}
+use Rattle.one_range.proofs.is_apart.Tie as tie
 
 in-range-requires : tie.Need-in-range-requires
 in-range-requires c κs = search needs

@@ -1,8 +1,8 @@
 -- `ranges::stays_out` meets its contract. Assumes nothing.
-use Rattle.ranges.specs.Ranges.{outside}
+use Rattle.one_range.specs.Range.{outside}
 use borrow.Author.Needs.{needs}
-use Rattle.ranges.proofs.stays_out.Statement.{statement}
-use Rattle.ranges.proofs.stays_out.Tie as tie
+use Rattle.one_range.proofs.stays_out.Statement.{statement}
+use Rattle.one_range.proofs.stays_out.Tie as tie
 
 in-range-requires : tie.Need-in-range-requires
 in-range-requires c κs = search needs
