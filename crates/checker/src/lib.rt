@@ -11,8 +11,8 @@ ghost use Rattle.rules_object.specs.Calls.{refused43, refused, judged44, judged
 ghost use Rattle.object.specs.Layout.{Placed, objectAt};
 ghost use Rattle.heights.specs.Judged.{Judged, Fresh};
 ghost use Rattle.checker.specs.Verdicts.{Says, passing, judgedAll};
-use heights::Table;
 use judge::Found;
+use meeting::Table;
 use object::Contents;
 use object::Layout;
 

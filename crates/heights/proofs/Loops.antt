@@ -1,6 +1,6 @@
 -- What the two loops keep, and what they end with.
 -- Assumes nothing.
-use mathlib.Core.Path.{_≡_, refl, sym, ap, _∙_, subst}
+use mathlib.Core.Path.{_≡_, ap, _∙_, subst}
 use mathlib.Core.Bool.{true, false}
 use mathlib.Core.List.{List}
 use mathlib.Core.Option.{some}
@@ -13,9 +13,10 @@ use Rattle.rules_object.specs.Filling.{nevers, Filling, Went}
 use Rattle.rules_object.proofs.Fills.{disagree-none, nevers-set, start, ends}
 use Rattle.rules_object.proofs.OneTable.{least-is, no-table-is}
 use Rattle.heights.specs.Judged.{Fresh, answered}
-use Rattle.heights.specs.Walk.{Goes, Visited}
-use Rattle.heights.specs.declared.Met.{Met}
-use Rattle.heights.specs.declared.Met.the-variants.{On, No}
+use Rattle.heights.specs.Walk.{Visited}
+use Rattle.meeting.specs.Meeting.{Goes}
+use Rattle.meeting.specs.declared.Met.{Met}
+use Rattle.meeting.specs.declared.Met.the-variants.{On, No}
 
 -- ---- a meeting and a visit, by their answer
 

@@ -1,55 +1,22 @@
 // 44: a height for each instruction, filled in by a worklist over control flow. The object has passed 40, 41 and 43.
 ghost use mathlib.Core.Path.{_≡_};
-ghost use Prim.Native.Nat.{_+_, _≤_, _<_};
+ghost use Prim.Native.Nat.{_+_, _<_};
 ghost use lib.ListN.{length};
 ghost use Rattle.rules_object.specs.Operations.{flowOf};
 ghost use Rattle.rules_object.specs.Heights.{heights, waiting};
 ghost use Rattle.rules_object.specs.Filling.{nevers, Filling};
 ghost use Rattle.object.specs.Layout.{objectAt};
 ghost use Rattle.heights.specs.Judged.{Judged, Fresh, answered};
-ghost use Rattle.heights.specs.Walk.{Meets, Visited};
+ghost use Rattle.heights.specs.Walk.{Visited};
+use meeting::Met;
+use meeting::Table;
+use meeting::Work;
 use object::Layout;
-
-pub type Table = [u8; 4096];
-
-// Instructions that wait to be visited.
-type Work = [u16; 4096];
-
-// The height of an instruction that control never comes to.
-pub const NEVER: u8 = 255;
-
-const STACK: u8 = 40;
-
-// How many instructions wait, or that there is no table.
-enum Met {
-    On(usize),
-    No,
-}
 
 fn place(t: u16) -> usize
     ensures { λ r. ⌜ r ≡ t ⌝ }
 {
     t as usize
-}
-
-// The height h comes to the instruction t.
-fn meet(t: usize, n: usize, h: u8, table: &mut Table, work: &mut Work, top: usize) -> Met
-    requires { ⌜ (n ≤ 4096) × ((n ≤ length (now table)) × (nevers (now table) + top ≤ 4096)) ⌝ }
-    ensures { λ r. ⌜ Meets n t h (now (table .entry)) (now (work .entry)) top (now (table .exit)) (now (work .exit)) r ⌝ }
-{
-    if n <= t {
-        return Met::No;
-    }
-    let g = table[t];
-    if g == NEVER {
-        if STACK < h {
-            return Met::No;
-        }
-        table[t] = h;
-        work[top] = t as u16;
-        return Met::On(top + 1);
-    }
-    if g == h { Met::On(top) } else { Met::No }
 }
 
 // The last instruction that waits, and has a height: the height after it comes to each of its successors.
@@ -73,7 +40,7 @@ fn visit(o: &[u8], e: Layout, table: &mut Table, work: &mut Work, start: usize) 
     let mut k = 0;
     while k < n {
         let t = successors::next_of(o, e, operation, x, a, k);
-        let met = meet(t, e.code_count, h, table, work, top);
+        let met = meeting::meet(t, e.code_count, h, table, work, top);
         match met {
             Met::On(q) => {
                 top = q;

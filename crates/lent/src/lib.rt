@@ -12,7 +12,7 @@ ghost use Rattle.object.specs.Layout.{objectAt};
 ghost use Rattle.arithmetic.specs.Performed.{lentOf};
 ghost use Rattle.lent.specs.Lending.{lent, numbered, refusedStore, Cleared};
 use arithmetic::Regs;
-use heights::Table;
+use meeting::Table;
 use object::Layout;
 
 // The first n are of at most k digits, p being 10 to the k.

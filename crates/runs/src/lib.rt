@@ -14,8 +14,8 @@ ghost use Rattle.lent.specs.Lending.{lent};
 ghost use Rattle.machine.specs.Running.{answer};
 ghost use Rattle.runs.specs.Outcomes.{ranOf, refusedRan, Ends};
 use arithmetic::Regs;
-use heights::NEVER;
-use heights::Table;
+use meeting::NEVER;
+use meeting::Table;
 use object::Contents;
 use object::Layout;
 

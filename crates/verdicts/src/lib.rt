@@ -4,8 +4,8 @@ ghost use Rattle.rules_object.specs.Calls.{mapOf};
 ghost use Rattle.object.specs.Layout.{Placed, objectAt};
 ghost use Rattle.heights.specs.Judged.{Fresh};
 ghost use Rattle.verdicts.specs.Outcomes.{Checks, Writes, Maps};
-use heights::NEVER;
-use heights::Table;
+use meeting::NEVER;
+use meeting::Table;
 use object::Layout;
 
 #[repr(C)]

@@ -1,10 +1,10 @@
 -- `heights::meet` meets its contract. Assumes nothing.
 use native.Mathlib.Omega.{arith}
 use Rattle.rules_object.proofs.Fills.{nevers-some, past, over, clash, same, new}
-use Rattle.heights.specs.Walk.{Goes}
+use Rattle.meeting.specs.Meeting.{Goes}
 use borrow.Author.Needs.{needs}
-use Rattle.heights.proofs.meet.Statement.{statement}
-use Rattle.heights.proofs.meet.Tie as tie
+use Rattle.meeting.proofs.meet.Statement.{statement}
+use Rattle.meeting.proofs.meet.Tie as tie
 
 returns : tie.Need-returns
 unfolding Goes
