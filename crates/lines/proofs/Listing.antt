@@ -19,7 +19,7 @@ use Rattle.rules_deck.proofs.TestLaws.{at-before}
 use Rattle.rules_deck.proofs.Addresses.{at-some}
 use Rattle.draft.specs.Draft.{kindOf}
 use Rattle.items.specs.Parsed.{Put}
-use Rattle.lines.specs.Lines.{lineOf}
+use Rattle.line_words.specs.Lines.{lineOf}
 use Rattle.addresses.specs.Given.{Rows, Starts, Holds}
 use Rattle.addresses.proofs.Told.{row-number, row-kind}
 use Rattle.addresses.proofs.Lasts.{take-more}

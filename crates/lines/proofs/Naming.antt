@@ -25,7 +25,8 @@ use Rattle.items.specs.Parsed.{Put}
 use Rattle.addresses.proofs.Told.{begins-long, begins-at}
 use Rattle.addresses.proofs.Lasts.{take-more}
 use Rattle.addresses.proofs.Holding.{concat-append, map-append}
-use Rattle.lines.specs.Names.{Names, turned}
+use Rattle.lines.specs.Names.{Names}
+use Rattle.line_words.specs.Turned.{turned}
 
 -- ---- the table's words, by the entries of body 7
 

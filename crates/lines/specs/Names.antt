@@ -1,7 +1,7 @@
--- The table of names of an accepted deck, and a name's word as the object has it.
+-- The table of names of an accepted deck.
 -- Assumes nothing.
 use mathlib.Core.Path.{_≡_}
-use Prim.Native.Nat.{ℕ, _+_, _*_, _/_, _%_}
+use Prim.Native.Nat.{ℕ, _*_}
 use mathlib.Core.List.{List}
 use lib.ListN.{take}
 use Rattle.rules_deck.specs.Trees.{Statement}
@@ -19,7 +19,3 @@ pub record Listed (table : List ℕ) (n : ℕ) : Type 0 where
   pub k : ℕ
   pub deck : List Statement
   pub are : Names k deck table n
-
--- four bytes as one number, the first highest, with the first lowest
-abbrev pub turned : ℕ → ℕ
-turned w = w / 16777216 % 256 + w / 65536 % 256 * 256 + w / 256 % 256 * 65536 + w % 256 * 16777216

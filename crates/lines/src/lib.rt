@@ -1,16 +1,14 @@
 // Bodies 4, 6 and 7 of the object: the DOs with their bodies' addresses, the statements, the names.
 ghost use mathlib.Core.Path.{_≡_};
-ghost use mathlib.Core.List.{List, [], _∷_, map};
+ghost use mathlib.Core.List.{List, map};
 ghost use Prim.Native.Nat.{ℕ, _+_, _*_, _/_, _<_, _≤_};
 ghost use lib.ListN.{length, take};
 ghost use Rattle.rules_object.specs.Bytes.{concat, loopWords, lineWords, nameWords};
 ghost use Rattle.rules_deck.specs.Trees.{Statement};
 ghost use Rattle.rules_deck.specs.Deck.{dosOf};
 ghost use Rattle.rules_deck.specs.Translation.{heldOf, loopEntry, linesFrom, namesFrom};
-ghost use Rattle.items.specs.Parsed.{Put};
 ghost use Rattle.addresses.specs.Given.{Rows, Loops, Rowed, Looped, Starts, Holds};
-ghost use Rattle.lines.specs.Lines.{lineOf};
-ghost use Rattle.lines.specs.Names.{Names, Listed, turned};
+ghost use Rattle.lines.specs.Names.{Names, Listed};
 ghost use Rattle.draft.specs.Sketch.{openEntry};
 use kinds::DIMENSION;
 
@@ -27,34 +25,6 @@ pub fn bodies(loops: &[u32], n: usize, starts: &[u32], dos: &mut [u32])
     }
 }
 
-// One line's three words; how many words there are then.
-fn put_line(out: &mut [u32], top: usize, sequence: u32, number: u32, address: u32) -> usize
-    requires { ⌜ top + 3 ≤ length (now out) ⌝ }
-    ensures { λ r. ⌜ Put (now (out .entry)) (now (out .exit)) top (sequence ∷ number ∷ address ∷ []) r ⌝ }
-{
-    let a = addresses::put(out, top, sequence);
-    let b = addresses::put(out, a, number);
-    addresses::put(out, b, address)
-}
-
-// A statement's line, if it is one.
-fn put_statement(
-    out: &mut [u32],
-    top: usize,
-    kind: u64,
-    sequence: u32,
-    number: u32,
-    address: u32,
-) -> usize
-    requires { ⌜ top + 3 ≤ length (now out) ⌝ }
-    ensures { λ r. ⌜ Put (now (out .entry)) (now (out .exit)) top (lineOf kind sequence number address) r ⌝ }
-{
-    if kind == DIMENSION {
-        return top;
-    }
-    put_line(out, top, sequence, number, address)
-}
-
 // Sequence, number and address of every statement but DIMENSION; how many words they are.
 pub fn lines(rows: &[u64], count: usize, starts: &[u32], out: &mut [u32]) -> usize
     requires { ⌜ Rowed (now rows) count × (count ≤ length (now starts)) × (3 * count ≤ length (now out)) ⌝ }
@@ -64,29 +34,10 @@ pub fn lines(rows: &[u64], count: usize, starts: &[u32], out: &mut [u32]) -> usi
     let mut i = 0;
     while i < count {
         let number = addresses::narrow(rows[5 * i]);
-        top = put_statement(out, top, rows[5 * i + 1], i as u32 + 1, number, starts[i]);
+        top = line_words::put_statement(out, top, rows[5 * i + 1], i as u32 + 1, number, starts[i]);
         i += 1;
     }
     top
-}
-
-// Four bytes of a name, the first lowest.
-fn turned(w: u64) -> u32
-    ensures { λ r. ⌜ r ≡ turned w ⌝ }
-{
-    (w / 16777216 % 256 + w / 65536 % 256 * 256 + w / 256 % 256 * 65536 + w % 256 * 16777216) as u32
-}
-
-// One name's five words; how many words there are then.
-fn put_name(out: &mut [u32], top: usize, name: u64, first: u32, rows: u32, columns: u32) -> usize
-    requires { ⌜ top + 5 ≤ length (now out) ⌝ }
-    ensures { λ r. ⌜ Put (now (out .entry)) (now (out .exit)) top (turned (name / 4294967296) ∷ turned name ∷ first ∷ rows ∷ columns ∷ []) r ⌝ }
-{
-    let high = turned(name / 4294967296);
-    let low = turned(name);
-    let a = addresses::put(out, top, high);
-    let b = addresses::put(out, a, low);
-    put_line(out, b, first, rows, columns)
 }
 
 // The first n names, five words an entry: eight bytes, first cell, rows and columns.
@@ -99,7 +50,7 @@ pub fn names(table: &[u64], n: usize, out: &mut [u32])
         let first = addresses::narrow(table[4 * i + 1]);
         let rows = addresses::narrow(table[4 * i + 2]);
         let columns = addresses::narrow(table[4 * i + 3]);
-        put_name(out, 5 * i, table[4 * i], first, rows, columns);
+        line_words::put_name(out, 5 * i, table[4 * i], first, rows, columns);
         i += 1;
     }
 }

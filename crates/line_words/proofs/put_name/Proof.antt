@@ -5,8 +5,8 @@ use Prim.Native.Nat.{ℕ}
 use Rattle.items.proofs.Tables.{put-more}
 use Rattle.addresses.proofs.Holding.{put-as}
 use borrow.Author.Needs.{needs}
-use Rattle.lines.proofs.put_name.Statement.{statement}
-use Rattle.lines.proofs.put_name.Tie as tie
+use Rattle.line_words.proofs.put_name.Statement.{statement}
+use Rattle.line_words.proofs.put_name.Tie as tie
 
 turned-requires : tie.Need-turned-requires
 turned-requires c κs = search needs

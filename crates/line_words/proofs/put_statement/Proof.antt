@@ -5,8 +5,8 @@ use mathlib.Core.List.{[], _∷_}
 use borrow.Author.Tests.{eq-eqb, ne-eqb}
 use Rattle.addresses.proofs.Holding.{put-none, put-as}
 use borrow.Author.Needs.{needs}
-use Rattle.lines.proofs.put_statement.Statement.{statement}
-use Rattle.lines.proofs.put_statement.Tie as tie
+use Rattle.line_words.proofs.put_statement.Statement.{statement}
+use Rattle.line_words.proofs.put_statement.Tie as tie
 
 returns : tie.Need-returns
 returns c =

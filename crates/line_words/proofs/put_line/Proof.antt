@@ -1,8 +1,8 @@
 -- `lines::put_line` meets its contract. Assumes nothing.
 use Rattle.items.proofs.Tables.{put-more}
 use borrow.Author.Needs.{needs}
-use Rattle.lines.proofs.put_line.Statement.{statement}
-use Rattle.lines.proofs.put_line.Tie as tie
+use Rattle.line_words.proofs.put_line.Statement.{statement}
+use Rattle.line_words.proofs.put_line.Tie as tie
 
 put-requires : tie.Need-put-requires
 put-requires c κs = search needs
