@@ -20,7 +20,7 @@ use Rattle.items.specs.declared.Got.{Got}
 use Rattle.items.specs.Items.{opItem, flat, exprSizes}
 use Rattle.items.specs.Parsed.{Parsed}
 use Rattle.items.proofs.Given.{Took, part-all}
-use Rattle.expressions.specs.Signs.{opNumber}
+use Rattle.operators.specs.Signs.{opNumber}
 
 pub on-rest : (m : Mode) (s : List ℕ) (k : ℕ) {a b : List ℕ} {n : ℕ} {r : Got}
     → Parsed (take (length s - k) (drop k s)) a b n (parse m (take (length s - k) (drop k s))) r → Parsed (drop k s) a b n (parse m (drop k s)) r

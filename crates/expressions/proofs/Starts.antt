@@ -21,7 +21,7 @@ use Rattle.tokens.proofs.Tokens.{after-none, inside}
 use Rattle.tokens.proofs.Chains.{Upto, give-upto, after-upto, after-bad, byte-yes, byte-no, upto-as, then-upto, then-bad, then-none}
 use Rattle.items.specs.Items.{flat, exprSizes}
 use Rattle.items.proofs.Given.{Took}
-use Rattle.expressions.specs.Signs.{Signed, signLen}
+use Rattle.operators.specs.Signs.{Signed, signLen}
 use Rattle.expressions.proofs.Going.{Going}
 
 -- ---- the words below

@@ -8,7 +8,7 @@ use Rattle.rules_deck.specs.Tokens.{bad}
 use Rattle.rules_deck.specs.Grammar.{anExpression, aTerm, aFactor, moreTerms, moreFactors, parse, sumOp, productOp}
 use Rattle.tokens.proofs.Tokens.{inside}
 use Rattle.items.proofs.Given.{took, refused, front, refuse, accept, parsed-as}
-use Rattle.expressions.specs.Signs.{signLen}
+use Rattle.operators.specs.Signs.{signLen}
 use Rattle.expressions.proofs.Going.{Going, on-rest, stop-end, stop-byte, stop-bad, go-on}
 use Rattle.expressions.proofs.Starts.{shorter, rebase, going-front, term-bad, term-starts, sign-le, expr-bad, neg-pos, sign-front, expr-starts, factor-operand, open-some, open-bad, open-other, open-levels, open-closed, next-factor, next-term}
 use borrow.Fn.Kinds.{In}
@@ -22,10 +22,10 @@ use Rattle.expressions.proofs.+expression+factor+term.Lts-factor as fac
 use Rattle.expressions.proofs.term.Reads as term
 use Rattle.expressions.proofs.term.Kinds as term-kinds
 use Rattle.expressions.proofs.+expression+factor+term.Lts-term as term-lts
-use Rattle.expressions.proofs.product_op.Reads as product-op-reads
-use Rattle.expressions.proofs.put_sign.Reads as put-sign-reads
-use Rattle.expressions.proofs.sign_len.Reads as sign-len-reads
-use Rattle.expressions.proofs.sum_op.Reads as sum-op-reads
+use Rattle.operators.proofs.product_op.Reads as product-op-reads
+use Rattle.operators.proofs.put_sign.Reads as put-sign-reads
+use Rattle.operators.proofs.sign_len.Reads as sign-len-reads
+use Rattle.operators.proofs.sum_op.Reads as sum-op-reads
 use Rattle.items.proofs.operand.Reads as operand-reads
 use Rattle.tokens.proofs.byte.Reads as byte-reads
 use Rattle.tokens.proofs.of_both.Reads as of-both-reads

@@ -1,8 +1,8 @@
 -- `expressions::put_sign` meets its contract. Assumes nothing.
 use native.Mathlib.Omega.{arith}
 use borrow.Author.Needs.{needs}
-use Rattle.expressions.proofs.put_sign.Statement.{statement}
-use Rattle.expressions.proofs.put_sign.Tie as tie
+use Rattle.operators.proofs.put_sign.Statement.{statement}
+use Rattle.operators.proofs.put_sign.Tie as tie
 
 mul-items : tie.Need-mul-items
 mul-items c =

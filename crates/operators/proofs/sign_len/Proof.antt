@@ -1,8 +1,8 @@
 -- `expressions::sign_len` meets its contract. Assumes nothing.
 use borrow.Author.Tests.{eq-eqb, ne-eqb}
-use Rattle.expressions.specs.Signs.{signLen}
-use Rattle.expressions.proofs.sign_len.Statement.{statement}
-use Rattle.expressions.proofs.sign_len.Tie as tie
+use Rattle.operators.specs.Signs.{signLen}
+use Rattle.operators.proofs.sign_len.Statement.{statement}
+use Rattle.operators.proofs.sign_len.Tie as tie
 
 returns : tie.Need-returns
 unfolding signLen
