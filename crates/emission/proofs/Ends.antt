@@ -1,9 +1,8 @@
 -- The instructions that end a form, and a plain name's.
 -- Assumes nothing.
-use mathlib.Core.Path.{_≡_, refl, _∙_}
-use Prim.Native.Nat.{ℕ, _+_, _-_, _%_, _^_, _≤_, _<_}
+use mathlib.Core.Path.{_≡_, refl}
+use Prim.Native.Nat.{ℕ, _+_, _-_, _≤_, _<_}
 use native.Mathlib.Omega.{arith}
-use native.Mathlib.Nat.{mod-eq-of-lt}
 use mathlib.Core.List.{List, [], _∷_, _++_}
 use lib.ListN.{length, length-append}
 use Rattle.rules_object.specs.Operations.{HLT, JMP, BR3, BRC, DOI}
@@ -24,13 +23,8 @@ module _ {ws ws′ : List ℕ} {n : Counts} {r : Emitted} (f : Fit n) where
   pub halted : {x : ℕ} → Appends ws ws′ n 0 x r → Grows 0 n r × EmitsHalt x ws ws′ n r
   halted {x} a = (grows (itself n) f a, λ s T c e t. one (itself n) f a T (HLT x) t refl refl s)
 
-  pub jumped : {number word : ℕ} → word ≡ number % 2 ^ 32 → Appends ws ws′ n 11 word r → Grows 0 n r × EmitsJump number ws ws′ n r
-  jumped {number} {word} w a = (
-    grows (itself n) f a,
-    λ s T c e t.
-        let same : word ≡ number = w ∙ mod-eq-of-lt (let k : number < 4294967296 = omega (arith, s) in k) in
-        one (itself n) f a T (JMP number) t refl same (omega (arith, s, same)),
-  )
+  pub jumped : {number : ℕ} → Appends ws ws′ n 11 number r → Grows 0 n r × EmitsJump number ws ws′ n r
+  jumped {number} a = (grows (itself n) f a, λ s T c e t. one (itself n) f a T (JMP number) t refl refl s)
 
   pub entered : (n .code + n .dos < 4095) → Appends ws ws′ n 14 (n .dos) r → Grows 1 n r × EmitsEnter ws ws′ n r
   entered h a = (

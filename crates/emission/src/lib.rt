@@ -5,6 +5,7 @@ ghost use lib.ListN.{length};
 ghost use Rattle.draft.specs.Kept.{Fit};
 ghost use Rattle.emission.specs.Emits.{Grows, Appends};
 ghost use Rattle.emission.specs.Contracts.{EmitsJump, EmitsHalt, EmitsThree, EmitsChoose, EmitsEnter};
+use cards::Number;
 use draft::Counts;
 
 // The counts then; or there is no room for it.
@@ -29,11 +30,11 @@ pub fn append(code: &mut [u32], n: Counts, operation: u32, operand: u32) -> Emit
 }
 
 // To a statement number, which stands for its address.
-pub fn jump(number: u64, code: &mut [u32], n: Counts) -> Emitted
+pub fn jump(number: Number, code: &mut [u32], n: Counts) -> Emitted
     requires { ⌜ (length (now code) ≡ 4096) × Fit n ⌝ }
-    ensures { λ r. ⌜ Grows 0 n r × EmitsJump number (now (code .entry)) (now (code .exit)) n r ⌝ }
+    ensures { λ r. ⌜ Grows 0 n r × EmitsJump (number .0) (now (code .entry)) (now (code .exit)) n r ⌝ }
 {
-    append(code, n, opcodes::JMP, entries::low(number))
+    append(code, n, opcodes::JMP, number.0)
 }
 
 // 0 for STOP, 1 for END.

@@ -72,15 +72,15 @@ module _ {p : Plan} {names elements words elements′ words′ : List ℕ} {n : 
       f (of-kind p f e 0 z) e h k
 
 module _ {p : Plan} {names elements words words′ : List ℕ} {n : Counts} {r : Emitted} where
-  pub ends-jump : p .kind ≡ 1 → EmitsJump (p .below) words words′ n r → EmitsEnding p names elements words elements words′ n r
+  pub ends-jump : p .kind ≡ 1 → EmitsJump (p .below .0) words words′ n r → EmitsEnding p names elements words elements words′ n r
   unfolding formLast formPlan
   ends-jump z s f held T constants e l t h k =
       at-go-to (Ends p held T constants words elements words′ n r)
       (λ m e′ h′ k′.
       let right = go-to-right m h′ in
-      let b : p .below ≡ capped m = ap (λ (y : Plan). y .below) e′ in
-      let i : p .below ≡ valueOf m = b ∙ number-exact m right in
-      let low : p .below < 2 ^ 24 = subst (λ (x : ℕ). x < 2 ^ 24) (sym b) (low-number (capped m) right) in
+      let b : p .below .0 ≡ capped m = ap (λ (y : Plan). y .below .0) e′ in
+      let i : p .below .0 ≡ valueOf m = b ∙ number-exact m right in
+      let low : p .below .0 < 2 ^ 24 = subst (λ (x : ℕ). x < 2 ^ 24) (sym b) (low-number (capped m) right) in
       subst (λ (x : ℕ). EmitsWith 0 T (Instr.JMP x ∷ []) words constants elements words′ n r) i (s low T constants elements t))
       f (of-kind p f e 1 z) e h k
 

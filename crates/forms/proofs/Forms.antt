@@ -9,13 +9,14 @@ use native.Mathlib.Omega.{arith}
 use lib.Dec.{eqb}
 use lib.ListN.{length, take, drop, getD, length-drop}
 use borrow.Author.Tests.{eqb-true, eqb-false, eq-eqb, ne-eqb}
-use Rattle.rules_deck.specs.Trees.{Expr, levels, exprNames, exprConstants, targetNames, targetConstants, Form, assign, goTo, ifs, formNames, formConstants, formLevels}
+use Rattle.rules_deck.specs.Trees.{Digits, Expr, levels, exprNames, exprConstants, targetNames, targetConstants, Form, assign, goTo, ifs, formNames, formConstants, formLevels}
 use Rattle.rules_deck.specs.Tokens.{leftParen, rightParen, comma, equals, wordGoTo, wordIf, wordContinue, wordStop, wordEnd, Found, found, bad, Reader, give, ahead, andThen, after, afterWord, allOf, whole, number}
 use Rattle.rules_deck.specs.Grammar.{place, expression, parse, anExpression, assignment, plainGoTo, arithmeticIf, readAssignment, readGoTo, readIf}
 use Rattle.rules_deck.proofs.Found.{not-found}
+use Rattle.cards.specs.declared.Number.{Number}
 use Rattle.tokens.specs.declared.Sizes.{Sizes}
 use Rattle.tokens.specs.declared.Token.the-variants as token
-use Rattle.tokens.specs.Words.{capped, startsWord}
+use Rattle.tokens.specs.Words.{most, capped, startsWord}
 use Rattle.tokens.specs.Sizes.{sizesOf, both}
 use Rattle.tokens.specs.Reading.{constantSize, ReadsNumber}
 use Rattle.tokens.specs.Reading as reading
@@ -28,7 +29,7 @@ use Rattle.items.specs.Items.{flat, exprSizes}
 use Rattle.items.proofs.Given as given
 use Rattle.forms.specs.declared.Statement.{Statement}
 use Rattle.forms.specs.declared.Statement.the-variants as statement
-use Rattle.forms.specs.Statements.{formWords, formSizes, statementOf, answer, words, Reads, exitsOf, EndsIf, onlyWord, wordForm}
+use Rattle.forms.specs.Statements.{formWords, asNumber, numberValue, formSizes, statementOf, answer, words, Reads, exitsOf, EndsIf, onlyWord, wordForm}
 
 -- ---- an answer made
 
@@ -115,6 +116,13 @@ module _ {s : List ℕ} {at : ℕ} {w : Target} {z : Sizes} (p : TookPlace s at 
           ∙ ap (λ (v : Sizes). statement.Assign (record { target = targetValue (p .tree); count = length (flat (t .tree)); sizes = v })) sizes-is)
           (expr-table s (at + 1) assign-inside t)
 
+-- ---- a statement number
+
+-- capped, it is a word of 32 bits
+pub number-fits : {w : ℕ} (n : Digits) → w ≡ capped n → w ≤ most
+unfolding capped
+number-fits n e = omega arith
+
 -- ---- GO TO
 
 abbrev TookNumber : List ℕ → ℕ → ℕ → ℕ → Sizes → Type 0
@@ -144,9 +152,9 @@ module _ (s : List ℕ) (w : startsWord wordGoTo s ≡ true) where
     unfolding answer readGoTo whole
     go-to-more n = sym (ap answer (whole-short go-to-upto n))
 
-    pub go-to-read : at ≡ length s → statement.GoTo v ≡ answer (readGoTo s)
+    pub go-to-read : {m : Number} → m ≡ asNumber v → at ≡ length s → statement.GoTo m ≡ answer (readGoTo s)
     unfolding answer readGoTo whole statementOf
-    go-to-read q = ap statement.GoTo (t .value-is) ∙ sym (ap answer (whole-some go-to-upto q))
+    go-to-read e q = ap statement.GoTo (e ∙ ap asNumber (t .value-is)) ∙ sym (ap answer (whole-some go-to-upto q))
 
 -- ---- a comma and a number
 
@@ -225,15 +233,16 @@ module _ (s : List ℕ) (from count : ℕ) (sizes : Sizes) where
         pub exits-more : (d ≡ length s → ⊥) → EndsIf s from count sizes statement.Bad
         exits-more n e b ce ze te = reads-none (whole-short (exits-upto e) n)
 
-        pub exits-read : d ≡ length s → EndsIf s from count sizes (statement.If (record { count = count; below = v; at = v′; above = v″; sizes = sizes }))
+        pub exits-read : {i j k : Number} → i ≡ asNumber v → j ≡ asNumber v′ → k ≡ asNumber v″ → d ≡ length s
+            → EndsIf s from count sizes (statement.If (record { count = count; below = i; at = j; above = k; sizes = sizes }))
         unfolding statementOf formWords formSizes formNames formConstants formLevels exprSizes
-        exits-read q e b ce ze te =
+        exits-read {i} {j} {k} ei ej ek q e b ce ze te =
             reads-some (ifs e (t .tree) (t′ .tree) (t″ .tree)) (whole-some (exits-upto e) q)
-            (ap (λ (x : ℕ). statement.If (record { count = x; below = v; at = v′; above = v″; sizes = sizes })) ce
-            ∙ ap (λ (x : ℕ). statement.If (record { count = length (flat e); below = x; at = v′; above = v″; sizes = sizes })) (t .value-is)
-            ∙ ap (λ (x : ℕ). statement.If (record { count = length (flat e); below = capped (t .tree); at = x; above = v″; sizes = sizes })) (t′ .value-is)
-            ∙ ap (λ (x : ℕ). statement.If (record { count = length (flat e); below = capped (t .tree); at = capped (t′ .tree); above = x; sizes = sizes })) (t″ .value-is)
-            ∙ ap (λ (x : Sizes). statement.If (record { count = length (flat e); below = capped (t .tree); at = capped (t′ .tree); above = capped (t″ .tree); sizes = x })) ze)
+            (ap (λ (x : ℕ). statement.If (record { count = x; below = i; at = j; above = k; sizes = sizes })) ce
+            ∙ ap (λ (x : Number). statement.If (record { count = length (flat e); below = x; at = j; above = k; sizes = sizes })) (ei ∙ ap asNumber (t .value-is))
+            ∙ ap (λ (x : Number). statement.If (record { count = length (flat e); below = numberValue (t .tree); at = x; above = k; sizes = sizes })) (ej ∙ ap asNumber (t′ .value-is))
+            ∙ ap (λ (x : Number). statement.If (record { count = length (flat e); below = numberValue (t .tree); at = numberValue (t′ .tree); above = x; sizes = sizes })) (ek ∙ ap asNumber (t″ .value-is))
+            ∙ ap (λ (x : Sizes). statement.If (record { count = length (flat e); below = numberValue (t .tree); at = numberValue (t′ .tree); above = numberValue (t″ .tree); sizes = x })) ze)
             te
 
 pub if-no-word : {b : List ℕ} (s : List ℕ) → startsWord wordIf s ≡ false → Reads b (readIf s) statement.Bad

@@ -7,9 +7,10 @@ use mathlib.Core.Option.{Option, none, some}
 use mathlib.Core.Bool.{Bool, _&&_, cond}
 use lib.Dec.{eqb}
 use lib.ListN.{length, take, drop}
-use Rattle.rules_deck.specs.Trees.{Expr, con, var, elm, neg, par, bin, Array, array, Form, assign, goTo, computed, ifs, loop, continue, stop, end, dimension, formNames, formConstants, formLevels}
+use Rattle.rules_deck.specs.Trees.{Digits, Expr, con, var, elm, neg, par, bin, Array, array, Form, assign, goTo, computed, ifs, loop, continue, stop, end, dimension, formNames, formConstants, formLevels}
 use Rattle.rules_deck.specs.Tokens.{comma, wordContinue, wordStop, wordEnd, Reader, give, ahead, andThen, after, allOf, number}
 use Rattle.rules_deck.specs.Meaning.{third}
+use Rattle.cards.specs.declared.Number.{Number}
 use Rattle.tokens.specs.declared.Sizes.{Sizes}
 use Rattle.tokens.specs.Words.{capped, nameWord, startsWord}
 use Rattle.tokens.specs.Sizes.{sizesOf}
@@ -44,6 +45,13 @@ formWords (dimension arrays) = allWords arrays
 
 -- ---- what is given back
 
+abbrev pub asNumber : ℕ → Number
+asNumber n = record { 0 = n }
+
+-- a statement number; 13 is not judged yet
+abbrev pub numberValue : Digits → Number
+numberValue n = asNumber (capped n)
+
 -- a DO's parameter: 1 and a constant's value, or 2 and a name
 unfoldable pub parameterValue : Expr → Parameter
 parameterValue (con c) = record { kind = 1; word = capped c }
@@ -58,13 +66,13 @@ formSizes f = sizesOf (formNames f) (formConstants f) (formLevels f)
 
 unfoldable pub statementOf : Form → Statement
 statementOf (assign t e) = statement.Assign (record { target = targetValue t; count = length (flat e); sizes = formSizes (assign t e) })
-statementOf (goTo n) = statement.GoTo (capped n)
+statementOf (goTo n) = statement.GoTo (numberValue n)
 statementOf (computed ns v) = statement.Computed (record { exits = length ns; name = nameWord v; sizes = formSizes (computed ns v) })
 statementOf (ifs e a b c) =
-    statement.If (record { count = length (flat e); below = capped a; at = capped b; above = capped c; sizes = formSizes (ifs e a b c) })
+    statement.If (record { count = length (flat e); below = numberValue a; at = numberValue b; above = numberValue c; sizes = formSizes (ifs e a b c) })
 statementOf (loop n v p q r) =
     statement.Do (record {
-      last = capped n;
+      last = numberValue n;
       name = nameWord v;
       first = parameterValue p;
       limit = parameterValue q;

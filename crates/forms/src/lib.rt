@@ -4,8 +4,10 @@ ghost use Prim.Native.Nat.{_*_, _≤_};
 ghost use lib.ListN.{length, drop};
 ghost use Rattle.rules_deck.specs.Tokens.{comma, after, number};
 ghost use Rattle.rules_deck.specs.Grammar.{readAssignment, readGoTo, readIf};
+ghost use Rattle.tokens.specs.Words.{most};
 ghost use Rattle.tokens.specs.Reading.{ReadsNumber};
-ghost use Rattle.forms.specs.Statements.{answer, Reads, EndsIf, onlyWord, wordForm};
+ghost use Rattle.forms.specs.Statements.{asNumber, answer, Reads, EndsIf, onlyWord, wordForm};
+use cards::Number;
 use elements::GotPlace;
 use elements::Target;
 use items::Got;
@@ -28,9 +30,9 @@ pub struct Computed {
 
 pub struct If {
     pub count: usize,
-    pub below: u64,
-    pub at: u64,
-    pub above: u64,
+    pub below: Number,
+    pub at: Number,
+    pub above: Number,
     pub sizes: Sizes,
 }
 
@@ -41,7 +43,7 @@ pub struct Parameter {
 }
 
 pub struct Do {
-    pub last: u64,
+    pub last: Number,
     pub name: u64,
     pub first: Parameter,
     pub limit: Parameter,
@@ -59,7 +61,7 @@ pub struct Dimension {
 // Bad is refused 10.
 pub enum Statement {
     Assign(Assignment),
-    GoTo(u64),
+    GoTo(Number),
     Computed(Computed),
     If(If),
     Do(Do),
@@ -100,6 +102,14 @@ pub fn read_assignment(text: &[u8], items: &mut [u64]) -> Statement
     })
 }
 
+// A statement number as its token has it: 13 is not judged yet, but the value is capped.
+pub fn number_of(word: u64) -> Number
+    requires { ⌜ word ≤ most ⌝ }
+    ensures { λ r. ⌜ r ≡ asNumber word ⌝ }
+{
+    Number(word as u32)
+}
+
 // GOTOn
 pub fn read_go_to(text: &[u8]) -> Statement
     ensures { λ r. ⌜ r ≡ answer (readGoTo (now (text .entry))) ⌝ }
@@ -113,7 +123,7 @@ pub fn read_go_to(text: &[u8]) -> Statement
     if at != text.len() {
         return Statement::Bad;
     }
-    Statement::GoTo(word)
+    Statement::GoTo(number_of(word))
 }
 
 // A comma and a number.
@@ -161,9 +171,9 @@ fn read_exits(text: &[u8], from: usize, count: usize, sizes: Sizes) -> Statement
     }
     Statement::If(If {
         count,
-        below,
-        at,
-        above,
+        below: number_of(below),
+        at: number_of(at),
+        above: number_of(above),
         sizes,
     })
 }

@@ -7,6 +7,7 @@ use Prim.Native.Nat.{ℕ, _≤_}
 use native.Mathlib.Omega.{arith}
 use lib.ListN.{length, take}
 use Rattle.rules_shared.specs.Lists.{all}
+use Rattle.cards.specs.declared.Number.{Number}
 use Rattle.forms.specs.declared.Assignment.{Assignment}
 use Rattle.forms.specs.declared.Computed.{Computed}
 use Rattle.forms.specs.declared.If.{If}
@@ -21,7 +22,7 @@ module _ (k : ℕ) (items : List ℕ) (s : Statement) (r : ℕ) where
   unfolding ofStatement
   of-assignment a e q = q ∙ sym (ap (ofStatement k items) e)
 
-  pub of-go-to : (n : ℕ) → s ≡ statement.GoTo n → r ≡ ofNumber (rightNumber n) → r ≡ ofStatement k items s
+  pub of-go-to : (n : Number) → s ≡ statement.GoTo n → r ≡ ofNumber (rightNumber (n .0)) → r ≡ ofStatement k items s
   unfolding ofStatement
   of-go-to n e q = q ∙ sym (ap (ofStatement k items) e)
 
@@ -33,11 +34,11 @@ module _ (k : ℕ) (items : List ℕ) (s : Statement) (r : ℕ) where
   unfolding ofStatement
   of-computed c e b p q = q ∙ ap (ofSizes k (c .sizes)) p ∙ sym (ap (ofStatement k items) e)
 
-  pub of-if : (i : If) → s ≡ statement.If i → (b : Bool) → b ≡ (rightNumber (i .below) && (rightNumber (i .at) && rightNumber (i .above))) → r ≡ ofSizes k (i .sizes) b → r ≡ ofStatement k items s
+  pub of-if : (i : If) → s ≡ statement.If i → (b : Bool) → b ≡ (rightNumber (i .below .0) && (rightNumber (i .at .0) && rightNumber (i .above .0))) → r ≡ ofSizes k (i .sizes) b → r ≡ ofStatement k items s
   unfolding ofStatement
   of-if i e b p q = q ∙ ap (ofSizes k (i .sizes)) p ∙ sym (ap (ofStatement k items) e)
 
-  pub of-do : (d : Do) → s ≡ statement.Do d → (b : Bool) → b ≡ rightNumber (d .last) → r ≡ ofSizes k (d .sizes) b → r ≡ ofStatement k items s
+  pub of-do : (d : Do) → s ≡ statement.Do d → (b : Bool) → b ≡ rightNumber (d .last .0) → r ≡ ofSizes k (d .sizes) b → r ≡ ofStatement k items s
   unfolding ofStatement
   of-do d e b p q = q ∙ ap (ofSizes k (d .sizes)) p ∙ sym (ap (ofStatement k items) e)
 

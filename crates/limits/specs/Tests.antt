@@ -27,10 +27,10 @@ ofNumber right13 = cond right13 0 13
 
 unfoldable pub ofStatement : ℕ → List ℕ → Statement → ℕ
 ofStatement k items (Assign a) = ofSizes k (a .sizes) Bool.true
-ofStatement k items (GoTo n) = ofNumber (rightNumber n)
+ofStatement k items (GoTo n) = ofNumber (rightNumber (n .0))
 ofStatement k items (Computed c) = ofSizes k (c .sizes) (all rightNumber (take (c .exits) items))
-ofStatement k items (If i) = ofSizes k (i .sizes) (rightNumber (i .below) && (rightNumber (i .at) && rightNumber (i .above)))
-ofStatement k items (Do d) = ofSizes k (d .sizes) (rightNumber (d .last))
+ofStatement k items (If i) = ofSizes k (i .sizes) (rightNumber (i .below .0) && (rightNumber (i .at .0) && rightNumber (i .above .0)))
+ofStatement k items (Do d) = ofSizes k (d .sizes) (rightNumber (d .last .0))
 ofStatement k items Continue = 0
 ofStatement k items Stop = 0
 ofStatement k items End = 0

@@ -5,16 +5,24 @@ ghost use Prim.Native.Nat.{_≤_};
 ghost use lib.ListN.{length, take};
 ghost use Rattle.rules_shared.specs.Lists.{all};
 ghost use Rattle.limits.specs.Tests.{rightNumber, ofNumber, ofSizes, ofStatement, exitsIn};
+use cards::Number;
 use forms::Statement;
 use tokens::Sizes;
 
-fn right_number(n: u64) -> bool
-    ensures { λ r. ⌜ r ≡ rightNumber n ⌝ }
+// A number that is a word in the table.
+fn right_word(word: u64) -> bool
+    ensures { λ r. ⌜ r ≡ rightNumber word ⌝ }
 {
-    if n < 1 {
+    if word < 1 {
         return false;
     }
-    n <= 99999
+    word <= 99999
+}
+
+fn right_number(n: Number) -> bool
+    ensures { λ r. ⌜ r ≡ rightNumber (n .0) ⌝ }
+{
+    right_word(n.0 as u64)
 }
 
 fn right_numbers(items: &[u64], count: usize) -> bool
@@ -23,7 +31,7 @@ fn right_numbers(items: &[u64], count: usize) -> bool
 {
     let mut i = 0;
     while i < count {
-        if !right_number(items[i]) {
+        if !right_word(items[i]) {
             return false;
         }
         i += 1;
@@ -52,14 +60,14 @@ fn of_sizes(k: u32, sizes: Sizes, numbers: bool) -> u32
     0
 }
 
-fn of_number(n: u64) -> u32
-    ensures { λ r. ⌜ r ≡ ofNumber (rightNumber n) ⌝ }
+fn of_number(n: Number) -> u32
+    ensures { λ r. ⌜ r ≡ ofNumber (rightNumber (n .0)) ⌝ }
 {
     if right_number(n) { 0 } else { 13 }
 }
 
-fn right_three(a: u64, b: u64, c: u64) -> bool
-    ensures { λ r. ⌜ r ≡ rightNumber a && (rightNumber b && rightNumber c) ⌝ }
+fn right_three(a: Number, b: Number, c: Number) -> bool
+    ensures { λ r. ⌜ r ≡ rightNumber (a .0) && (rightNumber (b .0) && rightNumber (c .0)) ⌝ }
 {
     if !right_number(a) {
         return false;

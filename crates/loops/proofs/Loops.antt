@@ -10,6 +10,7 @@ use lib.ListN.{length, drop, getD}
 use Rattle.rules_deck.specs.Trees.{Name, Digits, valueOf, Expr, con, var, levels, exprNames, exprConstants, Form, loop, formNames, formConstants, formLevels}
 use Rattle.rules_deck.specs.Tokens.{comma, equals, wordDo, Found, bad, give, ahead, andThen, after, startsDigit, allOf, whole, number, name}
 use Rattle.rules_deck.specs.Grammar.{parameter, doLoop, readDo}
+use Rattle.cards.specs.declared.Number.{Number}
 use Rattle.tokens.specs.declared.Sizes.{Sizes}
 use Rattle.tokens.specs.Words.{capped, nameWord, startsWord}
 use Rattle.tokens.specs.Sizes.{sizesOf, both}
@@ -22,7 +23,7 @@ use Rattle.items.specs.Items.{exprSizes}
 use Rattle.forms.specs.declared.Parameter.{Parameter}
 use Rattle.forms.specs.declared.Statement.{Statement}
 use Rattle.forms.specs.declared.Statement.the-variants as statement
-use Rattle.forms.specs.Statements.{parameterValue, formSizes, statementOf, answer}
+use Rattle.forms.specs.Statements.{asNumber, parameterValue, formSizes, statementOf, answer}
 use Rattle.forms.proofs.Forms.{here}
 use Rattle.loops.specs.declared.GotParameter.{GotParameter}
 use Rattle.loops.specs.declared.GotParameter.the-variants.{Read, Bad}
@@ -76,17 +77,17 @@ append-none : {A : Type 0} (l : List A) → l ++ [] ≡ l
 append-none [] = refl
 append-none {A} (x ∷ l) = ap (λ (m : List A). x ∷ m) (append-none l)
 
-same-do : {a b a′ b′ : ℕ} {p q r p′ q′ r′ : Parameter} {z z′ : Sizes} → a ≡ a′ → b ≡ b′ → p ≡ p′ → q ≡ q′ → r ≡ r′ → z ≡ z′
+same-do : {a a′ : Number} {b b′ : ℕ} {p q r p′ q′ r′ : Parameter} {z z′ : Sizes} → a ≡ a′ → b ≡ b′ → p ≡ p′ → q ≡ q′ → r ≡ r′ → z ≡ z′
     → statement.Do (record { last = a; name = b; first = p; limit = q; by = r; sizes = z }) ≡ statement.Do (record { last = a′; name = b′; first = p′; limit = q′; by = r′; sizes = z′ })
-same-do {a} {b} {a′} {b′} {p} {q} {r} {p′} {q′} {r′} {z} {z′} ea eb ep eq er ez =
-    ap (λ (x : ℕ). statement.Do (record { last = x; name = b; first = p; limit = q; by = r; sizes = z })) ea
+same-do {a} {a′} {b} {b′} {p} {q} {r} {p′} {q′} {r′} {z} {z′} ea eb ep eq er ez =
+    ap (λ (x : Number). statement.Do (record { last = x; name = b; first = p; limit = q; by = r; sizes = z })) ea
     ∙ ap (λ (x : ℕ). statement.Do (record { last = a′; name = x; first = p; limit = q; by = r; sizes = z })) eb
     ∙ ap (λ (x : Parameter). statement.Do (record { last = a′; name = b′; first = x; limit = q; by = r; sizes = z })) ep
     ∙ ap (λ (x : Parameter). statement.Do (record { last = a′; name = b′; first = p′; limit = x; by = r; sizes = z })) eq
     ∙ ap (λ (x : Parameter). statement.Do (record { last = a′; name = b′; first = p′; limit = q′; by = x; sizes = z })) er
     ∙ ap (λ (x : Sizes). statement.Do (record { last = a′; name = b′; first = p′; limit = q′; by = r′; sizes = x })) ez
 
-module _ (s : List ℕ) (from : ℕ) (le : from ≤ length s) (l nm : ℕ) (fs lm : Parameter) (sizes : Sizes) where
+module _ (s : List ℕ) (from : ℕ) (le : from ≤ length s) (l : Number) (nm : ℕ) (fs lm : Parameter) (sizes : Sizes) where
   module _ (ne : getD s from 0 ≡ comma → ⊥) where
     two-upto : (n : Digits) (v : Name) (p q : Expr) → Upto s 0 (ahead from (byOf n v p q (drop from s))) from (loop n v p q none)
     unfolding byOf
@@ -140,7 +141,7 @@ module _ (s : List ℕ) (from : ℕ) (le : from ≤ length s) (l nm : ℕ) (fs l
 
 -- ---- the first two parameters
 
-module _ (s : List ℕ) (from : ℕ) (l nm : ℕ) (sizes : Sizes) where
+module _ (s : List ℕ) (from : ℕ) (l : Number) (nm : ℕ) (sizes : Sizes) where
   pub first-bad : parameter (drop from s) ≡ bad → EndsDo s from l nm sizes statement.Bad
   unfolding parametersOf
   first-bad b n v el en es = bad-is (length s) (leads-bad (here from _) (then-bad s from parameter _ b))
@@ -215,10 +216,10 @@ module _ (s : List ℕ) (w : startsWord wordDo s ≡ true) where
         pub do-inside : b + 1 ≤ length s
         do-inside = let i = inside equals (omega arith) s b e in omega arith
 
-        pub do-read : {r : Statement} → EndsDo s (b + 1) v v′ z′ r → r ≡ answer (readDo s)
+        pub do-read : {l : Number} {r : Statement} → l ≡ asNumber v → EndsDo s (b + 1) l v′ z′ r → r ≡ answer (readDo s)
         unfolding readDo whole
-        do-read {r} h =
+        do-read {l} {r} le h =
             let ld = leads-more do-named (after-leads s b equals _ (omega arith) e) in
             let same : ld .count ≡ b + 1 = omega (arith, ld .ends) in
-            h (t .tree) (u .tree) (t .value-is) (u .value-is) (u .sizes-is)
+            h (t .tree) (u .tree) (le ∙ ap asNumber (t .value-is)) (u .value-is) (u .sizes-is)
             ∙ ap (λ (x : Found Form). answer (allOf (length s) x)) (sym (ld .is ∙ ap (λ (x : ℕ). ahead x (parametersOf (t .tree) (u .tree) (drop (b + 1) s))) same))

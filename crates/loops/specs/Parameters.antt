@@ -8,14 +8,15 @@ use lib.ListN.{length, drop}
 use Rattle.rules_deck.specs.Trees.{Name, Digits, Expr, exprNames, exprConstants, levels, Form, loop}
 use Rattle.rules_deck.specs.Tokens.{comma, Found, Reader, give, ahead, andThen, after, choose, starts, allOf}
 use Rattle.rules_deck.specs.Grammar.{parameter}
+use Rattle.cards.specs.declared.Number.{Number}
 use Rattle.tokens.specs.declared.Sizes.{Sizes}
-use Rattle.tokens.specs.Words.{capped, nameWord}
+use Rattle.tokens.specs.Words.{nameWord}
 use Rattle.tokens.specs.Sizes.{sizesOf}
 use Rattle.tokens.specs.Reading.{nameSize, Reads}
 use Rattle.items.specs.Items.{exprSizes}
 use Rattle.forms.specs.declared.Parameter.{Parameter}
 use Rattle.forms.specs.declared.Statement.{Statement}
-use Rattle.forms.specs.Statements.{parameterValue, answer}
+use Rattle.forms.specs.Statements.{numberValue, parameterValue, answer}
 use Rattle.loops.specs.declared.GotParameter.{GotParameter}
 use Rattle.loops.specs.declared.GotParameter.the-variants.{Read, Bad}
 
@@ -34,13 +35,13 @@ unfoldable pub parametersOf : Digits → Name → Reader Form
 parametersOf n v = andThen parameter (λ first. after comma (andThen parameter (λ limit. byOf n v first limit)))
 
 -- from a place on to the end of the text, after any parts of these values and sizes
-abbrev pub EndsBy : List ℕ → ℕ → ℕ → ℕ → Parameter → Parameter → Sizes → Statement → Type 0
+abbrev pub EndsBy : List ℕ → ℕ → Number → ℕ → Parameter → Parameter → Sizes → Statement → Type 0
 EndsBy s from last name first limit sizes r =
-    (n : Digits) (v : Name) (p q : Expr) → last ≡ capped n → name ≡ nameWord v → first ≡ parameterValue p → limit ≡ parameterValue q
+    (n : Digits) (v : Name) (p q : Expr) → last ≡ numberValue n → name ≡ nameWord v → first ≡ parameterValue p → limit ≡ parameterValue q
     → sizes ≡ sizesOf (v ∷ (exprNames p ++ exprNames q)) (exprConstants p ++ exprConstants q) (max (levels p) (levels q))
     → r ≡ answer (allOf (length s) (ahead from (byOf n v p q (drop from s))))
 
-abbrev pub EndsDo : List ℕ → ℕ → ℕ → ℕ → Sizes → Statement → Type 0
+abbrev pub EndsDo : List ℕ → ℕ → Number → ℕ → Sizes → Statement → Type 0
 EndsDo s from last name sizes r =
-    (n : Digits) (v : Name) → last ≡ capped n → name ≡ nameWord v → sizes ≡ nameSize v
+    (n : Digits) (v : Name) → last ≡ numberValue n → name ≡ nameWord v → sizes ≡ nameSize v
     → r ≡ answer (allOf (length s) (ahead from (parametersOf n v (drop from s))))

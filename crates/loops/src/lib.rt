@@ -7,6 +7,7 @@ ghost use Rattle.rules_deck.specs.Tokens as book;
 ghost use Rattle.rules_deck.specs.Grammar.{parameter, readDo};
 ghost use Rattle.forms.specs.Statements.{answer};
 ghost use Rattle.loops.specs.Parameters.{ReadsParameter, EndsBy, EndsDo};
+use cards::Number;
 use forms::Do;
 use forms::Parameter;
 use forms::Statement;
@@ -54,7 +55,7 @@ fn read_parameter(text: &[u8], from: usize) -> GotParameter
 fn read_by(
     text: &[u8],
     from: usize,
-    last: u64,
+    last: Number,
     name: u64,
     first: Parameter,
     limit: Parameter,
@@ -97,7 +98,7 @@ fn read_by(
     })
 }
 
-fn read_parameters(text: &[u8], from: usize, last: u64, name: u64, sizes: Sizes) -> Statement
+fn read_parameters(text: &[u8], from: usize, last: Number, name: u64, sizes: Sizes) -> Statement
     requires { ⌜ from ≤ length (now text) ⌝ }
     ensures { λ r. ⌜ EndsDo (now (text .entry)) from last name sizes r ⌝ }
 {
@@ -149,5 +150,5 @@ pub fn read_do(text: &[u8]) -> Statement
     if tokens::byte(text, b) != 61 {
         return Statement::Bad;
     }
-    read_parameters(text, b + 1, last, name, sizes)
+    read_parameters(text, b + 1, forms::number_of(last), name, sizes)
 }

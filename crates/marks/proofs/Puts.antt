@@ -11,10 +11,12 @@ use lib.ListN.{length, take, getD, length-take}
 use lib.Seq.{take-suc}
 use borrow.Author.Tests.{eq-eqb, ne-eqb}
 use Rattle.rules_shared.specs.Lists.{Each, each-more}
+use Rattle.cards.specs.declared.Number.{Number}
 use Rattle.elements.specs.declared.Target.{Target}
 use Rattle.elements.specs.declared.Target.the-variants.{Cell, Element}
 use Rattle.items.specs.Parsed.{Put}
 use Rattle.items.proofs.Tables.{put-more}
+use Rattle.forms.specs.Statements.{asNumber}
 use Rattle.plans.specs.declared.Plan.{Plan}
 use Rattle.marks.specs.Marks.{numbersOf, Low, Jumping, cellWord, setOf}
 
@@ -36,10 +38,10 @@ pub nothing-put : (items : List ℕ) (count from : ℕ) (a : List ℕ) → Putti
 nothing-put items count from a =
     record { within = omega arith; there = omega arith; long = refl; are = record { top = omega arith; table = sym (append-nil (take from a)) } }
 
-pub one-put : {items : List ℕ} {count from : ℕ} {a b : List ℕ} {at i : ℕ} {c : List ℕ} {r : ℕ} → Putting items count from a b at i → i < count → count ≤ length items
-    → length c ≡ length b → Put b c at (getD items i 0 ∷ []) r → Putting items count from a c r (i + 1)
-one-put {items} {count} {from} {a} {b} {at} {i} {c} {r} p h l s q =
-    let more = put-more (p .are) q in
+pub one-put : {items : List ℕ} {count from : ℕ} {a b : List ℕ} {at i : ℕ} {c : List ℕ} {r : ℕ} {m : Number} → Putting items count from a b at i → i < count → count ≤ length items
+    → length c ≡ length b → m ≡ asNumber (getD items i 0) → Put b c at (m .0 ∷ []) r → Putting items count from a c r (i + 1)
+one-put {items} {count} {from} {a} {b} {at} {i} {c} {r} p h l s e q =
+    let more = put-more (p .are) (subst (λ (x : Number). Put b c at (x .0 ∷ []) r) e q) in
     record {
       within = omega arith;
       there = omega (arith, q .top, p .there);
@@ -59,14 +61,14 @@ module _ (p : Plan) (items : List ℕ) where
   unfolding numbersOf
   numbers-2 z = let a : eqb (p .kind) 2 ≡ true = eq-eqb (p .kind) 2 z in rw a
 
-  pub numbers-3 : p .kind ≡ 3 → numbersOf p items ≡ p .below ∷ p .at ∷ p .above ∷ []
+  pub numbers-3 : p .kind ≡ 3 → numbersOf p items ≡ p .below .0 ∷ p .at .0 ∷ p .above .0 ∷ []
   unfolding numbersOf
   numbers-3 z =
       let a : eqb (p .kind) 2 ≡ false = ne-eqb (p .kind) 2 (λ e. omega arith) in
       let b : eqb (p .kind) 3 ≡ true = eq-eqb (p .kind) 3 z in
       rw (a, b)
 
-  pub numbers-1 : p .kind ≡ 1 → numbersOf p items ≡ p .below ∷ []
+  pub numbers-1 : p .kind ≡ 1 → numbersOf p items ≡ p .below .0 ∷ []
   unfolding numbersOf
   numbers-1 z =
       let a : eqb (p .kind) 2 ≡ false = ne-eqb (p .kind) 2 (λ e. omega arith) in
@@ -74,7 +76,7 @@ module _ (p : Plan) (items : List ℕ) where
       let c : eqb (p .kind) 1 ≡ true = eq-eqb (p .kind) 1 z in
       rw (a, b, c)
 
-  pub numbers-4 : p .kind ≡ 4 → numbersOf p items ≡ p .below ∷ []
+  pub numbers-4 : p .kind ≡ 4 → numbersOf p items ≡ p .below .0 ∷ []
   unfolding numbersOf
   numbers-4 z =
       let a : eqb (p .kind) 2 ≡ false = ne-eqb (p .kind) 2 (λ e. omega arith) in
@@ -92,21 +94,18 @@ module _ (p : Plan) (items : List ℕ) where
       let d : eqb (p .kind) 4 ≡ false = ne-eqb (p .kind) 4 w in
       rw (a, b, c, d)
 
-pub head-low : {x : ℕ} {l : List ℕ} → Each Low (x ∷ l) → x ≤ 99999
-head-low (each-more p a) = p
-
-pub tail-low : {x : ℕ} {l : List ℕ} → Each Low (x ∷ l) → Each Low l
-tail-low (each-more p a) = a
-
 module _ {p : Plan} {items jumps : List ℕ} {j : ℕ} (h : Jumping p items jumps j) where
   -- the numbers are these
-  pub jumping : {ws : List ℕ} → numbersOf p items ≡ ws → Each Low ws × (j + length ws ≤ length jumps)
-  jumping {ws} e = (subst (Each Low) e (h .low), subst (λ (l : List ℕ). j + length l ≤ length jumps) e (h .room))
+  pub jumping : {ws : List ℕ} → numbersOf p items ≡ ws → j + length ws ≤ length jumps
+  jumping {ws} e = subst (λ (l : List ℕ). j + length l ≤ length jumps) e (h .room)
+
+  pub listed-low : p .kind ≡ 2 → Each Low (take (p .listed) items)
+  listed-low z = subst (Each Low) (numbers-2 p items z) (h .low)
 
   pub count-fits : p .kind ≡ 2 → j + p .listed ≤ length jumps
   count-fits z =
       let w = jumping (numbers-2 p items z) in
-      omega (arith, w .1, length-take (p .listed) items, h .listed z)
+      omega (arith, w, length-take (p .listed) items, h .listed z)
 
   pub as-numbers : {ws b : List ℕ} {r : ℕ} → numbersOf p items ≡ ws → Put jumps b j ws r → Put jumps b j (numbersOf p items) r
   as-numbers {ws} {b} {r} e q = subst (λ (l : List ℕ). Put jumps b j l r) (sym e) q

@@ -14,8 +14,8 @@ use Rattle.plans.specs.declared.Plan.{Plan}
 -- the numbers that it jumps to, or a DO's last
 unfoldable pub numbersOf : Plan → List ℕ → List ℕ
 numbersOf p items =
-    cond (eqb (p .kind) 2) (take (p .listed) items) (cond (eqb (p .kind) 3) (p .below ∷ p .at ∷ p .above ∷ [])
-    (cond (eqb (p .kind) 1) (p .below ∷ []) (cond (eqb (p .kind) 4) (p .below ∷ []) [])))
+    cond (eqb (p .kind) 2) (take (p .listed) items) (cond (eqb (p .kind) 3) (p .below .0 ∷ p .at .0 ∷ p .above .0 ∷ [])
+    (cond (eqb (p .kind) 1) (p .below .0 ∷ []) (cond (eqb (p .kind) 4) (p .below .0 ∷ []) [])))
 
 abbrev pub Low : ℕ → Type 0
 Low n = n ≤ 99999

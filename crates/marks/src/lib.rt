@@ -47,13 +47,14 @@ pub fn put_loop(loops: &mut [u32], d: usize, position: usize, jump: usize) -> us
 
 // ---- statement numbers
 
-fn put_number(jumps: &mut [u32], at: usize, n: u64) -> usize
-    requires { ⌜ (at < length (now jumps)) × (n ≤ 99999) ⌝ }
-    ensures { λ r. ⌜ Put (now (jumps .entry)) (now (jumps .exit)) at (n ∷ []) r ⌝ }
+fn put_number(jumps: &mut [u32], at: usize, n: Number) -> usize
+    requires { ⌜ at < length (now jumps) ⌝ }
+    ensures { λ r. ⌜ Put (now (jumps .entry)) (now (jumps .exit)) at (n .0 ∷ []) r ⌝ }
 {
-    put(jumps, at, n as u32)
+    put(jumps, at, n.0)
 }
 
+// Those that the reader left as words.
 fn put_numbers(items: &[u64], count: usize, jumps: &mut [u32], from: usize) -> usize
     requires { ⌜ (count ≤ length (now items)) × ((from + count ≤ length (now jumps)) × Each Low (take count (now items))) ⌝ }
     ensures { λ r. ⌜ Put (now (jumps .entry)) (now (jumps .exit)) from (take count (now (items .entry))) r ⌝ }
@@ -61,7 +62,7 @@ fn put_numbers(items: &[u64], count: usize, jumps: &mut [u32], from: usize) -> u
     let mut at = from;
     let mut i = 0;
     while i < count {
-        at = put_number(jumps, at, items[i]);
+        at = put_number(jumps, at, forms::number_of(items[i]));
         i += 1;
     }
     at

@@ -8,6 +8,7 @@ use native.Mathlib.Omega.{arith}
 use lib.Dec.{eqb}
 use lib.ListN.{length, take}
 use borrow.Author.Tests.{eq-eqb, ne-eqb}
+use Rattle.cards.specs.declared.Number.{Number}
 use Rattle.elements.specs.declared.Target.{Target}
 use Rattle.elements.specs.declared.Target.the-variants.{Cell, Element}
 use Rattle.items.specs.Items.{targetWords}
@@ -20,21 +21,21 @@ use Rattle.forms.specs.declared.Dimension.{Dimension}
 use Rattle.forms.specs.declared.Statement.{Statement}
 use Rattle.forms.specs.declared.Statement.the-variants as statement
 use Rattle.plans.specs.declared.Plan.{Plan}
-use Rattle.plans.specs.Plans.{made, bare, planOf, parametersWords, Laid, Planned, firstWords}
+use Rattle.plans.specs.Plans.{noNumber, made, bare, planOf, parametersWords, Laid, Planned, firstWords}
 
 module _ (items : List ℕ) (s : Statement) (r : Plan) where
   planned : (z : Statement) → s ≡ z → r ≡ planOf z → Laid z items items → Planned s items items r
   planned z e p l = subst (λ (x : Statement). Planned x items items r) (sym e) (record { says = p; table = l })
 
-  pub of-assignment : (a : Assignment) → s ≡ statement.Assign a → r ≡ made 0 (a .target) (a .count) 0 0 0 0 → Planned s items items r
+  pub of-assignment : (a : Assignment) → s ≡ statement.Assign a → r ≡ made 0 (a .target) (a .count) 0 noNumber noNumber noNumber → Planned s items items r
   unfolding planOf Laid
   of-assignment a e q = planned (statement.Assign a) e q refl
 
-  pub of-go-to : (n : ℕ) → s ≡ statement.GoTo n → r ≡ made 1 (Cell 0) 0 0 n 0 0 → Planned s items items r
+  pub of-go-to : (n : Number) → s ≡ statement.GoTo n → r ≡ made 1 (Cell 0) 0 0 n noNumber noNumber → Planned s items items r
   unfolding planOf Laid
   of-go-to n e q = planned (statement.GoTo n) e q refl
 
-  pub of-computed : (c : Computed) → s ≡ statement.Computed c → r ≡ made 2 (Cell (c .name)) 0 (c .exits) 0 0 0 → Planned s items items r
+  pub of-computed : (c : Computed) → s ≡ statement.Computed c → r ≡ made 2 (Cell (c .name)) 0 (c .exits) noNumber noNumber noNumber → Planned s items items r
   unfolding planOf Laid
   of-computed c e q = planned (statement.Computed c) e q refl
 
@@ -54,7 +55,7 @@ module _ (items : List ℕ) (s : Statement) (r : Plan) where
   unfolding planOf Laid
   of-end e q = planned statement.End e q refl
 
-  pub of-dimension : (d : Dimension) → s ≡ statement.Dimension d → r ≡ made 8 (Cell 0) 0 (d .arrays) 0 0 0 → Planned s items items r
+  pub of-dimension : (d : Dimension) → s ≡ statement.Dimension d → r ≡ made 8 (Cell 0) 0 (d .arrays) noNumber noNumber noNumber → Planned s items items r
   unfolding planOf Laid
   of-dimension d e q = planned (statement.Dimension d) e q refl
 
@@ -63,12 +64,12 @@ module _ (items : List ℕ) (s : Statement) (r : Plan) where
   of-bad e q = planned statement.Bad e q refl
 
 pub of-do : (a b : List ℕ) (s : Statement) (r : Plan) (d : Do) (count : ℕ) → s ≡ statement.Do d → Put a b 0 (parametersWords d) count
-    → r ≡ made 4 (Cell (d .name)) count 0 (d .last) 0 0 → Planned s a b r
+    → r ≡ made 4 (Cell (d .name)) count 0 (d .last) noNumber noNumber → Planned s a b r
 unfolding planOf Laid
 of-do a b s r d count e h q =
     let six : count ≡ 6 = h .top in
     subst (λ (x : Statement). Planned x a b r) (sym e)
-    (record { says = q ∙ ap (λ (k : ℕ). made 4 (Cell (d .name)) k 0 (d .last) 0 0) six; table = subst (λ (k : ℕ). take k b ≡ parametersWords d) six (h .table) })
+    (record { says = q ∙ ap (λ (k : ℕ). made 4 (Cell (d .name)) k 0 (d .last) noNumber noNumber) six; table = subst (λ (k : ℕ). take k b ≡ parametersWords d) six (h .table) })
 
 -- ---- what stands first
 

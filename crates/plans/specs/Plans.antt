@@ -8,6 +8,7 @@ use lib.Dec.{eqb}
 use lib.ListN.{length, take}
 use Rattle.rules_deck.specs.Trees.{Form, assign, goTo, computed, ifs, loop, continue, stop, end, dimension}
 use Rattle.tokens.specs.Words.{capped, nameWord}
+use Rattle.cards.specs.declared.Number.{Number}
 use Rattle.elements.specs.declared.Target.{Target}
 use Rattle.elements.specs.declared.Target.the-variants.{Cell}
 use Rattle.elements.specs.Values.{targetValue}
@@ -15,29 +16,33 @@ use Rattle.items.specs.Items.{flat, targetWords}
 use Rattle.forms.specs.declared.Do.{Do}
 use Rattle.forms.specs.declared.Statement.{Statement}
 use Rattle.forms.specs.declared.Statement.the-variants as statement
-use Rattle.forms.specs.Statements.{allWords}
+use Rattle.forms.specs.Statements.{allWords, asNumber, numberValue}
 use Rattle.draft.specs.Parts.{itemsWords, formFirst, formItems}
 use Rattle.plans.specs.declared.Plan.{Plan}
 
 -- ---- of what the reader gave back
 
-abbrev pub made : ℕ → Target → ℕ → ℕ → ℕ → ℕ → ℕ → Plan
+-- where a form has none
+abbrev pub noNumber : Number
+noNumber = asNumber 0
+
+abbrev pub made : ℕ → Target → ℕ → ℕ → Number → Number → Number → Plan
 made kind target count listed below at above =
     record { kind = kind; target = target; count = count; listed = listed; below = below; at = at; above = above }
 
 abbrev pub bare : ℕ → Plan
-bare kind = made kind (Cell 0) 0 0 0 0 0
+bare kind = made kind (Cell 0) 0 0 noNumber noNumber noNumber
 
 unfoldable pub planOf : Statement → Plan
-planOf (statement.Assign a) = made 0 (a .target) (a .count) 0 0 0 0
-planOf (statement.GoTo n) = made 1 (Cell 0) 0 0 n 0 0
-planOf (statement.Computed c) = made 2 (Cell (c .name)) 0 (c .exits) 0 0 0
+planOf (statement.Assign a) = made 0 (a .target) (a .count) 0 noNumber noNumber noNumber
+planOf (statement.GoTo n) = made 1 (Cell 0) 0 0 n noNumber noNumber
+planOf (statement.Computed c) = made 2 (Cell (c .name)) 0 (c .exits) noNumber noNumber noNumber
 planOf (statement.If i) = made 3 (Cell 0) (i .count) 0 (i .below) (i .at) (i .above)
-planOf (statement.Do d) = made 4 (Cell (d .name)) 6 0 (d .last) 0 0
+planOf (statement.Do d) = made 4 (Cell (d .name)) 6 0 (d .last) noNumber noNumber
 planOf statement.Continue = bare 5
 planOf statement.Stop = bare 6
 planOf statement.End = bare 7
-planOf (statement.Dimension d) = made 8 (Cell 0) 0 (d .arrays) 0 0 0
+planOf (statement.Dimension d) = made 8 (Cell 0) 0 (d .arrays) noNumber noNumber noNumber
 planOf statement.Bad = bare 9
 
 -- a DO's parameters as items
@@ -64,15 +69,15 @@ pub record Planned (s : Statement) (before after : List ℕ) (r : Plan) : Type 0
 -- ---- of a form
 
 unfoldable pub formPlan : Form → Plan
-formPlan (assign t e) = made 0 (targetValue t) (length (flat e)) 0 0 0 0
-formPlan (goTo n) = made 1 (Cell 0) 0 0 (capped n) 0 0
-formPlan (computed ns v) = made 2 (Cell (nameWord v)) 0 (length ns) 0 0 0
-formPlan (ifs e a b c) = made 3 (Cell 0) (length (flat e)) 0 (capped a) (capped b) (capped c)
-formPlan (loop n v p q r) = made 4 (Cell (nameWord v)) 6 0 (capped n) 0 0
+formPlan (assign t e) = made 0 (targetValue t) (length (flat e)) 0 noNumber noNumber noNumber
+formPlan (goTo n) = made 1 (Cell 0) 0 0 (numberValue n) noNumber noNumber
+formPlan (computed ns v) = made 2 (Cell (nameWord v)) 0 (length ns) noNumber noNumber noNumber
+formPlan (ifs e a b c) = made 3 (Cell 0) (length (flat e)) 0 (numberValue a) (numberValue b) (numberValue c)
+formPlan (loop n v p q r) = made 4 (Cell (nameWord v)) 6 0 (numberValue n) noNumber noNumber
 formPlan continue = bare 5
 formPlan stop = bare 6
 formPlan end = bare 7
-formPlan (dimension arrays) = made 8 (Cell 0) 0 (length arrays) 0 0 0
+formPlan (dimension arrays) = made 8 (Cell 0) 0 (length arrays) noNumber noNumber noNumber
 
 -- a computed GO TO's numbers and a DIMENSION's arrays, as the reader leaves them
 unfoldable pub listedWords : Form → List ℕ

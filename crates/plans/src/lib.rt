@@ -4,6 +4,7 @@ ghost use Prim.Native.Nat.{_≤_};
 ghost use lib.ListN.{length};
 ghost use Rattle.items.specs.Parsed.{Put};
 ghost use Rattle.plans.specs.Plans.{made, parametersWords, Planned, firstWords};
+use cards::Number;
 use elements::Target;
 use forms::Do;
 use forms::Statement;
@@ -28,9 +29,9 @@ pub struct Plan {
     // numbers or arrays in the table
     pub listed: usize,
     // statement numbers; a GO TO's and a DO's is the first
-    pub below: u64,
-    pub at: u64,
-    pub above: u64,
+    pub below: Number,
+    pub at: Number,
+    pub above: Number,
 }
 
 fn make(
@@ -38,9 +39,9 @@ fn make(
     target: Target,
     count: usize,
     listed: usize,
-    below: u64,
-    at: u64,
-    above: u64,
+    below: Number,
+    at: Number,
+    above: Number,
 ) -> Plan
     ensures { λ r. ⌜ r ≡ made kind target count listed below at above ⌝ }
 {
@@ -72,23 +73,32 @@ pub fn plan_of(s: Statement, items: &mut [u64]) -> Plan
     requires { ⌜ 6 ≤ length (now items) ⌝ }
     ensures { λ r. ⌜ Planned s (now (items .entry)) (now (items .exit)) r ⌝ }
 {
+    let none = Number(0);
     match s {
         Statement::Assign(a) => {
             let target = a.target;
-            make(ASSIGNMENT, target, a.count, 0, 0, 0, 0)
+            make(ASSIGNMENT, target, a.count, 0, none, none, none)
         }
-        Statement::GoTo(n) => make(GO_TO, Target::Cell(0), 0, 0, n, 0, 0),
-        Statement::Computed(c) => make(COMPUTED, Target::Cell(c.name), 0, c.exits, 0, 0, 0),
+        Statement::GoTo(n) => make(GO_TO, Target::Cell(0), 0, 0, n, none, none),
+        Statement::Computed(c) => make(
+            COMPUTED,
+            Target::Cell(c.name),
+            0,
+            c.exits,
+            none,
+            none,
+            none,
+        ),
         Statement::If(i) => make(IF, Target::Cell(0), i.count, 0, i.below, i.at, i.above),
         Statement::Do(d) => {
             let count = put_parameters(items, d);
-            make(DO, Target::Cell(d.name), count, 0, d.last, 0, 0)
+            make(DO, Target::Cell(d.name), count, 0, d.last, none, none)
         }
-        Statement::Continue => make(CONTINUE, Target::Cell(0), 0, 0, 0, 0, 0),
-        Statement::Stop => make(STOP, Target::Cell(0), 0, 0, 0, 0, 0),
-        Statement::End => make(END, Target::Cell(0), 0, 0, 0, 0, 0),
-        Statement::Dimension(d) => make(DIMENSION, Target::Cell(0), 0, d.arrays, 0, 0, 0),
-        Statement::Bad => make(NO_FORM, Target::Cell(0), 0, 0, 0, 0, 0),
+        Statement::Continue => make(CONTINUE, Target::Cell(0), 0, 0, none, none, none),
+        Statement::Stop => make(STOP, Target::Cell(0), 0, 0, none, none, none),
+        Statement::End => make(END, Target::Cell(0), 0, 0, none, none, none),
+        Statement::Dimension(d) => make(DIMENSION, Target::Cell(0), 0, d.arrays, none, none, none),
+        Statement::Bad => make(NO_FORM, Target::Cell(0), 0, 0, none, none, none),
     }
 }
 

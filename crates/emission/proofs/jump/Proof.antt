@@ -4,9 +4,6 @@ use borrow.Author.Needs.{needs}
 use Rattle.emission.proofs.jump.Statement.{statement}
 use Rattle.emission.proofs.jump.Tie as tie
 
-low-requires : tie.Need-low-requires
-low-requires c κs = search needs
-
 append-requires : tie.Need-append-requires
 append-requires c κs = search needs
 
@@ -15,7 +12,7 @@ same-length c = search needs
 
 returns : tie.Need-returns
 returns c =
-    jumped (c .before .before .before .before .before .before .pre .1) (c .before .before .before .low .ensures) (c .before .before .append .ensures)
+    jumped (c .before .before .before .before .before .pre .1) (c .before .before .append .ensures)
 
 pub jump-spec : {M : Type 1} → statement M
-jump-spec = tie.close (tie.spec low-requires append-requires same-length returns)
+jump-spec = tie.close (tie.spec append-requires same-length returns)

@@ -72,7 +72,9 @@ returns-5 c =
     (grows-as p (does-do p (c .before .before .before .before .if5 .taken)) (c .before .before .enter .ensures .0), ends-enter (c .before .before .before .before .if5 .taken) (c .before .before .enter .ensures .1))
 
 halt-requires : tie.Need-halt-requires
-halt-requires c κs = search needs
+halt-requires c κs =
+    let st = c .before .before .before .before .before .before .before .before .before .before .before .before .before .before .before .before in
+    (st .pre .1 .1 .0, st .pre .1 .1 .1)
 
 same-length-7 : tie.Need-same-length-7
 same-length-7 c = search needs

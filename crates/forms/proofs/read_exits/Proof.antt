@@ -1,6 +1,6 @@
 -- `forms::read_exits` meets its contract. Assumes nothing.
 use Rattle.tokens.proofs.Chains.{took, refused, token-shape}
-use Rattle.forms.proofs.Forms.{exits-first, exits-second, exits-third, exits-more, exits-read}
+use Rattle.forms.proofs.Forms.{exits-first, exits-second, exits-third, exits-more, exits-read, number-fits}
 use borrow.Author.Needs.{needs}
 use Rattle.forms.proofs.read_exits.Statement.{statement}
 use Rattle.forms.proofs.read_exits.Tie as tie
@@ -66,14 +66,29 @@ returns-4 c =
     let v = took token-shape (c .before .before .before .before .read-next2 .ensures) (c .before .before .c .given .1) in
     exits-more s (st .args .from) (st .args .count) (st .args .sizes) t u v (c .if1 .taken)
 
+number-of-requires : tie.Need-number-of-requires
+number-of-requires c κs =
+    let t = took token-shape (c .before .before .before .before .before .before .before .before .before .before .before .before .read-number .ensures) (c .before .before .before .before .before .before .before .before .before .before .a .given .1) in
+    number-fits (t .tree) (t .value-is)
+
+number-of-requires-2 : tie.Need-number-of-requires-2
+number-of-requires-2 c κs =
+    let u = took token-shape (c .before .before .before .before .before .before .before .before .before .read-next .ensures) (c .before .before .before .before .before .before .before .b .given .1) in
+    number-fits (u .tree) (u .value-is)
+
+number-of-requires-3 : tie.Need-number-of-requires-3
+number-of-requires-3 c κs =
+    let v = took token-shape (c .before .before .before .before .before .before .read-next2 .ensures) (c .before .before .before .before .c .given .1) in
+    number-fits (v .tree) (v .value-is)
+
 returns-5 : tie.Need-returns-5
 returns-5 c =
-    let st = c .before .before .before .before .before .before .before .before .before .before .before .before .before .before in
+    let st = c .before .before .before .before .before .before .before .before .before .before .before .before .before .before .before .before .before in
     let s = st .args .text .now in
-    let t = took token-shape (c .before .before .before .before .before .before .before .before .before .before .before .before .read-number .ensures) (c .before .before .before .before .before .before .before .before .before .before .a .given .1) in
-    let u = took token-shape (c .before .before .before .before .before .before .before .before .read-next .ensures) (c .before .before .before .before .before .before .b .given .1) in
-    let v = took token-shape (c .before .before .before .before .read-next2 .ensures) (c .before .before .c .given .1) in
-    exits-read s (st .args .from) (st .args .count) (st .args .sizes) t u v (c .if1 .left)
+    let t = took token-shape (c .before .before .before .before .before .before .before .before .before .before .before .before .before .before .before .read-number .ensures) (c .before .before .before .before .before .before .before .before .before .before .before .before .before .a .given .1) in
+    let u = took token-shape (c .before .before .before .before .before .before .before .before .before .before .before .read-next .ensures) (c .before .before .before .before .before .before .before .before .before .b .given .1) in
+    let v = took token-shape (c .before .before .before .before .before .before .before .read-next2 .ensures) (c .before .before .before .before .before .c .given .1) in
+    exits-read s (st .args .from) (st .args .count) (st .args .sizes) t u v (c .before .before .number-of .ensures) (c .before .number-of2 .ensures) (c .number-of3 .ensures) (c .before .before .before .if1 .left)
 
 pub read-exits-spec : {M : Type 1} → statement M
 read-exits-spec =
@@ -92,4 +107,7 @@ read-exits-spec =
     enum-told-3
     returns-3
     returns-4
+    number-of-requires
+    number-of-requires-2
+    number-of-requires-3
     returns-5)

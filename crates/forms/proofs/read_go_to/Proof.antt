@@ -2,7 +2,7 @@
 use mathlib.Core.Path.{sym, _∙_}
 use borrow.Author.Tests.{not-true, not-false}
 use Rattle.tokens.proofs.Chains.{took, refused, token-shape}
-use Rattle.forms.proofs.Forms.{go-to-no-word, go-to-fits, go-to-no-number, go-to-more, go-to-read}
+use Rattle.forms.proofs.Forms.{go-to-no-word, go-to-fits, go-to-no-number, go-to-more, go-to-read, number-fits}
 use borrow.Author.Needs.{needs}
 use Rattle.forms.proofs.read_go_to.Statement.{statement}
 use Rattle.forms.proofs.read_go_to.Tie as tie
@@ -43,12 +43,17 @@ returns-3 c =
     let t = took token-shape (c .before .before .before .before .read-number .ensures) (c .before .before .at .given .1) in
     go-to-more s w t (c .if2 .taken)
 
+number-of-requires : tie.Need-number-of-requires
+number-of-requires c κs =
+    let t = took token-shape (c .before .before .before .before .read-number .ensures) (c .before .before .at .given .1) in
+    number-fits (t .tree) (t .value-is)
+
 returns-4 : tie.Need-returns-4
 returns-4 c =
-    let s = c .before .before .before .before .before .before .before .before .before .args .text .now in
-    let w = sym (c .before .before .before .before .before .before .starts-word .ensures) ∙ not-false _ (c .before .before .before .before .before .if1 .left) in
-    let t = took token-shape (c .before .before .before .before .read-number .ensures) (c .before .before .at .given .1) in
-    go-to-read s w t (c .if2 .left)
+    let s = c .before .before .before .before .before .before .before .before .before .before .args .text .now in
+    let w = sym (c .before .before .before .before .before .before .before .starts-word .ensures) ∙ not-false _ (c .before .before .before .before .before .before .if1 .left) in
+    let t = took token-shape (c .before .before .before .before .before .read-number .ensures) (c .before .before .before .at .given .1) in
+    go-to-read s w t (c .number-of .ensures) (c .before .if2 .left)
 
 pub read-go-to-spec : {M : Type 1} → statement M
 read-go-to-spec =
@@ -62,4 +67,5 @@ read-go-to-spec =
     enum-told
     returns-2
     returns-3
+    number-of-requires
     returns-4)

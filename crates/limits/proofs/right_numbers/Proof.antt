@@ -20,20 +20,20 @@ loop-holds c =
     let n = st .args .count in
     (omega arith, none-tested l n)
 
-mul-right-number : tie.Need-mul-right-number Inv-loop μ-loop
-mul-right-number c =
+mul-right-word : tie.Need-mul-right-word Inv-loop μ-loop
+mul-right-word c =
     let st = c .before .before .before in
     let lp = c .before .loop in
     omega (arith, lp .inv .0, c .loop-test .taken, st .pre, st .good)
 
-shared-slice-read-right-number : tie.Need-shared-slice-read-right-number Inv-loop μ-loop
-shared-slice-read-right-number c =
+shared-slice-read-right-word : tie.Need-shared-slice-read-right-word Inv-loop μ-loop
+shared-slice-read-right-word c =
     let st = c .before .before .before .before in
     let lp = c .before .before .loop in
     omega (arith, lp .inv .0, c .before .loop-test .taken, st .pre, st .good)
 
-right-number-requires : tie.Need-right-number-requires Inv-loop μ-loop
-right-number-requires c κs = search needs
+right-word-requires : tie.Need-right-word-requires Inv-loop μ-loop
+right-word-requires c κs = search needs
 
 returns : tie.Need-returns Inv-loop μ-loop
 returns c =
@@ -41,7 +41,7 @@ returns c =
     let l = st .args .items .now in
     let n = st .args .count in
     let lp = c .before .before .before .before .loop in
-    one-wrong l n (lp .i) (c .before .before .before .loop-test .taken) (st .pre) (lp .inv .1) _ (c .before .right-number .ensures) (not-true _ (c .if1 .taken))
+    one-wrong l n (lp .i) (c .before .before .before .loop-test .taken) (st .pre) (lp .inv .1) _ (c .before .right-word .ensures) (not-true _ (c .if1 .taken))
 
 add-i : tie.Need-add-i Inv-loop μ-loop
 add-i c =
@@ -61,7 +61,7 @@ loop-again c =
     let l = st .args .items .now in
     let n = st .args .count in
     let lp = c .before .before .before .before .loop in
-    (omega (arith, lp .inv .0, c .before .before .before .loop-test .taken, st .pre, st .good), one-more l n (lp .i) (c .before .before .before .loop-test .taken) (st .pre) (lp .inv .1) _ (c .before .right-number .ensures) (not-false _ (c .if1 .left)))
+    (omega (arith, lp .inv .0, c .before .before .before .loop-test .taken, st .pre, st .good), one-more l n (lp .i) (c .before .before .before .loop-test .taken) (st .pre) (lp .inv .1) _ (c .before .right-word .ensures) (not-false _ (c .if1 .left)))
 
 returns-2 : tie.Need-returns-2 Inv-loop μ-loop
 returns-2 c =
@@ -78,9 +78,9 @@ right-numbers-spec =
     Inv-loop
     μ-loop
     loop-holds
-    mul-right-number
-    shared-slice-read-right-number
-    right-number-requires
+    mul-right-word
+    shared-slice-read-right-word
+    right-word-requires
     returns
     add-i
     loop-less

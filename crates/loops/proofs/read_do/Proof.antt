@@ -3,6 +3,7 @@ use mathlib.Core.Path.{sym, _∙_}
 use native.Mathlib.Omega.{arith}
 use borrow.Author.Tests.{not-true, not-false}
 use Rattle.tokens.proofs.Chains.{took, refused, token-shape}
+use Rattle.forms.proofs.Forms.{number-fits}
 use Rattle.loops.proofs.Loops.{do-no-word, do-fits, do-no-number, do-no-name, do-no-equals, do-inside, do-read}
 use borrow.Author.Needs.{needs}
 use Rattle.loops.proofs.read_do.Statement.{statement}
@@ -75,23 +76,28 @@ add-read-parameters c =
     let e = sym (c .before .byte .ensures) ∙ c .if2 .left in
     omega (arith, do-inside s w t u e)
 
+number-of-requires : tie.Need-number-of-requires
+number-of-requires c κs =
+    let t = took token-shape (c .before .before .before .before .before .before .before .before .before .read-number .ensures) (c .before .before .before .before .before .before .before .a .given .1) in
+    number-fits (t .tree) (t .value-is)
+
 read-parameters-requires : tie.Need-read-parameters-requires
 read-parameters-requires c κs =
-    let s = c .before .before .before .before .before .before .before .before .before .before .before .before .before .before .args .text .now in
-    let w = sym (c .before .before .before .before .before .before .before .before .before .before .before .starts-word .ensures) ∙ not-false _ (c .before .before .before .before .before .before .before .before .before .before .if1 .left) in
-    let t = took token-shape (c .before .before .before .before .before .before .before .before .before .read-number .ensures) (c .before .before .before .before .before .before .before .a .given .1) in
-    let u = took token-shape (c .before .before .before .before .before .read-name .ensures) (c .before .before .before .b .given .1) in
-    let e = sym (c .before .byte .ensures) ∙ c .if2 .left in
-    do-inside s w t u e
-
-returns-5 : tie.Need-returns-5
-returns-5 c =
     let s = c .before .before .before .before .before .before .before .before .before .before .before .before .before .before .before .args .text .now in
     let w = sym (c .before .before .before .before .before .before .before .before .before .before .before .before .starts-word .ensures) ∙ not-false _ (c .before .before .before .before .before .before .before .before .before .before .before .if1 .left) in
     let t = took token-shape (c .before .before .before .before .before .before .before .before .before .before .read-number .ensures) (c .before .before .before .before .before .before .before .before .a .given .1) in
     let u = took token-shape (c .before .before .before .before .before .before .read-name .ensures) (c .before .before .before .before .b .given .1) in
     let e = sym (c .before .before .byte .ensures) ∙ c .before .if2 .left in
-    do-read s w t u e (c .read-parameters .ensures)
+    do-inside s w t u e
+
+returns-5 : tie.Need-returns-5
+returns-5 c =
+    let s = c .before .before .before .before .before .before .before .before .before .before .before .before .before .before .before .before .args .text .now in
+    let w = sym (c .before .before .before .before .before .before .before .before .before .before .before .before .before .starts-word .ensures) ∙ not-false _ (c .before .before .before .before .before .before .before .before .before .before .before .before .if1 .left) in
+    let t = took token-shape (c .before .before .before .before .before .before .before .before .before .before .before .read-number .ensures) (c .before .before .before .before .before .before .before .before .before .a .given .1) in
+    let u = took token-shape (c .before .before .before .before .before .before .before .read-name .ensures) (c .before .before .before .before .before .b .given .1) in
+    let e = sym (c .before .before .before .byte .ensures) ∙ c .before .before .if2 .left in
+    do-read s w t u e (c .before .number-of .ensures) (c .read-parameters .ensures)
 
 pub read-do-spec : {M : Type 1} → statement M
 read-do-spec =
@@ -111,5 +117,6 @@ read-do-spec =
     byte-requires
     returns-4
     add-read-parameters
+    number-of-requires
     read-parameters-requires
     returns-5)

@@ -1,7 +1,7 @@
 -- `marks::put_jumps` meets its contract. Assumes nothing.
 use native.Mathlib.Omega.{arith}
 use Rattle.items.proofs.Tables.{put-more}
-use Rattle.marks.proofs.Puts.{numbers-2, numbers-3, numbers-1, numbers-4, numbers-none, head-low, tail-low, jumping, count-fits, as-numbers, put-none}
+use Rattle.marks.proofs.Puts.{numbers-2, numbers-3, numbers-1, numbers-4, numbers-none, jumping, listed-low, count-fits, as-numbers, put-none}
 use borrow.Author.Needs.{needs}
 use Rattle.marks.proofs.put_jumps.Statement.{statement}
 use Rattle.marks.proofs.put_jumps.Tie as tie
@@ -10,9 +10,7 @@ put-numbers-requires : tie.Need-put-numbers-requires
 put-numbers-requires c κs =
     let st = c .before .before .before .before .before in
     let h = st .pre in
-    let p = st .args .p in
-    let l = st .args .items .now in
-    (h .listed (c .before .if1 .taken), (count-fits h (c .before .if1 .taken), jumping h (numbers-2 p l (c .before .if1 .taken)) .0))
+    (h .listed (c .before .if1 .taken), (count-fits h (c .before .if1 .taken), listed-low h (c .before .if1 .taken)))
 
 same-length : tie.Need-same-length
 same-length c = search needs
@@ -32,7 +30,7 @@ put-number-requires c κs =
     let p = st .args .p in
     let l = st .args .items .now in
     let w = jumping h (numbers-3 p l (c .before .if2 .taken)) in
-    (omega (arith, w .1), head-low (w .0))
+    omega (arith, w)
 
 put-number-requires-2 : tie.Need-put-number-requires-2
 put-number-requires-2 c κs =
@@ -41,7 +39,7 @@ put-number-requires-2 c κs =
     let p = st .args .p in
     let l = st .args .items .now in
     let w = jumping h (numbers-3 p l (c .before .before .before .before .before .if2 .taken)) in
-    (omega (arith, w .1, c .before .before .before .put-number .ensures .top, c .before .before .before .put-number .kept .0), head-low (tail-low (w .0)))
+    omega (arith, w, c .before .before .before .put-number .ensures .top, c .before .before .before .put-number .kept .0)
 
 put-number-requires-3 : tie.Need-put-number-requires-3
 put-number-requires-3 c κs =
@@ -50,7 +48,7 @@ put-number-requires-3 c κs =
     let p = st .args .p in
     let l = st .args .items .now in
     let w = jumping h (numbers-3 p l (c .before .before .before .before .before .before .before .before .before .if2 .taken)) in
-    (omega (arith, w .1, c .before .before .before .before .before .before .before .put-number .ensures .top, c .before .before .before .put-number2 .ensures .top, c .before .before .before .before .before .before .before .put-number .kept .0, c .before .before .before .put-number2 .kept .0), head-low (tail-low (tail-low (w .0))))
+    omega (arith, w, c .before .before .before .before .before .before .before .put-number .ensures .top, c .before .before .before .put-number2 .ensures .top, c .before .before .before .before .before .before .before .put-number .kept .0, c .before .before .before .put-number2 .kept .0)
 
 same-length-2 : tie.Need-same-length-2
 same-length-2 c = search needs
@@ -70,7 +68,7 @@ put-number-requires-4 c κs =
     let p = st .args .p in
     let l = st .args .items .now in
     let w = jumping h (numbers-1 p l (c .before .if3 .taken)) in
-    (omega (arith, w .1), head-low (w .0))
+    omega (arith, w)
 
 same-length-3 : tie.Need-same-length-3
 same-length-3 c = search needs
@@ -90,7 +88,7 @@ put-number-requires-5 c κs =
     let p = st .args .p in
     let l = st .args .items .now in
     let w = jumping h (numbers-4 p l (c .before .if4 .taken)) in
-    (omega (arith, w .1), head-low (w .0))
+    omega (arith, w)
 
 same-length-4 : tie.Need-same-length-4
 same-length-4 c = search needs

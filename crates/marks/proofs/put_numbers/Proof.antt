@@ -18,43 +18,49 @@ loop-holds c =
     let n = st .args .count in
     nothing-put l n (st .args .from) (st .args .jumps .now)
 
-mul-put-number : tie.Need-mul-put-number Inv-loop μ-loop
-mul-put-number c =
+mul-number-of : tie.Need-mul-number-of Inv-loop μ-loop
+mul-number-of c =
     let st = c .before .before .before .before .before in
     let lp = c .before .before .loop in
     omega (arith, lp .inv .within, lp .inv .there, lp .inv .long, c .before .loop-test .taken, st .pre .0, st .pre .1 .0, st .good)
 
-shared-slice-read-put-number : tie.Need-shared-slice-read-put-number Inv-loop μ-loop
-shared-slice-read-put-number c =
+shared-slice-read-number-of : tie.Need-shared-slice-read-number-of Inv-loop μ-loop
+shared-slice-read-number-of c =
     let st = c .before .before .before .before .before .before in
     let lp = c .before .before .before .loop in
     omega (arith, lp .inv .within, lp .inv .there, lp .inv .long, c .before .before .loop-test .taken, st .pre .0, st .pre .1 .0, st .good)
 
-put-number-requires : tie.Need-put-number-requires Inv-loop μ-loop
-put-number-requires c κs =
+number-of-requires : tie.Need-number-of-requires Inv-loop μ-loop
+number-of-requires c κs =
     let st = c .before .before .before .before .before .before in
     let l = st .args .items .now in
     let n = st .args .count in
     let lp = c .before .before .before .loop in
-    (omega (arith, lp .inv .within, lp .inv .there, lp .inv .long, c .before .before .loop-test .taken, st .pre .0, st .pre .1 .0, st .good), low-at l n (lp .i) (st .pre .0) (c .before .before .loop-test .taken) (st .pre .1 .1))
+    omega (arith, low-at l n (lp .i) (st .pre .0) (c .before .before .loop-test .taken) (st .pre .1 .1))
+
+put-number-requires : tie.Need-put-number-requires Inv-loop μ-loop
+put-number-requires c κs =
+    let st = c .before .before .before .before .before .before .before in
+    let lp = c .before .before .before .before .loop in
+    omega (arith, lp .inv .within, lp .inv .there, lp .inv .long, c .before .before .before .loop-test .taken, st .pre .0, st .pre .1 .0, st .good)
 
 add-i : tie.Need-add-i Inv-loop μ-loop
 add-i c =
-    let st = c .before .before .before .before .before .before .before .before .before in
-    let lp = c .before .before .before .before .before .before .loop in
-    omega (arith, lp .inv .within, lp .inv .there, lp .inv .long, c .before .before .before .before .before .loop-test .taken, st .pre .0, st .pre .1 .0, st .good)
+    let st = c .before .before .before .before .before .before .before .before .before .before in
+    let lp = c .before .before .before .before .before .before .before .loop in
+    omega (arith, lp .inv .within, lp .inv .there, lp .inv .long, c .before .before .before .before .before .before .loop-test .taken, st .pre .0, st .pre .1 .0, st .good)
 
 loop-less : tie.Need-loop-less Inv-loop μ-loop
 loop-less c =
-    let st = c .before .before .before .before .before .before .before .before .before in
-    let lp = c .before .before .before .before .before .before .loop in
-    omega (arith, lp .inv .within, lp .inv .there, lp .inv .long, c .before .before .before .before .before .loop-test .taken, st .pre .0, st .pre .1 .0, st .good)
+    let st = c .before .before .before .before .before .before .before .before .before .before in
+    let lp = c .before .before .before .before .before .before .before .loop in
+    omega (arith, lp .inv .within, lp .inv .there, lp .inv .long, c .before .before .before .before .before .before .loop-test .taken, st .pre .0, st .pre .1 .0, st .good)
 
 loop-again : tie.Need-loop-again Inv-loop μ-loop
 loop-again c =
-    let st = c .before .before .before .before .before .before .before .before .before in
-    let lp = c .before .before .before .before .before .before .loop in
-    one-put (lp .inv) (c .before .before .before .before .before .loop-test .taken) (st .pre .0) (c .before .before .put-number .kept .0) (c .before .before .put-number .ensures)
+    let st = c .before .before .before .before .before .before .before .before .before .before in
+    let lp = c .before .before .before .before .before .before .before .loop in
+    one-put (lp .inv) (c .before .before .before .before .before .before .loop-test .taken) (st .pre .0) (c .before .before .put-number .kept .0) (c .before .before .before .number-of .ensures) (c .before .before .put-number .ensures)
 
 same-length : tie.Need-same-length Inv-loop μ-loop
 same-length c =
@@ -73,8 +79,9 @@ put-numbers-spec =
     Inv-loop
     μ-loop
     loop-holds
-    mul-put-number
-    shared-slice-read-put-number
+    mul-number-of
+    shared-slice-read-number-of
+    number-of-requires
     put-number-requires
     add-i
     loop-less
