@@ -61,5 +61,5 @@ places-kept rows columns =
       each = place-some rows columns;
       below = place-below rows columns;
       apart = place-apart rows columns;
-      only = λ v w p e. let x = placed rows columns v w p e in (x .row, x .column, x .first, x .inRows, x .second, x .inColumns);
+      only = λ s t p e. let x = placed rows columns s t p e in (x .row, x .column, x .first, x .inRows, x .second, x .inColumns);
     }

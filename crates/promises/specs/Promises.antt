@@ -12,7 +12,7 @@ use lib.IntN.{ℤ, pos}
 use Rattle.rules_shared.specs.Limits.{limits}
 use Rattle.rules_shared.specs.Runs.{go, halt, run}
 use Rattle.rules_object.specs.Halts.{haltNumber}
-use Rattle.rules_shared.specs.Choose.{positive, place}
+use Rattle.rules_shared.specs.Choose.{positive, SubscriptParts, subscriptValue, place}
 use Rattle.rules_object.specs.Object.{Named, Object}
 use Rattle.rules_object.specs.Check.{span, right41}
 use Rattle.rules_object.specs.Operations.{flowOf}
@@ -244,10 +244,13 @@ BenchRefuses = (object : List ℕ) (store : List ℤ) (l : Lent) (a : ℕ) → I
 
 -- Every pair of subscripts from 1 to its dimension has a place in the array, another one for each pair; no other pair has one.
 pub record Places (rows columns : ℕ) : Type 0 where
-  pub each : (i j : ℕ) → i < rows → j < columns → (p : ℕ) × (place rows columns (pos (suc i)) (pos (suc j)) ≡ some p)
-  pub below : (v w : ℤ) (p : ℕ) → place rows columns v w ≡ some p → p < rows * columns
-  pub apart : (v w v′ w′ : ℤ) (p : ℕ) → place rows columns v w ≡ some p → place rows columns v′ w′ ≡ some p → (v ≡ v′) × (w ≡ w′)
-  pub only : (v w : ℤ) (p : ℕ) → place rows columns v w ≡ some p → (i j : ℕ) × (v ≡ pos (suc i)) × (i < rows) × (w ≡ pos (suc j)) × (j < columns)
+  pub each : (s t : SubscriptParts) (i j : ℕ) → subscriptValue s ≡ pos (suc i) → i < rows → subscriptValue t ≡ pos (suc j) → j < columns
+      → (p : ℕ) × (place rows columns s t ≡ some p)
+  pub below : (s t : SubscriptParts) (p : ℕ) → place rows columns s t ≡ some p → p < rows * columns
+  pub apart : (s t s′ t′ : SubscriptParts) (p : ℕ) → place rows columns s t ≡ some p → place rows columns s′ t′ ≡ some p
+      → (subscriptValue s ≡ subscriptValue s′) × (subscriptValue t ≡ subscriptValue t′)
+  pub only : (s t : SubscriptParts) (p : ℕ) → place rows columns s t ≡ some p
+      → (i j : ℕ) × (subscriptValue s ≡ pos (suc i)) × (i < rows) × (subscriptValue t ≡ pos (suc j)) × (j < columns)
 
 abbrev pub PlacesApart : Type 0
 PlacesApart = (rows columns : ℕ) → Places rows columns

@@ -7,11 +7,13 @@ use mathlib.Core.Bool.{Bool}
 use mathlib.Core.List.{List, _∷_, _++_}
 use mathlib.Core.Option.{Option, none, some}
 use lib.ListN.{length, getElem?, length-append}
-use lib.IntN.{ℤ, pos, _+ℤ_, _*ℤ_, zero-*ℤ, +ℤ-idl}
+use lib.IntN.{ℤ, pos}
 use Rattle.number.specs.Number.{Op, Result, value, byZero, apply}
 use Rattle.rules_shared.specs.Runs.{go, halt}
+use Rattle.rules_shared.specs.Choose.{right}
+use Rattle.rules_shared.proofs.Places.{right-constant, place-same}
 use Rattle.rules_object.specs.Operations.{Instr, LDE, OP, NEG}
-use Rattle.rules_object.specs.Machine.{cell, subscriptValue, placeOf, elementLoaded, operated}
+use Rattle.rules_object.specs.Machine.{cell, subscriptOf, placeOf, elementLoaded, operated}
 use Rattle.rules_object.proofs.States.{state}
 use Rattle.rules_deck.specs.Trees.{Name, valueOf, Subscript, constant, linear, Subscripts, one, two, subscriptNames, subscriptsNames, Expr, con, var, elm, neg, par, bin, Statement}
 use Rattle.rules_deck.specs.Deck.{dimsOf}
@@ -70,18 +72,15 @@ module _ {k : ℕ} {deck : List Statement} (fit : Fitting deck) {pc p₂ m : ℕ
 
 -- ---- elements: the entry finds the place that the subscripts find
 
--- a constant is entered as 0 times a cell, and the constant
-constant-value : (x y : ℤ) → pos 0 *ℤ x +ℤ y ≡ y
-constant-value x y = ap (λ z. z +ℤ y) (zero-*ℤ x) ∙ +ℤ-idl y
-
 module _ (deck : List Statement) {env : Values} {c : List ℤ} (h : Holds (heldOf deck) env c) where
-  subscript-value : (s : Subscript) → Known (heldOf deck) (subscriptNames s) → subscriptValue c (subscriptEntry (heldOf deck) (dimsOf deck) s) ≡ subscript env s
-  subscript-value (constant d) f = constant-value (cell c 0) (pos (valueOf d))
-  subscript-value (linear m v a) f = rw (h .same (plain v) (f .has v here))
+  -- a constant is entered with the multiplier 0 and a cell
+  same-right : (d : ℕ) (s : Subscript) → Known (heldOf deck) (subscriptNames s) → right d (subscriptOf c (subscriptEntry (heldOf deck) (dimsOf deck) s)) ≡ right d (subscript env s)
+  same-right d (constant n) f = right-constant d (cell c 0) (pos 0) (pos (valueOf n))
+  same-right d (linear m v a) f = rw (h .same (plain v) (f .has v here))
 
   pub place-value : (v : Name) (s : Subscripts) → Known (heldOf deck) (subscriptsNames s) → placeOf c (elementEntry (heldOf deck) (dimsOf deck) v s) ≡ placeIn env (dimsOf deck v) s
-  place-value v (one s) f = simp (subscript-value s f, constant-value (cell c 0) (pos 1))
-  place-value v (two s t) f = simp (subscript-value s (known-left (subscriptNames t) f), subscript-value t (known-right (subscriptNames s) f))
+  place-value v (one s) f = place-same _ _ _ _ _ _ (same-right _ s f) (right-constant _ (cell c 0) (pos 0) (pos 1))
+  place-value v (two s t) f = place-same _ _ _ _ _ _ (same-right _ s (known-left (subscriptNames t) f)) (same-right _ t (known-right (subscriptNames s) f))
 
   elem-sim : {k pc m : ℕ} {s : List ℤ} → Fitting deck → (v : Name) (ss : Subscripts) → getElem? (codeOf deck) pc ≡ some (LDE (elementEntry (heldOf deck) (dimsOf deck) v ss))
       → (o : Option ℕ) → placeOf c (elementEntry (heldOf deck) (dimsOf deck) v ss) ≡ o → placeIn env (dimsOf deck v) ss ≡ o → Gives k deck pc (suc pc) s c m 1 (elementValue env v o)

@@ -6,10 +6,10 @@ use mathlib.Core.List.{List, [], _∷_}
 use mathlib.Core.Option.{Option, none, some}
 use lib.Dec.{eqb}
 use lib.ListN.{getElem?}
-use lib.IntN.{ℤ, pos, negℤ, _+ℤ_, _*ℤ_}
+use lib.IntN.{ℤ, pos, negℤ}
 use Rattle.number.specs.Number.{Rule, Op, Result, value, byZero, apply}
 use Rattle.rules_shared.specs.Runs.{Outcome, go, halt, run}
-use Rattle.rules_shared.specs.Choose.{sign3, exit, place, allPositive, Turn, again, over, turn, marked}
+use Rattle.rules_shared.specs.Choose.{sign3, exit, SubscriptParts, constantParts, place, allPositive, Turn, again, over, turn, marked}
 use Rattle.rules_deck.specs.Trees.{Name, Digits, valueOf, Addend, nothing, plus, minus, Subscript, constant, linear, Subscripts, one, two, Expr, con, var, elm, neg, par, bin, Target, cell, element, Form, assign, goTo, computed, ifs, loop, continue, stop, end, dimension, Statement}
 use Rattle.rules_deck.specs.Deck.{sameName, positionOf, Do, endings, Dims, dimsOf, width}
 
@@ -45,7 +45,7 @@ pub data Evaluated : Type 0 where
   val : ℤ → Bool → Evaluated
   bad : Cause → Bool → Evaluated
 
--- subscripts are worked out exactly
+-- a subscript's parts
 abbrev pub times : Option Digits → ℕ
 times none = 1
 times (some c) = valueOf c
@@ -55,13 +55,13 @@ addend nothing = pos 0
 addend (plus c) = pos (valueOf c)
 addend (minus c) = negℤ (pos (valueOf c))
 
-abbrev pub subscript : Values → Subscript → ℤ
-subscript values (constant c) = pos (valueOf c)
-subscript values (linear m v a) = pos (times m) *ℤ values (plain v) +ℤ addend a
+abbrev pub subscript : Values → Subscript → SubscriptParts
+subscript values (constant c) = constantParts (pos (valueOf c))
+subscript values (linear m v a) = record { times = times m; variable = values (plain v); plus = addend a }
 
 -- first subscript tested first; a single one has the one column
 abbrev pub placeIn : Values → Dims → Subscripts → Option ℕ
-placeIn values d (one s) = place (d .rows) (width (d .columns)) (subscript values s) (pos 1)
+placeIn values d (one s) = place (d .rows) (width (d .columns)) (subscript values s) (constantParts (pos 1))
 placeIn values d (two s t) = place (d .rows) (width (d .columns)) (subscript values s) (subscript values t)
 
 abbrev pub elementValue : Values → Name → Option ℕ → Evaluated

@@ -8,14 +8,14 @@ use Prim.Native.Nat.{ℕ, suc, _+_, _*_, _≤_, _<_}
 use native.Mathlib.Omega.{arith}
 use lib.ListN.{length, set, length-set, List·getD-append}
 use lib.Seq.{set-append-left}
-use lib.IntN.{ℤ, pos, _+ℤ_, _*ℤ_}
+use lib.IntN.{ℤ, pos}
 use Rattle.number.specs.Number.{Rule, Result, value, byZero, apply}
 use Rattle.rules_shared.specs.Runs.{go, run, steps}
 use Rattle.rules_object.specs.Halts.{Out}
 use Rattle.rules_shared.specs.Choose.{exit, place, positive, allPositive, Turn, again, over, turn}
 use Rattle.rules_object.specs.Object.{SubscriptEntry, Element, Loop, Object, ruleOf}
 use Rattle.rules_object.specs.Operations.{Instr, HLT, CON, LOD, STO, LDE, STE, OP, NEG, JMP, BR3, BRC, DOI, DOE, instruction}
-use Rattle.rules_object.specs.Machine.{State, cell, top, under, operated, subscriptValue, placeOf, elementLoaded, elementStored, branched, begun, turned, ended, act, step, goingTo, withStore, next, pushing, popping}
+use Rattle.rules_object.specs.Machine.{State, cell, top, under, operated, subscriptOf, placeOf, elementLoaded, elementStored, branched, begun, turned, ended, act, step, goingTo, withStore, next, pushing, popping}
 use Rattle.rules_object.specs.Safe.{Stands, withCells}
 use Rattle.rules_shared.proofs.RunLaws.{mapOut, run-map, steps-map}
 use Rattle.rules_object.specs.Passed.{Passed}
@@ -33,8 +33,8 @@ module _ (o : Object) (extra : List ℤ) (t : State) (long : o .cells ≤ length
   same-set : (c : List ℤ) (a : ℕ) (v : ℤ) → length c ≡ length (t .store) → a < o .cells → set (c ++ extra) a v ≡ set c a v ++ extra
   same-set c a v e l = set-append-left c extra a v (omega arith)
 
-  same-subscript : (s : SubscriptEntry) → s .cell < o .cells → subscriptValue (t .store ++ extra) s ≡ subscriptValue (t .store) s
-  same-subscript s l = ap (λ z. pos (s .times) *ℤ z +ℤ s .plus) (same-cell (s .cell) l)
+  same-subscript : (s : SubscriptEntry) → s .cell < o .cells → subscriptOf (t .store ++ extra) s ≡ subscriptOf (t .store) s
+  same-subscript s l = ap (λ (z : ℤ). record { times = s .times; variable = z; plus = s .plus }) (same-cell (s .cell) l)
 
   same-place : (e : Element) → GoodElement o e → placeOf (t .store ++ extra) e ≡ placeOf (t .store) e
   same-place e g = ap₂ (λ v w. place (e .rows) (e .columns) v w) (same-subscript (e .first) (g .first)) (same-subscript (e .second) (g .second))

@@ -9,13 +9,13 @@ use Prim.Native.Nat.{ℕ, zero, suc, _+_}
 use native.Mathlib.Omega.{arith}
 use lib.ListN.{length, set, length-set}
 use lib.Seq.{getD-set-other}
-use lib.IntN.{ℤ, pos, _+ℤ_, _*ℤ_}
+use lib.IntN.{ℤ, pos}
 use Rattle.number.specs.Number.{Rule, Result, value, byZero, apply}
 use Rattle.rules_object.specs.Halts.{Out}
 use Rattle.rules_shared.specs.Choose.{exit, place, positive, allPositive, Turn, again, over, turn}
 use Rattle.rules_object.specs.Object.{SubscriptEntry, Element, Loop, Object, ruleOf}
 use Rattle.rules_object.specs.Operations.{Instr, HLT, CON, LOD, STO, LDE, STE, OP, NEG, JMP, BR3, BRC, DOI, DOE, instruction}
-use Rattle.rules_object.specs.Machine.{State, cell, top, under, operated, subscriptValue, placeOf, elementLoaded, elementStored, branched, begun, turned, ended, act, step}
+use Rattle.rules_object.specs.Machine.{State, cell, top, under, operated, subscriptOf, placeOf, elementLoaded, elementStored, branched, begun, turned, ended, act, step}
 use Rattle.rules_object.proofs.States.{state}
 use Rattle.rules_object.specs.Safe.{elementCell, elementCells, loopCells, touchedBy, touches, In, AgreeIn, AlikeIn}
 use Rattle.rules_object.specs.Promised.{cameTo, TouchesOnly}
@@ -159,8 +159,8 @@ module _ (r : Rule) (index : ℕ) (stack c d : List ℤ) (mark : ℕ) (long : le
   abbrev Values : Instr → Type 0
   Values i = (a : ℕ) → In a (touchedBy i c) → cell c a ≡ cell d a
 
-  subscript-alike : (s : SubscriptEntry) → cell c (s .cell) ≡ cell d (s .cell) → subscriptValue c s ≡ subscriptValue d s
-  subscript-alike s e = ap (λ z. pos (s .times) *ℤ z +ℤ s .plus) e
+  subscript-alike : (s : SubscriptEntry) → cell c (s .cell) ≡ cell d (s .cell) → subscriptOf c s ≡ subscriptOf d s
+  subscript-alike s e = ap (λ (z : ℤ). record { times = s .times; variable = z; plus = s .plus }) e
 
   place-alike : (e : Element) → ((a : ℕ) → In a (elementCells e c) → cell c a ≡ cell d a) → placeOf c e ≡ placeOf d e
   place-alike e v =

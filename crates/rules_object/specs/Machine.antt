@@ -6,12 +6,12 @@ use mathlib.Core.List.{List, [], _∷_}
 use mathlib.Core.Option.{Option, none, some}
 use lib.Dec.{leb}
 use lib.ListN.{length, getD, set}
-use lib.IntN.{ℤ, pos, negℤ, _+ℤ_, _*ℤ_}
+use lib.IntN.{ℤ, pos, negℤ}
 use Rattle.number.specs.Number.{Rule, Result, value, byZero, apply}
 use Rattle.rules_shared.specs.Limits.{limits}
 use Rattle.rules_shared.specs.Runs.{go, halt}
 use Rattle.rules_object.specs.Halts.{Halt, atStop, atEnd, divideByZero, badSubscript, badExit, badParameter, badStack, badInstruction, Out}
-use Rattle.rules_shared.specs.Choose.{sign3, exit, place, positive, allPositive, Turn, again, over, turn, marked}
+use Rattle.rules_shared.specs.Choose.{sign3, exit, SubscriptParts, place, positive, allPositive, Turn, again, over, turn, marked}
 use Rattle.rules_object.specs.Object.{SubscriptEntry, Element, Loop, Object, ruleOf}
 use Rattle.rules_object.specs.Check.{inCode}
 use Rattle.rules_object.specs.Operations.{Instr, HLT, CON, LOD, STO, LDE, STE, OP, NEG, JMP, BR3, BRC, DOI, DOE, right43, entryRight, instruction, pops, pushes}
@@ -76,11 +76,11 @@ abbrev pub operated : Result → State → List ℤ → Out State
 operated (value v lost) t s = go (next (marking lost (pushing v (withStack s t))))
 operated byZero t s = halt divideByZero t
 
-abbrev pub subscriptValue : List ℤ → SubscriptEntry → ℤ
-subscriptValue store s = pos (s .times) *ℤ cell store (s .cell) +ℤ s .plus
+abbrev pub subscriptOf : List ℤ → SubscriptEntry → SubscriptParts
+subscriptOf store s = record { times = s .times; variable = cell store (s .cell); plus = s .plus }
 
 abbrev pub placeOf : List ℤ → Element → Option ℕ
-placeOf store e = place (e .rows) (e .columns) (subscriptValue store (e .first)) (subscriptValue store (e .second))
+placeOf store e = place (e .rows) (e .columns) (subscriptOf store (e .first)) (subscriptOf store (e .second))
 
 abbrev pub elementLoaded : Option ℕ → Element → State → Out State
 elementLoaded none e t = halt badSubscript t

@@ -6,7 +6,7 @@ use mathlib.Core.List.{List}
 use mathlib.Core.Option.{Option, none, some}
 use lib.Dec.{ltb}
 use lib.ListN.{getElem?}
-use lib.IntN.{ℤ, pos, negsuc, _+ℤ_}
+use lib.IntN.{ℤ, pos, negsuc, _+ℤ_, _*ℤ_}
 use lib.Signed.{leZ}
 
 -- below, at or above 0
@@ -24,15 +24,33 @@ abbrev pub exit : {A : Type 0} → List A → ℤ → Option A
 exit ts (pos n) = nth ts n
 exit ts (negsuc n) = none
 
--- A subscript is right when its value is from 1 to its dimension; it is then a place from 0.
+-- a subscript: its multiplier, its variable's number and its addend
+pub record SubscriptParts : Type 0 where
+  pub times : ℕ
+  pub variable : ℤ
+  pub plus : ℤ
+
+-- a constant has the multiplier 0
+abbrev pub constantParts : ℤ → SubscriptParts
+constantParts z = record { times = 0; variable = pos 0; plus = z }
+
+-- worked out exactly
+abbrev pub subscriptValue : SubscriptParts → ℤ
+subscriptValue s = pos (s .times) *ℤ s .variable +ℤ s .plus
+
+-- a number from 1 to the dimension, as a place from 0
 abbrev pub below : Bool → ℕ → Option ℕ
 below true n = some n
 below false n = none
 
-abbrev pub right : ℕ → ℤ → Option ℕ
-right dimension (pos zero) = none
-right dimension (pos (suc n)) = below (ltb n dimension) n
-right dimension (negsuc n) = none
+abbrev pub inDimension : ℕ → ℤ → Option ℕ
+inDimension dimension (pos zero) = none
+inDimension dimension (pos (suc n)) = below (ltb n dimension) n
+inDimension dimension (negsuc n) = none
+
+-- a subscript is right when its value is from 1 to its dimension
+abbrev pub right : ℕ → SubscriptParts → Option ℕ
+right dimension s = inDimension dimension (subscriptValue s)
 
 -- elements lie by columns
 abbrev pub byColumns : ℕ → Option ℕ → Option ℕ → Option ℕ
@@ -40,9 +58,9 @@ byColumns rows none j = none
 byColumns rows (some i) none = none
 byColumns rows (some i) (some j) = some (j * rows + i)
 
--- rows, columns and the two subscripts' values: the element's place in its array
-unfoldable pub place : ℕ → ℕ → ℤ → ℤ → Option ℕ
-place rows columns v w = byColumns rows (right rows v) (right columns w)
+-- rows, columns and the two subscripts: the element's place in its array
+unfoldable pub place : ℕ → ℕ → SubscriptParts → SubscriptParts → Option ℕ
+place rows columns s t = byColumns rows (right rows s) (right columns t)
 
 -- all of a DO's parameters must exceed 0
 abbrev pub positive : ℤ → Bool

@@ -3,7 +3,7 @@
 use mathlib.Core.Path.{_≡_, refl, sym, ap, ap₂, _∙_, subst}
 use mathlib.Core.Bool.{Bool, true, false, cond}
 use mathlib.Core.List.{List}
-use mathlib.Core.Option.{Option, none, some}
+use mathlib.Core.Option.{none, some}
 use Prim.Native.Nat.{ℕ, zero, suc, _+_, _-_, _*_, _^_, _≤_, _<_}
 use native.Mathlib.Nat.{mul-le-mul-right, mul-comm, suc-mul}
 use native.Mathlib.Omega.{arith}
@@ -17,11 +17,12 @@ use mir.Val.{toZ, ofZ, SFits}
 use mir.Facts.{toZ-pos}
 use Rattle.number.proofs.Whole.{back, abs-add, abs-mul-le, sfits-abs}
 use Rattle.rules_object.specs.Bytes.{signedOf}
-use Rattle.rules_shared.specs.Choose.{right, below, byColumns, place, positive, allPositive}
-use Rattle.rules_object.specs.Machine.{cell, subscriptValue, placeOf}
+use Rattle.rules_shared.specs.Choose.{SubscriptParts, below, inDimension, right, byColumns, place, positive, allPositive}
+use Rattle.rules_shared.proofs.Places as places
+use Rattle.rules_object.specs.Machine.{cell, subscriptOf, placeOf}
 use Rattle.word.specs.Word.{wordAt}
 use Rattle.object.specs.Layout.{elementAt}
-use Rattle.subscripts.specs.Elements.{subscriptAt, SubscriptIn, ElementIn}
+use Rattle.subscripts.specs.Elements.{subscriptAt, Worked, SubscriptIn, ElementIn}
 
 pub apart : true ≡ false → ⊥
 apart e = let z : _≡_ {A = ℕ} 0 1 = cc in omega arith
@@ -33,65 +34,51 @@ above (negsuc n) = refl
 
 -- ---- a subscript's place
 
-pub right-none : (d : ℕ) (z : ℤ) → positive z ≡ false → none ≡ right d z
-right-none d (pos zero) e = refl
-right-none d (pos (suc n)) e = absurd (apart e)
-right-none d (negsuc n) e = refl
+pub in-none : (d : ℕ) (z : ℤ) → positive z ≡ false → none ≡ inDimension d z
+in-none d (pos zero) e = refl
+in-none d (pos (suc n)) e = absurd (apart e)
+in-none d (negsuc n) e = refl
 
 pub positive-size : (z : ℤ) → positive z ≡ true → 0 < natAbs z
 positive-size (pos zero) e = absurd (apart (sym e))
 positive-size (pos (suc n)) e = omega arith
 positive-size (negsuc n) e = omega arith
 
-pub right-some : (d : ℕ) (z : ℤ) → positive z ≡ true → (n : ℕ) → n ≡ natAbs z - 1 → n < d → some n ≡ right d z
-right-some d (pos zero) e n q l = absurd (apart (sym e))
-right-some d (pos (suc m)) e n q l =
+pub in-some : (d : ℕ) (z : ℤ) → positive z ≡ true → (n : ℕ) → n ≡ natAbs z - 1 → n < d → some n ≡ inDimension d z
+in-some d (pos zero) e n q l = absurd (apart (sym e))
+in-some d (pos (suc m)) e n q l =
     let same : n ≡ m = omega arith in
     ap some same ∙ ap (λ b. below b m) (sym (lt-ltb m d (omega arith)))
-right-some d (negsuc m) e n q l = absurd (apart (sym e))
+in-some d (negsuc m) e n q l = absurd (apart (sym e))
 
-pub right-far : (d : ℕ) (z : ℤ) → positive z ≡ true → (n : ℕ) → n ≡ natAbs z - 1 → d ≤ n → none ≡ right d z
-right-far d (pos zero) e n q l = absurd (apart (sym e))
-right-far d (pos (suc m)) e n q l = ap (λ b. below b m) (sym (le-ltb m d (omega arith)))
-right-far d (negsuc m) e n q l = absurd (apart (sym e))
+pub in-far : (d : ℕ) (z : ℤ) → positive z ≡ true → (n : ℕ) → n ≡ natAbs z - 1 → d ≤ n → none ≡ inDimension d z
+in-far d (pos zero) e n q l = absurd (apart (sym e))
+in-far d (pos (suc m)) e n q l = ap (λ b. below b m) (sym (le-ltb m d (omega arith)))
+in-far d (negsuc m) e n q l = absurd (apart (sym e))
 
-pub right-below : (d : ℕ) (z : ℤ) (p : ℕ) → some p ≡ right d z → p < d
-right-below d (pos zero) p e = absurd (let z : _≡_ {A = ℕ} 0 1 = cc in omega arith)
-right-below d (pos (suc n)) p e = by (ltb n d) refl e
-  where
-    by : (b : Bool) → ltb n d ≡ b → some p ≡ below b n → p < d
-    by true q e = let s : n ≡ p = cc in let l = ltb-true n d q in omega arith
-    by false q e = absurd (let z : _≡_ {A = ℕ} 0 1 = cc in omega arith)
-right-below d (negsuc n) p e = absurd (let z : _≡_ {A = ℕ} 0 1 = cc in omega arith)
+pub right-below : (d : ℕ) (s : SubscriptParts) (p : ℕ) → some p ≡ right d s → p < d
+right-below d s p e = places.right-is d s p (sym e) .1
 
 pub columns-below : (rows columns i j : ℕ) → i < rows → j < columns → j * rows + i < rows * columns
 columns-below rows columns i j l m =
     let n : suc j * rows ≤ columns * rows = mul-le-mul-right rows m in
     omega (arith, suc-mul j rows, mul-comm columns rows)
 
-module _ (rows columns : ℕ) (v w : ℤ) where
-  pub place-none : none ≡ right rows v → none ≡ place rows columns v w
+module _ (rows columns : ℕ) (s t : SubscriptParts) where
+  pub place-none : none ≡ right rows s → none ≡ place rows columns s t
   unfolding place
-  place-none e = ap (λ i. byColumns rows i (right columns w)) e
+  place-none e = ap (λ i. byColumns rows i (right columns t)) e
 
-  pub place-none-2 : (i : ℕ) → some i ≡ right rows v → none ≡ right columns w → none ≡ place rows columns v w
+  pub place-none-2 : (i : ℕ) → some i ≡ right rows s → none ≡ right columns t → none ≡ place rows columns s t
   unfolding place
   place-none-2 i e f = ap₂ (λ i j. byColumns rows i j) e f
 
-  pub place-some : (i j : ℕ) → some i ≡ right rows v → some j ≡ right columns w → some (j * rows + i) ≡ place rows columns v w
+  pub place-some : (i j : ℕ) → some i ≡ right rows s → some j ≡ right columns t → some (j * rows + i) ≡ place rows columns s t
   unfolding place
   place-some i j e f = ap₂ (λ i j. byColumns rows i j) e f
 
-  pub place-below : (p : ℕ) → some p ≡ place rows columns v w → p < rows * columns
-  unfolding place
-  place-below p e = by (right rows v) (right columns w) refl refl e
-    where
-      by : (i j : Option ℕ) → i ≡ right rows v → j ≡ right columns w → some p ≡ byColumns rows i j → p < rows * columns
-      by none j q r e = absurd (let z : _≡_ {A = ℕ} 0 1 = cc in omega arith)
-      by (some i) none q r e = absurd (let z : _≡_ {A = ℕ} 0 1 = cc in omega arith)
-      by (some i) (some j) q r e =
-          let s : j * rows + i ≡ p = cc in
-          omega (arith, columns-below rows columns i j (right-below rows v i q) (right-below columns w j r))
+  pub place-below : (p : ℕ) → some p ≡ place rows columns s t → p < rows * columns
+  place-below p e = places.place-below rows columns s t p (sym e)
 
 -- ---- a signed word
 
@@ -151,25 +138,39 @@ module _ (t : ℕ) (v u : ℤ) (lt : t < 1000000000) (lv : natAbs v < 1000000000
   pub plus-back : toZ w64 (ofZ w64 (toZ w64 (ofZ w64 (toZ w64 t *ℤ toZ w64 (ofZ w64 v))) +ℤ toZ w64 (ofZ w64 u))) ≡ pos t *ℤ v +ℤ u
   plus-back = ap (λ z. toZ w64 (ofZ w64 z)) plus-is ∙ back (pos t *ℤ v +ℤ u) plus-small
 
+-- ---- a subscript's entry: its parts as the code has them
+
+module _ (s : List ℕ) (b : ℕ) (so : List ℤ) (h : SubscriptIn s b so) (t a : ℕ) (u : ℤ) (et : t ≡ wordAt s b) (ea : a ≡ wordAt s (b + 4)) (eu : u ≡ signedOf (wordAt s (b + 8))) where
+  variable-is : toZ w64 (ofZ w64 (cell so a)) ≡ cell so (wordAt s (b + 4))
+  variable-is = ap (λ m. toZ w64 (ofZ w64 (cell so m))) ea ∙ back (cell so (wordAt s (b + 4))) (omega (arith, h .at .small))
+
+  plus-same : toZ w64 (ofZ w64 u) ≡ signedOf (wordAt s (b + 8))
+  plus-same = ap (λ z. toZ w64 (ofZ w64 z)) eu ∙ back (signedOf (wordAt s (b + 8))) (omega (arith, h .plus))
+
+  pub parts-small : Worked t (toZ w64 (ofZ w64 (cell so a))) (toZ w64 (ofZ w64 u))
+  parts-small =
+      record {
+        times = omega (arith, h .times);
+        variable = subst (λ z. natAbs z < 1000000000) (sym variable-is) (h .at .small);
+        plus = subst (λ z. natAbs z < 1000000000) (sym plus-same) (h .plus);
+      }
+
+  pub parts-are : (d : ℕ) → right d (record { times = t; variable = toZ w64 (ofZ w64 (cell so a)); plus = toZ w64 (ofZ w64 u) }) ≡ right d (subscriptOf so (subscriptAt s b))
+  parts-are d = λ i. right d (record { times = et i; variable = variable-is i; plus = plus-same i })
+
 -- ---- an element's entry
 
 module _ (s : List ℕ) (b : ℕ) (so : List ℤ) where
-  pub subscript-back : SubscriptIn s b so → (z : ℤ) → z ≡ subscriptValue so (subscriptAt s b) → toZ w64 (ofZ w64 z) ≡ subscriptValue so (subscriptAt s b)
-  subscript-back h z e =
-      ap (λ z. toZ w64 (ofZ w64 z)) e
-      ∙ back (subscriptValue so (subscriptAt s b)) (plus-small (wordAt s b) (cell so (wordAt s (b + 4))) (signedOf (wordAt s (b + 8))) (h .times) (h .at .small) (h .plus))
-
-  pub element-alike : (v w : ℤ) → v ≡ subscriptValue so (subscriptAt s (b + 12)) → w ≡ subscriptValue so (subscriptAt s (b + 24))
-      → place (wordAt s (b + 4)) (wordAt s (b + 8)) v w ≡ placeOf so (elementAt s b)
+  pub element-alike : place (wordAt s (b + 4)) (wordAt s (b + 8)) (subscriptOf so (subscriptAt s (b + 12))) (subscriptOf so (subscriptAt s (b + 24))) ≡ placeOf so (elementAt s b)
   unfolding elementAt
-  element-alike v w e f =
+  element-alike =
       let a : b + 12 + 4 ≡ b + 16 = omega arith in
       let a′ : b + 12 + 8 ≡ b + 20 = omega arith in
       let c : b + 24 + 4 ≡ b + 28 = omega arith in
       let c′ : b + 24 + 8 ≡ b + 32 = omega arith in
       ap₂ (place (wordAt s (b + 4)) (wordAt s (b + 8)))
-      (e ∙ ap₂ (λ m n. pos (wordAt s (b + 12)) *ℤ cell so (wordAt s m) +ℤ signedOf (wordAt s n)) a a′)
-      (f ∙ ap₂ (λ m n. pos (wordAt s (b + 24)) *ℤ cell so (wordAt s m) +ℤ signedOf (wordAt s n)) c c′)
+      (ap₂ (λ (m n : ℕ). record { times = wordAt s (b + 12); variable = cell so (wordAt s m); plus = signedOf (wordAt s n) }) a a′)
+      (ap₂ (λ (m n : ℕ). record { times = wordAt s (b + 24); variable = cell so (wordAt s m); plus = signedOf (wordAt s n) }) c c′)
 
   pub element-below : ElementIn s b so → (n : ℕ) → some n ≡ placeOf so (elementAt s b) → wordAt s b + n < length so
   unfolding elementAt

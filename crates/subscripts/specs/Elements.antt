@@ -21,6 +21,12 @@ pub record Cell (so : List ℤ) (a : ℕ) : Type 0 where
 abbrev pub subscriptAt : List ℕ → ℕ → SubscriptEntry
 subscriptAt s b = record { times = wordAt s b; cell = wordAt s (b + 4); plus = signedOf (wordAt s (b + 8)) }
 
+-- a subscript's parts, each within nine digits
+pub record Worked (t : ℕ) (v u : ℤ) : Type 0 where
+  pub times : t < 1000000000
+  pub variable : natAbs v < 1000000000
+  pub plus : natAbs u < 1000000000
+
 pub record SubscriptIn (s : List ℕ) (b : ℕ) (so : List ℤ) : Type 0 where
   pub whole : b + 12 ≤ length s
   pub times : wordAt s b < 1000000000

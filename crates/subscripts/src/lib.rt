@@ -1,11 +1,10 @@
 // Numbers above 0, and the cell of an element: its subscripts worked out exactly, each from 1 to its dimension. Nothing is tested here that the check of an object has settled.
 ghost use mathlib.Core.Path.{_≡_};
-ghost use Prim.Native.Nat.{_*_, _≤_};
 ghost use Rattle.rules_object.specs.Bytes.{signedOf};
-ghost use Rattle.rules_shared.specs.Choose.{right, place, positive, allPositive};
-ghost use Rattle.rules_object.specs.Machine.{subscriptValue, placeOf};
+ghost use Rattle.rules_shared.specs.Choose.{inDimension, right, positive, allPositive};
+ghost use Rattle.rules_object.specs.Machine.{subscriptOf, placeOf};
 ghost use Rattle.object.specs.Layout.{elementAt};
-ghost use Rattle.subscripts.specs.Elements.{subscriptAt, SubscriptIn, ElementIn, placeFound};
+ghost use Rattle.subscripts.specs.Elements.{subscriptAt, Worked, SubscriptIn, ElementIn, placeFound};
 
 pub enum Place {
     At(usize),
@@ -41,19 +40,8 @@ fn signed(w: u32) -> i64
     }
 }
 
-fn subscript(o: &[u8], b: usize, store: &[i64]) -> i64
-    requires { ⌜ SubscriptIn (now o) b (now store) ⌝ }
-    ensures { λ r. ⌜ r ≡ subscriptValue (now (store .entry)) (subscriptAt (now (o .entry)) b) ⌝ }
-{
-    let times = word::load(o, b);
-    let c = word::index(word::load(o, b + 4));
-    let plus = signed(word::load(o, b + 8));
-    let v = store[c];
-    times as i64 * v + plus
-}
-
 fn within(dimension: usize, z: i64) -> Place
-    ensures { λ r. ⌜ placeFound r ≡ right dimension z ⌝ }
+    ensures { λ r. ⌜ placeFound r ≡ inDimension dimension z ⌝ }
 {
     if !above_zero(z) {
         return Place::Nowhere;
@@ -66,27 +54,37 @@ fn within(dimension: usize, z: i64) -> Place
     }
 }
 
-// Elements lie by columns.
-fn place_in(rows: usize, columns: usize, v: i64, w: i64) -> Place
-    requires { ⌜ rows * columns ≤ 4096 ⌝ }
-    ensures { λ r. ⌜ placeFound r ≡ place rows columns v w ⌝ }
+// A subscript by its parts.
+fn worked(dimension: usize, times: u32, variable: i64, plus: i64) -> Place
+    requires { ⌜ Worked times variable plus ⌝ }
+    ensures { λ r. ⌜ placeFound r ≡ right dimension (record { times = times; variable = variable; plus = plus }) ⌝ }
 {
-    let Place::At(i) = within(rows, v) else {
-        return Place::Nowhere;
-    };
-    let Place::At(j) = within(columns, w) else {
-        return Place::Nowhere;
-    };
-    Place::At(j * rows + i)
+    within(dimension, times as i64 * variable + plus)
 }
 
+fn subscript(o: &[u8], b: usize, store: &[i64], dimension: usize) -> Place
+    requires { ⌜ SubscriptIn (now o) b (now store) ⌝ }
+    ensures { λ r. ⌜ placeFound r ≡ right dimension (subscriptOf (now (store .entry)) (subscriptAt (now (o .entry)) b)) ⌝ }
+{
+    let times = word::load(o, b);
+    let c = word::index(word::load(o, b + 4));
+    let plus = signed(word::load(o, b + 8));
+    let v = store[c];
+    worked(dimension, times, v, plus)
+}
+
+// Elements lie by columns.
 pub fn element_place(o: &[u8], b: usize, store: &[i64]) -> Place
     requires { ⌜ ElementIn (now o) b (now store) ⌝ }
     ensures { λ r. ⌜ placeFound r ≡ placeOf (now (store .entry)) (elementAt (now (o .entry)) b) ⌝ }
 {
     let rows = word::index(word::load(o, b + 4));
     let columns = word::index(word::load(o, b + 8));
-    let v = subscript(o, b + 12, store);
-    let w = subscript(o, b + 24, store);
-    place_in(rows, columns, v, w)
+    let Place::At(i) = subscript(o, b + 12, store, rows) else {
+        return Place::Nowhere;
+    };
+    let Place::At(j) = subscript(o, b + 24, store, columns) else {
+        return Place::Nowhere;
+    };
+    Place::At(j * rows + i)
 }

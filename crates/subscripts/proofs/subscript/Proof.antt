@@ -1,12 +1,7 @@
 -- `subscripts::subscript` meets its contract. Assumes nothing.
-use mathlib.Core.Path.{sym, ap, ap₂, _∙_, subst}
-use Prim.Native.Nat.{_+_, _<_}
-use native.Mathlib.Omega.{arith}
-use lib.IntN.{pos, natAbs, _+ℤ_, _*ℤ_}
-use Rattle.rules_object.specs.Machine.{cell}
-use Rattle.word.specs.Word.{wordAt}
+use mathlib.Core.Path.{ap, _∙_}
 use Rattle.rules_object.specs.Bytes.{signedOf}
-use Rattle.subscripts.proofs.Laws.{times-fits, plus-fits, plus-back}
+use Rattle.subscripts.proofs.Laws.{parts-small, parts-are}
 use borrow.Author.Needs.{needs}
 use Rattle.subscripts.proofs.subscript.Statement.{statement}
 use Rattle.subscripts.proofs.subscript.Tie as tie
@@ -38,40 +33,19 @@ mul-v c = search needs
 shared-slice-copy-out-v : tie.Need-shared-slice-copy-out-v
 shared-slice-copy-out-v c = search needs
 
-cast-result : tie.Need-cast-result
-cast-result c = search needs
-
-mul-result : tie.Need-mul-result
-mul-result c =
-    let so = c .before .before .before .before .before .before .before .args .store .now in
-    let h = c .before .before .before .before .before .before .before .pre in
+worked-requires : tie.Need-worked-requires
+worked-requires c κs =
+    let a = c .before .before .before .before .before .before .before .args in
     let e = c .before .before .before .index .ensures ∙ c .before .before .before .before .load2 .ensures in
     let u = c .before .signed .ensures ∙ ap signedOf (c .before .before .load3 .ensures) in
-    let lv = subst (λ a. natAbs (cell so a) < 1000000000) (sym e) (h .at .small) in
-    let lu = subst (λ z. natAbs z < 1000000000) (sym u) (h .plus) in
-    times-fits (c .before .before .before .before .before .load .result) (cell so (c .before .before .before .index .result)) (c .before .signed .result) (omega (arith, c .before .before .before .before .before .load .ensures, h .times)) lv lu
-
-add-result : tie.Need-add-result
-add-result c =
-    let so = c .before .before .before .before .before .before .before .args .store .now in
-    let h = c .before .before .before .before .before .before .before .pre in
-    let e = c .before .before .before .index .ensures ∙ c .before .before .before .before .load2 .ensures in
-    let u = c .before .signed .ensures ∙ ap signedOf (c .before .before .load3 .ensures) in
-    let lv = subst (λ a. natAbs (cell so a) < 1000000000) (sym e) (h .at .small) in
-    let lu = subst (λ z. natAbs z < 1000000000) (sym u) (h .plus) in
-    plus-fits (c .before .before .before .before .before .load .result) (cell so (c .before .before .before .index .result)) (c .before .signed .result) (omega (arith, c .before .before .before .before .before .load .ensures, h .times)) lv lu
+    parts-small (a .o .now) (a .b) (a .store .now) (c .before .before .before .before .before .before .before .pre) _ _ _ (c .before .before .before .before .before .load .ensures) e u
 
 returns : tie.Need-returns
 returns c =
-    let so = c .before .before .before .before .before .before .before .args .store .now in
-    let s = c .before .before .before .before .before .before .before .args .o .now in
-    let b = c .before .before .before .before .before .before .before .args .b in
-    let h = c .before .before .before .before .before .before .before .pre in
-    let e = c .before .before .before .index .ensures ∙ c .before .before .before .before .load2 .ensures in
-    let u = c .before .signed .ensures ∙ ap signedOf (c .before .before .load3 .ensures) in
-    let lv = subst (λ a. natAbs (cell so a) < 1000000000) (sym e) (h .at .small) in
-    let lu = subst (λ z. natAbs z < 1000000000) (sym u) (h .plus) in
-    plus-back (c .before .before .before .before .before .load .result) (cell so (c .before .before .before .index .result)) (c .before .signed .result) (omega (arith, c .before .before .before .before .before .load .ensures, h .times)) lv lu ∙ ap₂ (λ t v. pos t *ℤ v +ℤ c .before .signed .result) (c .before .before .before .before .before .load .ensures) (ap (cell so) e) ∙ ap (λ u. pos (wordAt s b) *ℤ cell so (wordAt s (b + 4)) +ℤ u) u
+    let a = c .before .before .before .before .before .before .before .before .args in
+    let e = c .before .before .before .before .index .ensures ∙ c .before .before .before .before .before .load2 .ensures in
+    let u = c .before .before .signed .ensures ∙ ap signedOf (c .before .before .before .load3 .ensures) in
+    c .worked .ensures ∙ parts-are (a .o .now) (a .b) (a .store .now) (c .before .before .before .before .before .before .before .before .pre) _ _ _ (c .before .before .before .before .before .before .load .ensures) e u (a .dimension)
 
 pub subscript-spec : {M : Type 1} → statement M
 subscript-spec =
@@ -86,7 +60,5 @@ subscript-spec =
     signed-requires
     mul-v
     shared-slice-copy-out-v
-    cast-result
-    mul-result
-    add-result
+    worked-requires
     returns)

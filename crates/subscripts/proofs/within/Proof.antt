@@ -6,7 +6,7 @@ use lib.IntN.{natAbs}
 use mir.Facts.{toZ-ofZ}
 use borrow.Author.Tests.{not-true, not-false}
 use Rattle.rules_shared.specs.Choose.{positive}
-use Rattle.subscripts.proofs.Laws.{right-none, right-some, right-far, positive-size}
+use Rattle.subscripts.proofs.Laws.{in-none, in-some, in-far, positive-size}
 use borrow.Author.Needs.{needs}
 use Rattle.subscripts.proofs.within.Statement.{statement}
 use Rattle.subscripts.proofs.within.Tie as tie
@@ -19,7 +19,7 @@ returns c =
     let a = c .before .before .args in
     let hz = toZ-ofZ (c .before .before .fits .z) in
     let e = sym (c .before .above-zero .ensures ∙ ap positive hz) in
-    right-none (a .dimension) (a .z) (e ∙ not-true _ (c .if1 .taken))
+    in-none (a .dimension) (a .z) (e ∙ not-true _ (c .if1 .taken))
 
 size-requires : tie.Need-size-requires
 size-requires c κs = search needs
@@ -38,7 +38,7 @@ returns-2 c =
     let hz = toZ-ofZ (c .before .before .before .before .fits .z) in
     let e = sym (c .before .before .before .above-zero .ensures ∙ ap positive hz) in
     let n = c .before .size .ensures ∙ ap natAbs hz in
-    right-some (a .dimension) (a .z) (e ∙ not-false _ (c .before .before .if1 .left)) (c .before .size .result - 1) (ap (λ m. m - 1) n) (c .if2 .taken)
+    in-some (a .dimension) (a .z) (e ∙ not-false _ (c .before .before .if1 .left)) (c .before .size .result - 1) (ap (λ m. m - 1) n) (c .if2 .taken)
 
 returns-3 : tie.Need-returns-3
 returns-3 c =
@@ -46,7 +46,7 @@ returns-3 c =
     let hz = toZ-ofZ (c .before .before .before .before .fits .z) in
     let e = sym (c .before .before .before .above-zero .ensures ∙ ap positive hz) in
     let n = c .before .size .ensures ∙ ap natAbs hz in
-    right-far (a .dimension) (a .z) (e ∙ not-false _ (c .before .before .if1 .left)) (c .before .size .result - 1) (ap (λ m. m - 1) n) (c .if2 .left)
+    in-far (a .dimension) (a .z) (e ∙ not-false _ (c .before .before .if1 .left)) (c .before .size .result - 1) (ap (λ m. m - 1) n) (c .if2 .left)
 
 pub within-spec : {M : Type 1} → statement M
 within-spec =
