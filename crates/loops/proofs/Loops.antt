@@ -2,14 +2,16 @@
 -- Assumes nothing.
 use mathlib.Core.Path.{_≡_, refl, sym, ap, _∙_}
 use mathlib.Core.List.{List, [], _∷_, _++_, append-assoc}
-use mathlib.Core.Bool.{true, false}
+use mathlib.Core.Bool.{Bool, true, false}
 use mathlib.Core.Option.{none, some}
-use Prim.Native.Nat.{ℕ, _+_, _≤_, max}
+use Prim.Native.Nat.{ℕ, _+_, _≤_, _<_, max}
 use native.Mathlib.Omega.{arith}
-use lib.ListN.{length, drop, getD}
-use Rattle.rules_deck.specs.Trees.{Name, Digits, valueOf, Expr, con, var, levels, exprNames, exprConstants, Form, loop, formNames, formConstants, formLevels}
-use Rattle.rules_deck.specs.Tokens.{comma, equals, wordDo, Found, bad, give, ahead, andThen, after, startsDigit, allOf, whole, number, name}
-use Rattle.rules_deck.specs.Grammar.{parameter, doLoop, readDo}
+use lib.ListN.{length, drop, getD, take, length-append}
+use lib.Seq.{getD-take}
+use Rattle.rules_deck.specs.Trees.{Name, Digits, valueOf, Expr, con, var, levels, exprNames, exprConstants, Form, loop, formNames, formConstants, formLevels, elm, neg, par, bin}
+use Rattle.rules_deck.specs.Tokens.{comma, equals, wordDo, Found, bad, give, ahead, andThen, after, allOf, whole, number, name, plusSign, giveIf}
+use Rattle.rules_deck.specs.Grammar.{parameter, doLoop, readDo, parse, anExpression, expression, isParameter}
+use Rattle.rules_deck.proofs.ReadForms.{clash}
 use Rattle.cards.specs.declared.Number.{Number}
 use Rattle.tokens.specs.declared.Sizes.{Sizes}
 use Rattle.tokens.specs.Words.{capped, nameWord, startsWord}
@@ -17,15 +19,14 @@ use Rattle.tokens.specs.Sizes.{sizesOf, both}
 use Rattle.tokens.specs.Reading.{constantSize, nameSize}
 use Rattle.tokens.specs.Reading as reading
 use Rattle.tokens.proofs.Measured.{sizes-join}
-use Rattle.tokens.proofs.Tokens.{number-digit, digit-number, after-none, inside, word-none, word-fits}
-use Rattle.tokens.proofs.Chains.{Upto, give-upto, choose-yes, choose-no, byte-yes, byte-no, upto-as, then-upto, then-bad, Shape, Took, accept, refuse, reads-as, Leads, then-leads, after-leads, word-leads, leads-more, leads-as, leads-bad, leads-upto, whole-some, whole-short, whole-bad}
-use Rattle.items.specs.Items.{exprSizes}
+use Rattle.tokens.proofs.Tokens.{after-none, inside, word-none, word-fits}
+use Rattle.tokens.proofs.Chains.{Upto, give-upto, byte-yes, byte-no, upto-as, then-upto, then-bad, then-none, Shape, Took, accept, refuse, Leads, then-leads, after-leads, word-leads, leads-more, leads-as, leads-bad, leads-upto, whole-some, whole-short, whole-bad}
+use Rattle.items.specs.Items.{opItem, flat, exprSizes}
 use Rattle.forms.specs.declared.Parameter.{Parameter}
 use Rattle.forms.specs.declared.Statement.{Statement}
 use Rattle.forms.specs.declared.Statement.the-variants as statement
 use Rattle.forms.specs.Statements.{asNumber, parameterValue, formSizes, statementOf, answer}
-use Rattle.forms.proofs.Forms.{here}
-use Rattle.loops.specs.declared.GotParameter.{GotParameter}
+use Rattle.forms.proofs.Forms.{here, TookExpr, expr-within, expr-upto, expr-count, expr-table, expr-refused}
 use Rattle.loops.specs.declared.GotParameter.the-variants.{Read, Bad}
 use Rattle.loops.specs.Parameters.{noWeight, ReadsParameter, byOf, parametersOf, EndsBy, EndsDo}
 
@@ -42,30 +43,93 @@ TookName s from at w z = Took nameWord nameSize reading.two s from (name (drop f
 abbrev TookParameter : List ℕ → ℕ → ℕ → Parameter → Sizes → Type 0
 TookParameter s from at w z = Took parameterValue exprSizes noWeight s from (parameter (drop from s)) at w z
 
--- ---- one parameter
+-- ---- one parameter: two words in the table, and no parentheses
+
+two-words : (e : Expr) → 2 ≤ length (flat e)
+unfolding flat
+two-words (con c) = omega arith
+two-words (var v) = omega arith
+two-words (elm v s) = omega arith
+two-words (neg e) = let l = two-words e in omega (arith, length-append (flat e) (10 ∷ []))
+two-words (par e) = two-words e
+two-words (bin o a b) = let l = two-words a in omega (arith, length-append (flat a ++ flat b) (opItem o ∷ []), length-append (flat a) (flat b))
+
+is-one : (e : Expr) → length (flat e) ≡ 2 → levels e ≡ 0 → isParameter e ≡ true
+unfolding flat
+is-one (con c) l d = refl
+is-one (var v) l d = refl
+is-one (elm v s) l d = absurd (omega arith)
+is-one (neg e) l d = absurd (let k = two-words e in omega (arith, length-append (flat e) (10 ∷ [])))
+is-one (par e) l d = absurd (omega arith)
+is-one (bin o a b) l d =
+    absurd (let k = two-words a in let m = two-words b in omega (arith, length-append (flat a ++ flat b) (opItem o ∷ []), length-append (flat a) (flat b)))
+
+one-is : (e : Expr) → isParameter e ≡ true → (length (flat e) ≡ 2) × (levels e ≡ 0)
+unfolding flat
+one-is (con c) i = (refl, refl)
+one-is (var v) i = (refl, refl)
+one-is (elm v s) i = absurd (clash i)
+one-is (neg e) i = absurd (clash i)
+one-is (par e) i = absurd (clash i)
+one-is (bin o a b) i = absurd (clash i)
+
+at : (b : List ℕ) (i : ℕ) → i < 2 → {l : List ℕ} → take 2 b ≡ l → getD b i 0 ≡ getD l i 0
+at b i l q = sym (getD-take 2 b i 0 l) ∙ ap (λ (x : List ℕ). getD x i 0) q
+
+value-of : (e : Expr) (b : List ℕ) → isParameter e ≡ true → take 2 b ≡ flat e → record { kind = getD b 0 0; word = getD b 1 0 } ≡ parameterValue e
+unfolding flat parameterValue
+value-of (con c) b i q = λ j. record { kind = at b 0 (omega arith) q j; word = at b 1 (omega arith) q j }
+value-of (var v) b i q = λ j. record { kind = at b 0 (omega arith) q j; word = at b 1 (omega arith) q j }
+value-of (elm v s) b i q = absurd (clash i)
+value-of (neg e) b i q = absurd (clash i)
+value-of (par e) b i q = absurd (clash i)
+value-of (bin o x y) b i q = absurd (clash i)
 
 module _ (s : List ℕ) (from : ℕ) (le : from ≤ length s) where
-  pub variable-none : name (drop from s) ≡ bad → ReadsParameter s from (andThen name (λ v. give (var v)) (drop from s)) Bad
-  variable-none e = refuse (then-bad s from name _ e) le refl
-
-  pub variable-read : {at w : ℕ} {z : Sizes} → TookName s from at w z
-      → ReadsParameter s from (andThen name (λ v. give (var v)) (drop from s)) (Read at (record { kind = 2; word = w }) z)
-  unfolding parameterValue exprSizes noWeight nameSize reading.two
-  variable-read {at} {w} {z} t =
-      accept (then-upto s from name _ (t .upto) (give-upto s at (var (t .tree)) (t .upto .within)))
-      (ap (λ (x : ℕ). record { kind = 2; word = x }) (t .value-is)) (t .sizes-is) (omega (arith, t .few)) refl
-
-  pub parameter-variable : {r : GotParameter} → number (drop from s) ≡ bad → ReadsParameter s from (andThen name (λ v. give (var v)) (drop from s)) r
-      → ReadsParameter s from (parameter (drop from s)) r
+  pub parameter-plus : getD s from 0 ≡ plusSign → ReadsParameter s from (parameter (drop from s)) Bad
   unfolding parameter
-  parameter-variable e h = reads-as (choose-no s from startsDigit _ _ (number-digit (drop from s) e)) h
+  parameter-plus p = refuse (byte-yes s from plusSign _ _ (omega arith) p) le refl
 
-  pub parameter-constant : {at w : ℕ} {z : Sizes} → TookNumber s from at w z → ReadsParameter s from (parameter (drop from s)) (Read at (record { kind = 1; word = w }) z)
-  unfolding parameter parameterValue exprSizes noWeight constantSize reading.two
-  parameter-constant {at} {w} {z} t =
-      accept (upto-as s from (choose-yes s from startsDigit _ _ (digit-number (drop from s) (t .upto .is)))
-      (then-upto s from number _ (t .upto) (give-upto s at (con (t .tree)) (t .upto .within))))
-      (ap (λ (x : ℕ). record { kind = 1; word = x }) (t .value-is)) (t .sizes-is) (omega (arith, t .few)) refl
+  module _ (ne : getD s from 0 ≡ plusSign → ⊥) where
+    unsigned : parameter (drop from s) ≡ andThen expression (λ e. giveIf (isParameter e) e) (drop from s)
+    unfolding parameter
+    unsigned = byte-no s from plusSign _ _ (omega arith) ne
+
+    pub parameter-none : parse anExpression (drop from s) ≡ bad → ReadsParameter s from (parameter (drop from s)) Bad
+    parameter-none e = refuse (unsigned ∙ then-bad s from expression _ (expr-refused s from e)) le refl
+
+    module _ {a b : List ℕ} {k n : ℕ} {z : Sizes} (t : TookExpr s from a b k n z) where
+      pub parameter-within : from + k ≤ length s
+      parameter-within = expr-within s from le t
+
+      levels-are : z .levels ≡ levels (t .tree)
+      unfolding exprSizes sizesOf
+      levels-are = ap (λ (x : Sizes). x .levels) (t .sizes-is)
+
+      not-one : isParameter (t .tree) ≡ false → ReadsParameter s from (parameter (drop from s)) Bad
+      unfolding giveIf
+      not-one i = refuse (unsigned ∙ then-none s from expression _ (expr-upto s from le t (from + k) refl) (ap (λ (x : Bool). giveIf x (t .tree) (drop (from + k) s)) i)) le refl
+
+      other : (b : Bool) → isParameter (t .tree) ≡ b → (b ≡ true → ⊥) → ReadsParameter s from (parameter (drop from s)) Bad
+      other true i f = absurd (f refl)
+      other false i f = not-one i
+
+      pub parameter-long : (n ≡ 2 → ⊥) → ReadsParameter s from (parameter (drop from s)) Bad
+      parameter-long f = other (isParameter (t .tree)) refl (λ i. f (expr-count s from le t ∙ one-is (t .tree) i .0))
+
+      pub parameter-deep : (z .levels ≡ 0 → ⊥) → ReadsParameter s from (parameter (drop from s)) Bad
+      parameter-deep f = other (isParameter (t .tree)) refl (λ i. f (levels-are ∙ one-is (t .tree) i .1))
+
+      pub parameter-read : n ≡ 2 → z .levels ≡ 0 → ReadsParameter s from (parameter (drop from s)) (Read (from + k) (record { kind = getD b 0 0; word = getD b 1 0 }) z)
+      unfolding giveIf noWeight
+      parameter-read e d =
+          let long : length (flat (t .tree)) ≡ 2 = sym (expr-count s from le t) ∙ e in
+          let i = is-one (t .tree) long (sym levels-are ∙ d) in
+          let given : Upto s (from + k) (giveIf (isParameter (t .tree)) (t .tree) (drop (from + k) s)) (from + k) (t .tree) =
+          record { count = 0; is = ap (λ (x : Bool). giveIf x (t .tree) (drop (from + k) s)) i; ends = omega arith; within = parameter-within }
+          in
+          accept (upto-as s from unsigned (then-upto s from expression _ (expr-upto s from le t (from + k) refl) given))
+          (value-of (t .tree) b i (ap (λ (x : ℕ). take x b) (sym long) ∙ expr-table s from le t)) (t .sizes-is) (omega arith) refl
 
 -- ---- the end of a DO
 

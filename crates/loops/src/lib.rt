@@ -1,9 +1,7 @@
-// DOnv=m,m and DOnv=m,m,m, each m a constant or a variable.
+// DOnv=m,m and DOnv=m,m,m, each m an expression that is a constant or a variable.
 ghost use mathlib.Core.Path.{_≡_};
-ghost use Prim.Native.Nat.{_≤_};
+ghost use Prim.Native.Nat.{_*_, _≤_};
 ghost use lib.ListN.{length, drop};
-ghost use Rattle.rules_deck.specs.Trees as trees;
-ghost use Rattle.rules_deck.specs.Tokens as book;
 ghost use Rattle.rules_deck.specs.Grammar.{parameter, readDo};
 ghost use Rattle.forms.specs.Statements.{answer};
 ghost use Rattle.loops.specs.Parameters.{ReadsParameter, EndsBy, EndsDo};
@@ -11,6 +9,7 @@ use cards::Number;
 use forms::Do;
 use forms::Parameter;
 use forms::Statement;
+use items::Got;
 use tokens::Sizes;
 use tokens::Token;
 
@@ -23,30 +22,29 @@ pub enum GotParameter {
     Bad,
 }
 
-fn read_variable(text: &[u8], from: usize) -> GotParameter
-    requires { ⌜ from ≤ length (now text) ⌝ }
-    ensures { λ r. ⌜ ReadsParameter (now (text .entry)) from (book.andThen book.name (λ v. book.give (trees.var v)) (drop from (now (text .entry)))) r ⌝ }
-{
-    let Token::Read { at, word, sizes } = tokens::read_name(text, from) else {
-        return GotParameter::Bad;
-    };
-    GotParameter::Read {
-        at,
-        parameter: Parameter { kind: 2, word },
-        sizes,
-    }
-}
-
-fn read_parameter(text: &[u8], from: usize) -> GotParameter
-    requires { ⌜ from ≤ length (now text) ⌝ }
+// An expression that is one constant or name, with nothing around it. What the table holds then is free.
+fn read_parameter(text: &[u8], from: usize, items: &mut [u64]) -> GotParameter
+    requires { ⌜ (from ≤ length (now text)) × (4 * length (now text) ≤ length (now items)) ⌝ }
     ensures { λ r. ⌜ ReadsParameter (now (text .entry)) from (parameter (drop from (now (text .entry)))) r ⌝ }
 {
-    let Token::Read { at, word, sizes } = tokens::read_number(text, from) else {
-        return read_variable(text, from);
+    if tokens::byte(text, from) == b'+' {
+        return GotParameter::Bad;
+    }
+    let Got::Read { at, n, sizes } = expressions::expression(&text[from..], items, 0) else {
+        return GotParameter::Bad;
     };
+    if n != 2 {
+        return GotParameter::Bad;
+    }
+    if sizes.levels != 0 {
+        return GotParameter::Bad;
+    }
     GotParameter::Read {
-        at,
-        parameter: Parameter { kind: 1, word },
+        at: from + at,
+        parameter: Parameter {
+            kind: items[0],
+            word: items[1],
+        },
         sizes,
     }
 }
@@ -54,6 +52,7 @@ fn read_parameter(text: &[u8], from: usize) -> GotParameter
 // What follows the second parameter: a third or the end of the text.
 fn read_by(
     text: &[u8],
+    items: &mut [u64],
     from: usize,
     last: Number,
     name: u64,
@@ -61,10 +60,10 @@ fn read_by(
     limit: Parameter,
     sizes: Sizes,
 ) -> Statement
-    requires { ⌜ from ≤ length (now text) ⌝ }
+    requires { ⌜ (from ≤ length (now text)) × (4 * length (now text) ≤ length (now items)) ⌝ }
     ensures { λ r. ⌜ EndsBy (now (text .entry)) from last name first limit sizes r ⌝ }
 {
-    if tokens::byte(text, from) != 44 {
+    if tokens::byte(text, from) != b',' {
         if from != text.len() {
             return Statement::Bad;
         }
@@ -81,7 +80,7 @@ fn read_by(
         at,
         parameter: by,
         sizes: z,
-    } = read_parameter(text, from + 1)
+    } = read_parameter(text, from + 1, items)
     else {
         return Statement::Bad;
     };
@@ -98,34 +97,42 @@ fn read_by(
     })
 }
 
-fn read_parameters(text: &[u8], from: usize, last: Number, name: u64, sizes: Sizes) -> Statement
-    requires { ⌜ from ≤ length (now text) ⌝ }
+fn read_parameters(
+    text: &[u8],
+    items: &mut [u64],
+    from: usize,
+    last: Number,
+    name: u64,
+    sizes: Sizes,
+) -> Statement
+    requires { ⌜ (from ≤ length (now text)) × (4 * length (now text) ≤ length (now items)) ⌝ }
     ensures { λ r. ⌜ EndsDo (now (text .entry)) from last name sizes r ⌝ }
 {
     let GotParameter::Read {
         at: a,
         parameter: first,
         sizes: z,
-    } = read_parameter(text, from)
+    } = read_parameter(text, from, items)
     else {
         return Statement::Bad;
     };
-    if tokens::byte(text, a) != 44 {
+    if tokens::byte(text, a) != b',' {
         return Statement::Bad;
     }
     let GotParameter::Read {
         at: b,
         parameter: limit,
         sizes: y,
-    } = read_parameter(text, a + 1)
+    } = read_parameter(text, a + 1, items)
     else {
         return Statement::Bad;
     };
     let both = tokens::of_both(sizes, tokens::of_both(z, y));
-    read_by(text, b, last, name, first, limit, both)
+    read_by(text, items, b, last, name, first, limit, both)
 }
 
-pub fn read_do(text: &[u8]) -> Statement
+pub fn read_do(text: &[u8], items: &mut [u64]) -> Statement
+    requires { ⌜ 4 * length (now text) ≤ length (now items) ⌝ }
     ensures { λ r. ⌜ r ≡ answer (readDo (now (text .entry))) ⌝ }
 {
     if !tokens::starts_word(text, b"DO") {
@@ -147,8 +154,8 @@ pub fn read_do(text: &[u8]) -> Statement
     else {
         return Statement::Bad;
     };
-    if tokens::byte(text, b) != 61 {
+    if tokens::byte(text, b) != b'=' {
         return Statement::Bad;
     }
-    read_parameters(text, b + 1, forms::number_of(last), name, sizes)
+    read_parameters(text, items, b + 1, forms::number_of(last), name, sizes)
 }

@@ -44,7 +44,7 @@ pub fn read(text: &[u8], items: &mut [u64]) -> Statement
     if is_form(tested) {
         return tested;
     }
-    let looped = loops::read_do(text);
+    let looped = loops::read_do(text, items);
     if is_form(looped) {
         return looped;
     }

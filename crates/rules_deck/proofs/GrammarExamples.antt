@@ -45,6 +45,10 @@ table =
     ∷ record { text = "DO10I(2)=1,2"; form = none }
     ∷ record { text = "DO10I=1,2,3,4"; form = none }
     ∷ record { text = "DO10I=1,-2"; form = none }
+    ∷ record { text = "DO10I=+1,2"; form = none }
+    ∷ record { text = "DO10I=(1),2"; form = none }
+    ∷ record { text = "DO10I=J+1,2"; form = none }
+    ∷ record { text = "DO10I=1,L(2)"; form = none }
     -- IF
     ∷ record { text = "IF(I)=3"; form = some (assign (element (ascii "IF") (one (linear none (ascii "I") nothing))) (con (ascii "3"))) }
     ∷ record { text = "IF(I+J)=3"; form = none }
@@ -102,4 +106,4 @@ Holds (x ∷ xs) = (formOf (ascii (x .text)) ≡ x .form) × Holds xs
 
 pub examples : Holds table
 unfolding isLetterOrDigit give giveIf ahead follow andThen after afterWord choose starts startsDigit allOf whole run digitRun nameRun taken number name listedUpTo listed addend linearOf subscript subscripts place operandOf operand sign signed sumOp productOp joined more step parseIn enough parse expression assignment plainGoTo rightExits computedGoTo arithmeticIf parameter doLoop arrayShape dimensions readAssignment readGoTo readComputed readIf readDo readContinue readStop readEnd readDimension present readings firstOf formOf
-examples = (refl, (refl, (refl, (refl, (refl, (refl, (refl, (refl, (refl, (refl, (refl, (refl, (refl, (refl, (refl, (refl, (refl, (refl, (refl, (refl, (refl, (refl, (refl, (refl, (refl, (refl, (refl, (refl, (refl, (refl, (refl, (refl, (refl, (refl, (refl, (refl, (refl, (refl, (refl, (refl, (refl, (refl, (refl, (refl, (refl, (refl, (refl, (refl, (refl, (refl, (refl, (refl, (refl, (refl, (refl, (refl, (refl, tt)))))))))))))))))))))))))))))))))))))))))))))))))))))))))
+examples = (refl, (refl, (refl, (refl, (refl, (refl, (refl, (refl, (refl, (refl, (refl, (refl, (refl, (refl, (refl, (refl, (refl, (refl, (refl, (refl, (refl, (refl, (refl, (refl, (refl, (refl, (refl, (refl, (refl, (refl, (refl, (refl, (refl, (refl, (refl, (refl, (refl, (refl, (refl, (refl, (refl, (refl, (refl, (refl, (refl, (refl, (refl, (refl, (refl, (refl, (refl, (refl, (refl, (refl, (refl, (refl, (refl, (refl, (refl, (refl, (refl, tt)))))))))))))))))))))))))))))))))))))))))))))))))))))))))))))

@@ -5,21 +5,20 @@ use mathlib.Core.Path.{_≡_, refl, sym, ap, _∙_, subst}
 use mathlib.Core.List.{List, [], _∷_, _++_}
 use mathlib.Core.Bool.{Bool, true, false, cond}
 use mathlib.Core.Option.{Option, some, none}
-use Prim.Native.Nat.{ℕ, zero, suc, _+_, _≤_, _<_}
+use Prim.Native.Nat.{ℕ, zero, suc, _+_, _<_}
 use native.Mathlib.Omega.{arith}
 use lib.ListN.{length, take, drop, getD, getElem?, length-drop}
 use lib.Seq.{drop-length}
 use lib.Dec.{eqb}
 use borrow.Author.Tests.{ne-eqb}
 use Rattle.rules_shared.specs.Lists.{Each, each-more}
-use Rattle.rules_deck.specs.Trees.{Name, Expr, con, var, par, cell, element, Form, goTo, continue, stop, end}
-use Rattle.rules_deck.specs.Tokens.{leftParen, rightParen, plusSign, minusSign, comma, equals, wordGoTo, wordIf, wordDo, wordContinue, wordStop, wordEnd, wordDimension, found, Reader, give, andThen, after, afterWord, choose, starts, startsDigit, whole, number, name}
-use Rattle.rules_deck.specs.Grammar.{subscripts, place, operandOf, operand, sign, signed, sumOp, productOp, anExpression, aTerm, aFactor, moreTerms, moreFactors, joined, more, step, parse, expression, assignment, plainGoTo, computedGoTo, arithmeticIf, parameter, doLoop, dimensions, readAssignment, readGoTo, readComputed, readIf, readDo, readContinue, readStop, readEnd, readDimension, present, readings, firstOf, formOf}
-use Rattle.rules_deck.proofs.Parse.{parse-step}
-use Rattle.rules_deck.proofs.Readers.{NotEquals, digit-bounds, letter-bounds, Good, good-number, good-name}
+use Rattle.rules_deck.specs.Trees.{Name, Expr, Form, goTo, continue, stop, end}
+use Rattle.rules_deck.specs.Tokens.{leftParen, plusSign, comma, equals, wordGoTo, wordIf, wordDo, wordContinue, wordStop, wordEnd, wordDimension, found, bad, Reader, give, giveIf, andThen, after, afterWord, choose, starts, whole, number, name}
+use Rattle.rules_deck.specs.Grammar.{place, more, expression, assignment, plainGoTo, computedGoTo, arithmeticIf, isParameter, parameter, doLoop, dimensions, readAssignment, readGoTo, readComputed, readIf, readDo, readContinue, readStop, readEnd, readDimension, present, readings, firstOf, formOf}
+use Rattle.rules_deck.proofs.Readers.{NotEquals, digit-bounds, Good, good-number, good-name}
 use Rattle.rules_deck.proofs.ReadTrees.{good-place}
 use Rattle.rules_deck.proofs.ReadForms.{whole-found, whole-good, sound-is, good-go-to, good-computed, good-if, good-continue, good-stop, good-end, good-dimension}
-use Rattle.rules_deck.proofs.Found.{then-ends, then-goes-on, then-found, after-found, word-found, number-starts, name-starts}
+use Rattle.rules_deck.proofs.Found.{not-found, then-found, after-found, word-found, number-starts}
 
 -- ---- what follows the first =
 
@@ -115,91 +114,31 @@ loops s f e =
       opened = opens _ (two .right) f (two .more) (two .other);
     }
 
--- ---- an expression that starts with a parameter and a comma is that parameter
+-- ---- a parameter is what an expression reads there
 
-record Begins (s : List ℕ) : Type 0 where
-  byte : ℕ
-  rest : List ℕ
-  is : s ≡ byte ∷ rest
-  high : 48 ≤ byte
-
-parameter-begins : (s : List ℕ) (e : Expr) (k : ℕ) → parameter s ≡ found e k → Begins s
-unfolding parameter choose
-parameter-begins s e k p = go (startsDigit s) p
+parameter-reads : (s : List ℕ) (e : Expr) (k : ℕ) → parameter s ≡ found e k → expression s ≡ found e k
+unfolding parameter choose giveIf
+parameter-reads s e k p = go (starts plusSign s) p
   where
-    go : (b : Bool) → cond b (andThen number (λ c. give (con c)) s) (andThen name (λ v. give (var v)) s) ≡ found e k → Begins s
-    go true q =
-        let one = then-found number _ s e k q in
-        let first = number-starts s (one .first) (one .took) (one .one) in
-        record { byte = first .byte; rest = first .rest; is = first .is; high = digit-bounds (first .byte) (first .passes) .0 }
+    given : (b : Bool) (x : Expr) (j i : ℕ) → expression s ≡ found x j → giveIf b x (drop j s) ≡ found e i → k ≡ j + i → expression s ≡ found e k
+    given true x j i r g a =
+        let tree : x ≡ e = cc in
+        let nothing : i ≡ 0 = cc in
+        let same : j ≡ k = omega arith in
+        r ∙ ap (λ (y : Expr). found y j) tree ∙ ap (found e) same
+    given false x j i r g a = absurd (not-found g)
+
+    go : (b : Bool) → cond b bad (andThen expression (λ x. giveIf (isParameter x) x) s) ≡ found e k → expression s ≡ found e k
+    go true q = absurd (not-found q)
     go false q =
-        let one = then-found name _ s e k q in
-        let first = name-starts s (one .first) (one .took) (one .one) in
-        let bounds = letter-bounds (first .byte) (first .passes) in
-        record { byte = first .byte; rest = first .rest; is = first .is; high = omega (arith, bounds .0) }
-
-not-start : (c : ℕ) (s : List ℕ) → Begins s → c < 48 → starts c s ≡ false
-unfolding starts
-not-start c s b l = ap (starts c) (b .is) ∙ ne-eqb (b .byte) c (λ e. omega (arith, b .high))
-
-sign-none : (s : List ℕ) → Begins s → sign s ≡ found false 0
-unfolding sign choose give
-sign-none s b =
-    ap (λ (t : Bool). cond t (after plusSign (give false) s) (cond (starts minusSign s) (after minusSign (give true) s) (found false 0)))
-    (not-start plusSign s b (omega arith))
-    ∙ ap (λ (t : Bool). cond t (after minusSign (give true) s) (found false 0)) (not-start minusSign s b (omega arith))
-
--- what a parameter reads is also an operand, where a comma follows
-operand-is : (s rest : List ℕ) (e : Expr) (k : ℕ) → parameter s ≡ found e k → drop k s ≡ comma ∷ rest → operand s ≡ found e k
-unfolding parameter operand place choose give starts operandOf
-operand-is s rest e k p d = go (startsDigit s) p
-  where
-    go : (b : Bool) → cond b (andThen number (λ c. give (con c)) s) (andThen name (λ v. give (var v)) s) ≡ found e k
-        → cond b (andThen number (λ c. give (con c)) s) (andThen place (λ t. give (operandOf t)) s) ≡ found e k
-    go true q = q
-    go false q =
-        let one = then-found name (λ v. give (var v)) s e k q in
-        plain (one .first) (one .took) (one .more) (one .one) (one .other) (one .adds)
-      where
-        plain : (v : Name) (j i : ℕ) → name s ≡ found v j → give (var v) (drop j s) ≡ found e i → k ≡ j + i
-            → andThen place (λ t. give (operandOf t)) s ≡ found e k
-        plain v j i n g a =
-            let nothing : i ≡ 0 = cc in
-            let tree : var v ≡ e = cc in
-            let same : j ≡ k = omega arith in
-            let next : drop j s ≡ comma ∷ rest = ap (λ (x : ℕ). drop x s) same ∙ d in
-            let is : place s ≡ found (cell v) j = then-ends name _ s v (cell v) j n (ap (choose (starts leftParen) (andThen subscripts (λ u. give (element v u))) (give (cell v))) next) in
-            then-ends place _ s (cell v) (var v) j is refl ∙ ap (found (var v)) same ∙ ap (λ (x : Expr). found x k) tree
-
-ends-factors : (e : Expr) (rest : List ℕ) → parse (moreFactors e) (comma ∷ rest) ≡ found e 0
-unfolding step more productOp joined
-ends-factors e rest = parse-step (moreFactors e) (comma ∷ rest)
-
-ends-terms : (e : Expr) (rest : List ℕ) → parse (moreTerms e) (comma ∷ rest) ≡ found e 0
-unfolding step more sumOp joined
-ends-terms e rest = parse-step (moreTerms e) (comma ∷ rest)
-
-parameter-alone : (s rest : List ℕ) (e : Expr) (k : ℕ) → parameter s ≡ found e k → drop k s ≡ comma ∷ rest → expression s ≡ found e k
-unfolding expression step signed choose
-parameter-alone s rest e k p d =
-    let b = parameter-begins s e k p in
-    let factor : parse aFactor s ≡ found e k =
-    parse-step aFactor s
-    ∙ ap (λ (t : Bool). cond t (after leftParen (andThen (parse anExpression) (λ x. after rightParen (give (par x)))) s) (operand s)) (not-start leftParen s b (omega arith))
-    ∙ operand-is s rest e k p d
-    in
-    let term : parse aTerm s ≡ found e k =
-    parse-step aTerm s ∙ then-ends (parse aFactor) (λ x. parse (moreFactors x)) s e e k factor (ap (parse (moreFactors e)) d ∙ ends-factors e rest)
-    in
-    parse-step anExpression s
-    ∙ then-goes-on sign _ s false (sign-none s b)
-    ∙ then-ends (parse aTerm) (λ x. parse (moreTerms x)) s e e k term (ap (parse (moreTerms e)) d ∙ ends-terms e rest)
+        let one = then-found expression (λ x. giveIf (isParameter x) x) s e k q in
+        given (isParameter (one .first)) (one .first) (one .took) (one .more) (one .one) (one .other) (one .adds)
 
 not-both : (s : List ℕ) → Assigns s → Loops s → ⊥
 not-both s a l =
     let same : a .right ≡ l .right = cc in
     let o = l .opened in
-    let alone = parameter-alone (l .right) (o .rest) (o .tree) (o .took) (o .reads) (o .ends) in
+    let alone = parameter-reads (l .right) (o .tree) (o .took) (o .reads) in
     let reads : expression (l .right) ≡ found (a .tree) (length (l .right)) = subst (λ (r : List ℕ). expression r ≡ found (a .tree) (length r)) same (a .reads) in
     let long : o .took ≡ length (l .right) = cc in
     let after-it = ap length (o .ends) in

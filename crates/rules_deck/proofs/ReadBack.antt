@@ -86,6 +86,10 @@ ends-paren : (rest : List ℕ) → EndsSum (rightParen ∷ rest)
 unfolding isLetterOrDigit productOp sumOp
 ends-paren rest = record { product = record { operand = ends-byte rightParen rest refl refl; noFactor = no-op-byte refl }; noTerm = no-op-byte refl }
 
+ends-comma : (rest : List ℕ) → EndsSum (comma ∷ rest)
+unfolding isLetterOrDigit productOp sumOp
+ends-comma rest = record { product = record { operand = ends-byte comma rest refl refl; noFactor = no-op-byte refl }; noTerm = no-op-byte refl }
+
 ends-text : EndsSum []
 unfolding starts
 ends-text = record { product = record { operand = record { noWord = clear-none; noParen = refl }; noFactor = no-op-none }; noTerm = no-op-none }
@@ -300,10 +304,10 @@ takes-expression {t} {e} p rest k = takes-as refl (goes p e rest rest (k .produc
 
 -- ---- the parts of statements
 
-takes-parameter : (e : Expr) (rest : List ℕ) → IsNumberOrName e → Clear isLetterOrDigit rest → Takes parameter (spellExpr e ++ rest) e rest
+takes-parameter : (e : Expr) (rest : List ℕ) → IsNumberOrName e → EndsSum rest → Takes parameter (spellExpr e ++ rest) e rest
 unfolding parameter
-takes-parameter (con c) rest q k = takes-yes _ _ (starts-digit c rest q) (takes-then _ (takes-number c rest q (no-digit k)) (takes-give _ _))
-takes-parameter (var v) rest q k = takes-no _ _ (starts-no-digit v rest q) (takes-then _ (takes-name v rest q k) (takes-give _ _))
+takes-parameter (con c) rest q k = takes-no _ _ (number-not plusSign c rest (omega arith) q) (takes-then _ (takes-expression (first (only (a-number q))) rest k) (takes-give-if _ _ _ refl))
+takes-parameter (var v) rest q k = takes-no _ _ (name-not plusSign v rest (omega arith) q) (takes-then _ (takes-expression (first (only (a-name q))) rest k) (takes-give-if _ _ _ refl))
 takes-parameter (elm v s) rest q k = absurd q
 takes-parameter (neg e) rest q k = absurd q
 takes-parameter (par e) rest q k = absurd q
@@ -323,10 +327,9 @@ takes-array (array v r (some c)) rest (qv, qr, qc) =
 name-clear : (v x y : List ℕ) → IsName v → Clear isDigit ((v ++ x) ++ y)
 name-clear (c ∷ s) x y (is-name p ps) = clear-byte (letter-no-digit c p)
 
-by-clear : (r : Option Expr) → Clear isLetterOrDigit (spellBy r ++ [])
-unfolding isLetterOrDigit
-by-clear none = clear-none
-by-clear (some e) = clear-byte refl
+by-ends : (r : Option Expr) → EndsSum (spellBy r ++ [])
+by-ends none = ends-text
+by-ends (some e) = ends-comma _
 
 right-exits : (ns : List Digits) → limits .fewestExits ≤ length ns → length ns ≤ limits .mostExits → rightExits ns ≡ true
 unfolding rightExits
@@ -378,13 +381,13 @@ unfolding doLoop isLetterOrDigit starts
 takes-loop n v p q r qn qv qp qq qr =
     takes-word wordDo (takes-both _ n (v ++ (equals ∷ spellExpr p ++ (comma ∷ spellExpr q ++ spellBy r))) [] (takes-number n _ qn (name-clear v _ [] qv))
     (takes-both _ v (equals ∷ spellExpr p ++ (comma ∷ spellExpr q ++ spellBy r)) [] (takes-name v _ qv (clear-byte refl))
-    (takes-after equals (takes-both _ (spellExpr p) (comma ∷ spellExpr q ++ spellBy r) [] (takes-parameter p _ qp (clear-byte refl))
-    (takes-after comma (takes-both _ (spellExpr q) (spellBy r) [] (takes-parameter q _ qq (by-clear r)) (third r qr)))))))
+    (takes-after equals (takes-both _ (spellExpr p) (comma ∷ spellExpr q ++ spellBy r) [] (takes-parameter p _ qp (ends-comma _))
+    (takes-after comma (takes-both _ (spellExpr q) (spellBy r) [] (takes-parameter q _ qq (by-ends r)) (third r qr)))))))
   where
     third : (x : Option Expr) → IsBy x
         → Takes (choose (starts comma) (after comma (andThen parameter (λ by. give (loop n v p q (some by))))) (give (loop n v p q none))) (spellBy x ++ []) (loop n v p q x) []
     third none h = takes-no _ _ refl (takes-give _ _)
-    third (some e) h = takes-yes _ _ refl (takes-after comma (takes-then _ (takes-parameter e [] h clear-none) (takes-give _ _)))
+    third (some e) h = takes-yes _ _ refl (takes-after comma (takes-then _ (takes-parameter e [] h ends-text) (takes-give _ _)))
 
 takes-dimension : (a : Array) (others : List Array) → IsArray a → Each IsArray others
     → Takes dimensions (spellForm (dimension (a ∷ others)) ++ []) (dimension (a ∷ others)) []

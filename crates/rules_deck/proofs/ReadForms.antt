@@ -12,17 +12,13 @@ use borrow.Author.Tests.{leb-true, eqb-true}
 use Rattle.rules_shared.specs.Limits.{limits}
 use Rattle.rules_shared.specs.Lists.{Each, each-none, each-more}
 use Rattle.rules_shared.proofs.EachLaws.{each-one, each-append}
-use Rattle.rules_deck.specs.Trees.{Name, Digits, Expr, con, var, optional, Array, array, arrayNames, arrayConstants, Form, assign, goTo, computed, ifs, loop, continue, stop, end, dimension, formNames, formConstants, formExits, formLast}
+use Rattle.rules_deck.specs.Trees.{Expr, con, var, elm, neg, par, bin, optional, Array, array, arrayNames, arrayConstants, Form, assign, goTo, computed, ifs, loop, continue, stop, end, dimension, formNames, formConstants, formExits, formLast}
 use Rattle.rules_deck.specs.Tokens.{leftParen, rightParen, comma, equals, wordContinue, wordStop, wordEnd, Found, found, bad, Reader, give, afterWord, allOf, whole}
-use Rattle.rules_deck.specs.Grammar.{assignment, plainGoTo, rightExits, computedGoTo, arithmeticIf, parameter, doLoop, arrayShape, dimensions, readAssignment, readGoTo, readComputed, readIf, readDo, readContinue, readStop, readEnd, readDimension, present, readings, firstOf, formOf}
+use Rattle.rules_deck.specs.Grammar.{assignment, plainGoTo, rightExits, computedGoTo, arithmeticIf, isParameter, parameter, doLoop, arrayShape, dimensions, readAssignment, readGoTo, readComputed, readIf, readDo, readContinue, readStop, readEnd, readDimension, present, readings, firstOf, formOf}
+use Rattle.rules_deck.specs.Accepted.{IsParameter}
 use Rattle.rules_deck.specs.Spelling.{IsDigits, IsName}
 use Rattle.rules_deck.proofs.Readers.{NotEquals, Any, both-true, Sound, sound, sound-bad, Good, good-then, good-give, good-give-if, good-after, good-word, good-choose, good-listed, good-any, good-number, good-name}
 use Rattle.rules_deck.proofs.ReadTrees.{Right, right-join, RightExpr, good-place, good-expression}
-
--- a DO's parameter is a c or a v
-pub data IsParameter : Expr → Type 0 where
-  a-constant : {c : Digits} → IsParameter (con c)
-  a-variable : {v : Name} → IsParameter (var v)
 
 pub data MaybeParameter : Option Expr → Type 0 where
   not-written : MaybeParameter none
@@ -109,11 +105,20 @@ good-if =
       exitCount = tt;
     })))))))))
 
+pub clash : false ≡ true → ⊥
+clash e = let z : _≡_ {A = ℕ} 0 1 = cc in omega arith
+
+pub is-parameter : (e : Expr) → isParameter e ≡ true → IsParameter e
+is-parameter (con c) t = IsParameter.constant
+is-parameter (var v) t = IsParameter.name
+is-parameter (elm v s) t = absurd (clash t)
+is-parameter (neg e) t = absurd (clash t)
+is-parameter (par e) t = absurd (clash t)
+is-parameter (bin o a b) t = absurd (clash t)
+
 pub good-parameter : Good NotEquals (λ e. IsParameter e × RightExpr e) parameter
 unfolding parameter
-good-parameter =
-    good-choose _ (good-then good-number (λ c q. good-give _ (a-constant, (each-none, each-one q))))
-    (good-then good-name (λ v q. good-give _ (a-variable, (each-one q, each-none))))
+good-parameter = good-choose _ (record { on = λ s. sound-bad }) (good-then good-expression (λ e q. good-give-if _ _ (λ t. (is-parameter e t, q))))
 
 pub good-do : Good Any RightForm doLoop
 unfolding doLoop formNames formConstants formExits formLast

@@ -19,7 +19,7 @@ use Rattle.rules_deck.specs.Grammar.{operandOf, operand, sign, signed, s
 use Rattle.rules_deck.specs.Accepted.{IsSum, first, minus, plus, less, IsProduct, only, times, over, IsFactor, parens, IsParameter, Shaped}
 use Rattle.rules_deck.proofs.Readers.{Any, both-true, Sound, sound, sound-bad, sound-ahead, Good, good-then, good-give, good-give-if, good-after, good-word, good-choose, good-listed, good-any, good-number, good-name}
 use Rattle.rules_deck.proofs.ReadTrees.{good-place}
-use Rattle.rules_deck.proofs.ReadForms.{whole-good}
+use Rattle.rules_deck.proofs.ReadForms.{is-parameter, whole-good}
 
 abbrev Anything : (A : Type 0) → A → Type 0
 Anything A a = Unit {0}
@@ -145,9 +145,7 @@ good-computed =
 
 good-parameter : Good Any IsParameter parameter
 unfolding parameter
-good-parameter =
-    good-choose _ (good-then (good-any good-number) (λ c q. good-give _ IsParameter.constant))
-    (good-then (good-any good-name) (λ v q. good-give _ IsParameter.name))
+good-parameter = good-choose _ (record { on = λ s. sound-bad }) (good-then good-expression (λ e q. good-give-if _ _ (λ t. is-parameter e t)))
 
 good-do : Good Any Shaped doLoop
 unfolding doLoop

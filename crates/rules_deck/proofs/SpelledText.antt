@@ -1,23 +1,24 @@
 -- What was read as a form spells it: subscripts, targets, expressions, each statement form, and so the whole text.
 -- Assumes nothing.
-use mathlib.Core.Path.{_≡_, refl, sym, _∙_, subst}
+use mathlib.Core.Path.{_≡_, refl, sym, ap, _∙_, subst}
 use mathlib.Core.List.{List, [], _∷_, _++_, append-assoc, append-nil}
 use mathlib.Core.Bool.{Bool, true, false, cond}
 use mathlib.Core.Option.{Option, some, none}
-use Prim.Native.Nat.{ℕ, zero, suc}
+use Prim.Native.Nat.{ℕ, zero, suc, _+_}
 use native.Mathlib.Omega.{arith}
-use lib.ListN.{length}
+use lib.ListN.{length, drop}
 use lib.Dec.{leb, eqb}
 use borrow.Author.Tests.{leb-true, eqb-true}
 use Rattle.number.specs.Number.{Op, add, sub, mul, div}
 use Rattle.rules_shared.specs.Limits.{limits}
 use Rattle.rules_shared.specs.Lists.{Each, each-none, each-more}
 use Rattle.rules_shared.proofs.EachLaws.{each-head, each-tail, each-one, each-append}
-use Rattle.rules_deck.specs.Trees.{Name, Digits, Addend, Subscript, linear, Subscripts, Expr, con, var, bin, Target, cell, element, Array, Form, assign, goTo, computed, ifs, loop, dimension, addendConstants, subscriptNames, subscriptConstants, subscriptsNames, subscriptsConstants}
-use Rattle.rules_deck.specs.Tokens.{leftParen, rightParen, star, plusSign, comma, minusSign, slash, equals, wordGoTo, wordIf, wordDo, wordContinue, wordStop, wordEnd, wordDimension, Reader, andThen}
-use Rattle.rules_deck.specs.Grammar.{addend, linearOf, subscript, subscripts, place, operandOf, operand, sign, signed, sumOp, productOp, Mode, anExpression, aTerm, aFactor, moreTerms, moreFactors, joined, more, step, parseIn, enough, parse, expression, assignment, plainGoTo, rightExits, computedGoTo, arithmeticIf, parameter, doLoop, arrayShape, dimensions, readAssignment, readGoTo, readComputed, readIf, readDo, readContinue, readStop, readEnd, readDimension, present, readings, firstOf, formOf}
+use Rattle.rules_deck.specs.Trees.{Name, Digits, Addend, Subscript, linear, Subscripts, Expr, con, var, elm, neg, par, bin, Target, cell, element, Array, Form, assign, goTo, computed, ifs, loop, dimension, addendConstants, subscriptNames, subscriptConstants, subscriptsNames, subscriptsConstants}
+use Rattle.rules_deck.specs.Tokens.{leftParen, rightParen, star, plusSign, comma, minusSign, slash, equals, wordGoTo, wordIf, wordDo, wordContinue, wordStop, wordEnd, wordDimension, Found, found, bad, Reader, giveIf, ahead, follow, andThen, choose, starts}
+use Rattle.rules_deck.specs.Grammar.{addend, linearOf, subscript, subscripts, place, operandOf, operand, sign, signed, sumOp, productOp, Mode, anExpression, aTerm, aFactor, moreTerms, moreFactors, joined, more, step, parseIn, enough, parse, expression, assignment, plainGoTo, rightExits, computedGoTo, arithmeticIf, isParameter, parameter, doLoop, arrayShape, dimensions, readAssignment, readGoTo, readComputed, readIf, readDo, readContinue, readStop, readEnd, readDimension, present, readings, firstOf, formOf}
 use Rattle.rules_deck.specs.Spelling.{spellAddend, spellSubscript, spellSubscripts, spellTarget, spellExpr, spellNumber, spellArray, spellBy, spellForm, IsDigits, IsName, Words, IsTarget, IsArray, IsNumberOrName, IsBy, aSum, aProduct, aFactor, SpellsPart, first, after-plus, after-minus, added, less, only, times, over, a-number, a-name, an-element, parens, Spells, an-assignment, a-go-to, a-computed, an-if, a-loop, a-continue, a-stop, an-end, a-dimension}
 use Rattle.rules_deck.proofs.Readers.{both-true}
+use Rattle.rules_deck.proofs.ReadForms.{clash}
 use Rattle.rules_deck.proofs.Tells.{Told, told, told-bad, Tells, told-ahead, tells-map, tells-then, tells-give, tells-give-if, tells-last, tells-after, tells-word, tells-choose, tells-whole, tells-number, tells-name, SpelledList, tells-listed}
 
 -- ---- subscripts and targets
@@ -246,9 +247,34 @@ tells-if =
 abbrev ParameterText : List ℕ → Expr → Type 0
 ParameterText t e = (t ≡ spellExpr e) × IsNumberOrName e
 
+-- one c or v with no plus before it is its own text
+alone : (e : Expr) (t rest : List ℕ) → SpellsPart aSum t e → isParameter e ≡ true → starts plusSign (t ++ rest) ≡ false → ParameterText t e
+unfolding starts
+alone (con c) t rest (first (only (a-number q))) i n = (refl, q)
+alone (con c) t rest (after-plus p) i n = absurd (clash (sym n))
+alone (var v) t rest (first (only (a-name q))) i n = (refl, q)
+alone (var v) t rest (after-plus p) i n = absurd (clash (sym n))
+alone (elm v s) t rest p i n = absurd (clash i)
+alone (neg e) t rest p i n = absurd (clash i)
+alone (par e) t rest p i n = absurd (clash i)
+alone (bin o a b) t rest p i n = absurd (clash i)
+
 tells-parameter : Tells ParameterText parameter
-unfolding parameter
-tells-parameter = tells-choose _ (tells-last _ tells-number (λ c t q. (q .0, q .1))) (tells-last _ tells-name (λ v t q. (q .0, q .1)))
+unfolding parameter choose andThen follow giveIf ahead
+tells-parameter = record { on = λ s. unsigned s (starts plusSign s) refl }
+  where
+    tested : (s t rest : List ℕ) (e : Expr) (k : ℕ) → s ≡ t ++ rest → k ≡ length t → SpellsPart aSum t e → starts plusSign s ≡ false
+        → (b : Bool) → isParameter e ≡ b → Told ParameterText s (ahead k (giveIf b e (drop k s)))
+    tested s t rest e k is l p n true i = told (k + 0) t rest is (omega arith) (alone e t rest p i (ap (starts plusSign) (sym is) ∙ n))
+    tested s t rest e k is l p n false i = told-bad
+
+    read : (s : List ℕ) (o : Found Expr) → starts plusSign s ≡ false → Told (SpellsPart aSum) s o → Told ParameterText s (follow o (λ e. giveIf (isParameter e) e) s)
+    read s (found e _) n (told k t rest is l p) = tested s t rest e k is l p n (isParameter e) refl
+    read s bad n told-bad = told-bad
+
+    unsigned : (s : List ℕ) (b : Bool) → starts plusSign s ≡ b → Told ParameterText s (cond b bad (andThen expression (λ e. giveIf (isParameter e) e) s))
+    unsigned s true n = told-bad
+    unsigned s false n = read s (expression s) n (tells-expression .on s)
 
 loop-from : (n : Digits) (v : Name) (p q : Expr) (r : Option Expr) (t u x y z : List ℕ) → (t ≡ n) × IsDigits n → (u ≡ v) × IsName v
     → ParameterText x p → ParameterText y q → (z ≡ spellBy r) × IsBy r

@@ -137,9 +137,18 @@ arithmeticIf =
     afterWord wordIf (after leftParen (andThen expression (λ e. after rightParen
     (andThen number (λ below. after comma (andThen number (λ at. after comma (andThen number (λ above. give (ifs e below at above))))))))))
 
--- a DO's parameter: a c or a v
+-- an expression that is one c or one v
+abbrev pub isParameter : Expr → Bool
+isParameter (con c) = true
+isParameter (var v) = true
+isParameter (elm v s) = false
+isParameter (neg e) = false
+isParameter (par e) = false
+isParameter (bin o a b) = false
+
+-- A DO's parameter is read as an expression and then tested. No tree keeps a plus that stands first, so it is refused before.
 unfoldable pub parameter : Reader Expr
-parameter = choose startsDigit (andThen number (λ c. give (con c))) (andThen name (λ v. give (var v)))
+parameter = choose (starts plusSign) (λ s. bad) (andThen expression (λ e. giveIf (isParameter e) e))
 
 -- DOnv=m,m or DOnv=m,m,m
 unfoldable pub doLoop : Reader Form

@@ -17,12 +17,12 @@ starts-word-requires c κs = search needs
 
 returns : tie.Need-returns
 returns c =
-    let s = c .before .before .before .before .args .text .now in
+    let s = c .before .before .before .before .before .args .text .now in
     do-no-word s (sym (c .before .starts-word .ensures) ∙ not-true _ (c .if1 .taken))
 
 read-number-requires : tie.Need-read-number-requires
 read-number-requires c κs =
-    let s = c .before .before .before .before .args .text .now in
+    let s = c .before .before .before .before .before .args .text .now in
     let w = sym (c .before .starts-word .ensures) ∙ not-false _ (c .if1 .left) in
     do-fits s w
 
@@ -34,7 +34,7 @@ enum-told c = search needs
 
 returns-2 : tie.Need-returns-2
 returns-2 c =
-    let s = c .before .before .before .before .before .before .before .args .text .now in
+    let s = c .before .before .before .before .before .before .before .before .args .text .now in
     let w = sym (c .before .before .before .before .starts-word .ensures) ∙ not-false _ (c .before .before .before .if1 .left) in
     do-no-number s w (refused token-shape (c .before .before .read-number .ensures) (c .enum-told .given .1))
 
@@ -51,7 +51,7 @@ enum-told-2 c = search needs
 
 returns-3 : tie.Need-returns-3
 returns-3 c =
-    let s = c .before .before .before .before .before .before .before .before .before .before .before .args .text .now in
+    let s = c .before .before .before .before .before .before .before .before .before .before .before .before .args .text .now in
     let w = sym (c .before .before .before .before .before .before .before .before .starts-word .ensures) ∙ not-false _ (c .before .before .before .before .before .before .before .if1 .left) in
     let t = took token-shape (c .before .before .before .before .before .before .read-number .ensures) (c .before .before .before .before .a .given .1) in
     do-no-name s w t (refused token-shape (c .before .before .read-name .ensures) (c .enum-told2 .given .1))
@@ -61,7 +61,7 @@ byte-requires c κs = search needs
 
 returns-4 : tie.Need-returns-4
 returns-4 c =
-    let s = c .before .before .before .before .before .before .before .before .before .before .before .before .before .before .args .text .now in
+    let s = c .before .before .before .before .before .before .before .before .before .before .before .before .before .before .before .args .text .now in
     let w = sym (c .before .before .before .before .before .before .before .before .before .before .before .starts-word .ensures) ∙ not-false _ (c .before .before .before .before .before .before .before .before .before .before .if1 .left) in
     let t = took token-shape (c .before .before .before .before .before .before .before .before .before .read-number .ensures) (c .before .before .before .before .before .before .before .a .given .1) in
     let u = took token-shape (c .before .before .before .before .before .read-name .ensures) (c .before .before .before .b .given .1) in
@@ -69,35 +69,38 @@ returns-4 c =
 
 add-read-parameters : tie.Need-add-read-parameters
 add-read-parameters c =
-    let s = c .before .before .before .before .before .before .before .before .before .before .before .before .before .before .args .text .now in
-    let w = sym (c .before .before .before .before .before .before .before .before .before .before .before .starts-word .ensures) ∙ not-false _ (c .before .before .before .before .before .before .before .before .before .before .if1 .left) in
-    let t = took token-shape (c .before .before .before .before .before .before .before .before .before .read-number .ensures) (c .before .before .before .before .before .before .before .a .given .1) in
-    let u = took token-shape (c .before .before .before .before .before .read-name .ensures) (c .before .before .before .b .given .1) in
-    let e = sym (c .before .byte .ensures) ∙ c .if2 .left in
-    omega (arith, do-inside s w t u e)
-
-number-of-requires : tie.Need-number-of-requires
-number-of-requires c κs =
-    let t = took token-shape (c .before .before .before .before .before .before .before .before .before .read-number .ensures) (c .before .before .before .before .before .before .before .a .given .1) in
-    number-fits (t .tree) (t .value-is)
-
-read-parameters-requires : tie.Need-read-parameters-requires
-read-parameters-requires c κs =
-    let s = c .before .before .before .before .before .before .before .before .before .before .before .before .before .before .before .args .text .now in
+    let s = c .before .before .before .before .before .before .before .before .before .before .before .before .before .before .before .before .args .text .now in
     let w = sym (c .before .before .before .before .before .before .before .before .before .before .before .before .starts-word .ensures) ∙ not-false _ (c .before .before .before .before .before .before .before .before .before .before .before .if1 .left) in
     let t = took token-shape (c .before .before .before .before .before .before .before .before .before .before .read-number .ensures) (c .before .before .before .before .before .before .before .before .a .given .1) in
     let u = took token-shape (c .before .before .before .before .before .before .read-name .ensures) (c .before .before .before .before .b .given .1) in
     let e = sym (c .before .before .byte .ensures) ∙ c .before .if2 .left in
-    do-inside s w t u e
+    omega (arith, do-inside s w t u e)
 
-returns-5 : tie.Need-returns-5
-returns-5 c =
-    let s = c .before .before .before .before .before .before .before .before .before .before .before .before .before .before .before .before .args .text .now in
+number-of-requires : tie.Need-number-of-requires
+number-of-requires c κs =
+    let t = took token-shape (c .before .before .before .before .before .before .before .before .before .before .read-number .ensures) (c .before .before .before .before .before .before .before .before .a .given .1) in
+    number-fits (t .tree) (t .value-is)
+
+read-parameters-requires : tie.Need-read-parameters-requires
+read-parameters-requires c κs =
+    let s = c .before .before .before .before .before .before .before .before .before .before .before .before .before .before .before .before .before .args .text .now in
     let w = sym (c .before .before .before .before .before .before .before .before .before .before .before .before .before .starts-word .ensures) ∙ not-false _ (c .before .before .before .before .before .before .before .before .before .before .before .before .if1 .left) in
     let t = took token-shape (c .before .before .before .before .before .before .before .before .before .before .before .read-number .ensures) (c .before .before .before .before .before .before .before .before .before .a .given .1) in
     let u = took token-shape (c .before .before .before .before .before .before .before .read-name .ensures) (c .before .before .before .before .before .b .given .1) in
     let e = sym (c .before .before .before .byte .ensures) ∙ c .before .before .if2 .left in
-    do-read s w t u e (c .before .number-of .ensures) (c .read-parameters .ensures)
+    (do-inside s w t u e, search needs)
+
+same-length : tie.Need-same-length
+same-length c = search needs
+
+returns-5 : tie.Need-returns-5
+returns-5 c =
+    let s = c .before .before .before .before .before .before .before .before .before .before .before .before .before .before .before .before .before .before .before .before .args .text .now in
+    let w = sym (c .before .before .before .before .before .before .before .before .before .before .before .before .before .before .before .before .starts-word .ensures) ∙ not-false _ (c .before .before .before .before .before .before .before .before .before .before .before .before .before .before .before .if1 .left) in
+    let t = took token-shape (c .before .before .before .before .before .before .before .before .before .before .before .before .before .before .read-number .ensures) (c .before .before .before .before .before .before .before .before .before .before .before .before .a .given .1) in
+    let u = took token-shape (c .before .before .before .before .before .before .before .before .before .before .read-name .ensures) (c .before .before .before .before .before .before .before .before .b .given .1) in
+    let e = sym (c .before .before .before .before .before .before .byte .ensures) ∙ c .before .before .before .before .before .if2 .left in
+    do-read s w t u e (c .before .before .before .number-of .ensures) (c .before .before .read-parameters .ensures)
 
 pub read-do-spec : {M : Type 1} → statement M
 read-do-spec =
@@ -119,4 +122,5 @@ read-do-spec =
     add-read-parameters
     number-of-requires
     read-parameters-requires
+    same-length
     returns-5)

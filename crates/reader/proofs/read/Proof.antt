@@ -73,8 +73,8 @@ same-length-5 c = search needs
 
 returns-5 : tie.Need-returns-5
 returns-5 c =
-    let s = c .before .before .before .before .before .before .before .before .before .before .before .before .before .before .before .before .before .before .before .before .before .before .before .before .before .before .args .text .now in
-    let dw = with-words (do-words s) (c .before .before .read-do .ensures) in
+    let s = c .before .before .before .before .before .before .before .before .before .before .before .before .before .before .before .before .before .before .before .before .before .before .before .before .before .before .before .before .before .args .text .now in
+    let dw = with-words (do-words s) (c .before .before .before .before .read-do .ensures) in
     settled (is-do s) dw (sym (c .before .is-form5 .ensures) ∙ c .if5 .taken)
 
 read-word-requires : tie.Need-read-word-requires
@@ -88,7 +88,7 @@ same-length-6 c = search needs
 
 returns-6 : tie.Need-returns-6
 returns-6 c =
-    let s = c .before .before .before .before .before .before .before .before .before .before .before .before .before .before .before .before .before .before .before .before .before .before .before .before .before .before .before .before .before .args .text .now in
+    let s = c .before .before .before .before .before .before .before .before .before .before .before .before .before .before .before .before .before .before .before .before .before .before .before .before .before .before .before .before .before .before .before .before .args .text .now in
     let ww = with-words (word-words s) (c .before .before .read-word .ensures) in
     settled (is-word s) ww (sym (c .before .is-form6 .ensures) ∙ c .if6 .taken)
 
@@ -100,12 +100,12 @@ same-length-7 c = search needs
 
 returns-7 : tie.Need-returns-7
 returns-7 c =
-    let s = c .before .before .before .before .before .before .before .before .before .before .before .before .before .before .before .before .before .before .before .before .before .before .before .before .before .before .before .before .before .before .before .before .before .args .text .now in
-    let a = not-this (c .before .before .before .before .before .before .before .before .before .before .before .before .before .before .before .before .before .before .before .before .before .before .before .before .before .before .before .before .before .read-assignment .ensures .says) (sym (c .before .before .before .before .before .before .before .before .before .before .before .before .before .before .before .before .before .before .before .before .before .before .before .before .before .before .is-form .ensures) ∙ c .before .before .before .before .before .before .before .before .before .before .before .before .before .before .before .before .before .before .before .before .before .before .before .before .before .if1 .left) in
-    let b = not-this (c .before .before .before .before .before .before .before .before .before .before .before .before .before .before .before .before .before .before .before .before .before .before .before .before .read-go-to .ensures) (sym (c .before .before .before .before .before .before .before .before .before .before .before .before .before .before .before .before .before .before .before .before .before .before .before .is-form2 .ensures) ∙ c .before .before .before .before .before .before .before .before .before .before .before .before .before .before .before .before .before .before .before .before .before .before .if2 .left) in
-    let d = not-this (c .before .before .before .before .before .before .before .before .before .before .before .before .before .before .before .before .before .before .before .before .read-computed .ensures .says) (sym (c .before .before .before .before .before .before .before .before .before .before .before .before .before .before .before .before .before .is-form3 .ensures) ∙ c .before .before .before .before .before .before .before .before .before .before .before .before .before .before .before .before .if3 .left) in
-    let e = not-this (c .before .before .before .before .before .before .before .before .before .before .before .before .before .before .read-if .ensures .says) (sym (c .before .before .before .before .before .before .before .before .before .before .before .is-form4 .ensures) ∙ c .before .before .before .before .before .before .before .before .before .before .if4 .left) in
-    let f = not-this (c .before .before .before .before .before .before .before .before .before .read-do .ensures) (sym (c .before .before .before .before .before .before .before .before .is-form5 .ensures) ∙ c .before .before .before .before .before .before .before .if5 .left) in
+    let s = c .before .before .before .before .before .before .before .before .before .before .before .before .before .before .before .before .before .before .before .before .before .before .before .before .before .before .before .before .before .before .before .before .before .before .before .before .args .text .now in
+    let a = not-this (c .before .before .before .before .before .before .before .before .before .before .before .before .before .before .before .before .before .before .before .before .before .before .before .before .before .before .before .before .before .before .before .before .read-assignment .ensures .says) (sym (c .before .before .before .before .before .before .before .before .before .before .before .before .before .before .before .before .before .before .before .before .before .before .before .before .before .before .before .before .before .is-form .ensures) ∙ c .before .before .before .before .before .before .before .before .before .before .before .before .before .before .before .before .before .before .before .before .before .before .before .before .before .before .before .before .if1 .left) in
+    let b = not-this (c .before .before .before .before .before .before .before .before .before .before .before .before .before .before .before .before .before .before .before .before .before .before .before .before .before .before .before .read-go-to .ensures) (sym (c .before .before .before .before .before .before .before .before .before .before .before .before .before .before .before .before .before .before .before .before .before .before .before .before .before .before .is-form2 .ensures) ∙ c .before .before .before .before .before .before .before .before .before .before .before .before .before .before .before .before .before .before .before .before .before .before .before .before .before .if2 .left) in
+    let d = not-this (c .before .before .before .before .before .before .before .before .before .before .before .before .before .before .before .before .before .before .before .before .before .before .before .read-computed .ensures .says) (sym (c .before .before .before .before .before .before .before .before .before .before .before .before .before .before .before .before .before .before .before .before .is-form3 .ensures) ∙ c .before .before .before .before .before .before .before .before .before .before .before .before .before .before .before .before .before .before .before .if3 .left) in
+    let e = not-this (c .before .before .before .before .before .before .before .before .before .before .before .before .before .before .before .before .before .read-if .ensures .says) (sym (c .before .before .before .before .before .before .before .before .before .before .before .before .before .before .is-form4 .ensures) ∙ c .before .before .before .before .before .before .before .before .before .before .before .before .before .if4 .left) in
+    let f = not-this (c .before .before .before .before .before .before .before .before .before .before .before .read-do .ensures) (sym (c .before .before .before .before .before .before .before .before .is-form5 .ensures) ∙ c .before .before .before .before .before .before .before .if5 .left) in
     let g = not-this (c .before .before .before .before .before .before .read-word .ensures) (sym (c .before .before .before .before .before .is-form6 .ensures) ∙ c .before .before .before .before .if6 .left) in
     reads-as (is-last s a b d e f g) (c .before .before .read-dimension .ensures)
 
