@@ -12,16 +12,16 @@ use borrow.Author.Tests.{eqb-true}
 use Rattle.rules_shared.specs.Limits.{limits}
 use Rattle.rules_shared.specs.Lists.{Each}
 use Rattle.rules_shared.proofs.EachLaws.{each-head, each-tail}
-use Rattle.rules_deck.specs.Cards.{cardsOf, textColumns, comment, firstCard, textOf, Punched, numberOf, rightNumber, Reading, nothingRead, wrongCard, afterCard, Carded, cardsRefused, statements, cardByCard, rightDigits, rightLength, counted, carded, following, grouped}
+use Rattle.rules_deck.specs.Cards.{cardsOf, textColumns, comment, firstCard, Punched, numberOf, rightNumber, Reading, nothingRead, wrongCard, afterCard, Carded, cardsRefused, statements, cardByCard, rightDigits, rightLength, counted, carded, following, grouped}
 use Rattle.rules_deck.proofs.CardsLaws.{RightStatement, Stands, as-comment, as-first, as-continuation, stands, statements-right}
 use Rattle.rules_deck.proofs.CardsGroups.{statements-grouped}
 use Rattle.texts.specs.declared.Reached.{Reached}
 use Rattle.texts.specs.declared.Taken.the-variants.{Statement, End}
 use Rattle.cards.specs.declared.Number.{Number}
 use Rattle.cards.specs.Columns.{CardAt, punchedOf}
-use Rattle.texts.specs.Taking.{Accepted, over, begins, skipped, passed, firstOf, firstText, Takes, Follows}
+use Rattle.texts.specs.Taking.{Accepted, over, begins, skipped, passed, punchedRaw, firstOf, firstContent, Takes, Follows}
 use Rattle.cards.proofs.DeckLaws.{cards-end}
-use Rattle.texts.proofs.TextLaws.{over-none, over-append, text-append}
+use Rattle.texts.proofs.TextLaws.{over-none, over-append}
 use Rattle.cards.specs.declared.Columns.the-variants as columns
 
 -- ---- cards that start no statement change no statement after them
@@ -125,7 +125,7 @@ all-right deck a = subst (Each RightStatement) (statements-grouped (a .digits) d
 pub record First (deck : List ℕ) (card first : ℕ) (here : List ℕ) : Type 0 where
   pub group : grouped (drop card (cardsOf deck)) ≡ record { number = numberOf here; raw = textColumns here ++ following (drop (first + 1) (cardsOf deck)) } ∷ grouped (drop (first + 1) (cardsOf deck))
   pub right : rightNumber here ≡ true
-  pub fits : length (textOf (textColumns here)) + length (textOf (following (drop (first + 1) (cardsOf deck)))) ≤ 660
+  pub fits : length (textColumns here) + length (following (drop (first + 1) (cardsOf deck))) ≤ 660
   pub next : card + passed (drop card (cardsOf deck)) ≡ first + 1 + skipped (drop (first + 1) (cardsOf deck))
 
 module _ (deck : List ℕ) (card first : ℕ) (f : first ≡ card + skipped (drop card (cardsOf deck))) where
@@ -140,12 +140,12 @@ module _ (deck : List ℕ) (card first : ℕ) (f : first ≡ card + skipped (dro
       let e : card + suc (skipped (drop card cards)) ≡ first + 1 = omega arith in
       drop-drop (suc (skipped (drop card cards))) card cards ∙ ap (λ (i : ℕ). drop i cards) e
 
-  pub takes-end : (text : List ℕ) → length deck / 80 ≤ first → Takes deck card text text End
-  takes-end text h =
+  pub takes-end : (raw : List ℕ) → length deck / 80 ≤ first → Takes punchedRaw deck card raw raw End
+  takes-end raw h =
       let g : grouped (drop card cards) ≡ [] = group-skip (drop card cards) ∙ ap grouped (from-first ∙ cards-end deck first h) in
       record {
-        says = sym (ap (λ (ps : List Punched). firstOf ps (card + passed (drop card cards))) g);
-        put = sym (ap (λ (ps : List Punched). over 0 (firstText ps) text) g ∙ over-none 0 text);
+        says = sym (ap (λ (ps : List Punched). firstOf punchedRaw ps (card + passed (drop card cards))) g);
+        put = sym (ap (λ (ps : List Punched). over 0 (firstContent punchedRaw ps) raw) g ∙ over-none 0 raw);
       }
 
   module _ (acc : Accepted deck) (here : List ℕ) (a : CardAt deck first here) where
@@ -162,11 +162,11 @@ module _ (deck : List ℕ) (card first : ℕ) (f : first ≡ card + skipped (dro
     unfolding passed
     first-is =
         let s = ap skipped after-first in
-        let l = ap (length {A = ℕ}) (text-append (textColumns here) (following (drop (first + 1) cards))) ∙ length-append (textOf (textColumns here)) (textOf (following (drop (first + 1) cards))) in
+        let l = length-append (textColumns here) (following (drop (first + 1) cards)) in
         record {
           group = group-here;
           right = right-number here (each-stands 1 nothingRead cards (acc .all) (by-cards deck acc) first here (drop (first + 1) cards) (a .here)) starts-here;
-          fits = omega (arith, right-here .text-short);
+          fits = omega (arith, right-here .raw-short);
           next = omega arith;
         }
 
@@ -182,26 +182,25 @@ module _ {deck : List ℕ} {card first : ℕ} {here : List ℕ} (f : First deck 
   unfolding punchedOf
   number-is n e = let w : columns.Punched (record { 0 = numberOf here }) ≡ columns.Punched n = simp (f .right) at e in cc
 
-  pub takes-statement : (n : Number) (text text₁ text₂ : List ℕ) (at : ℕ) (r : Reached) → punchedOf here ≡ columns.Punched n
-      → (at ≡ 0 + length (textOf (textColumns here))) × (text₁ ≡ over 0 (textOf (textColumns here)) text)
-      → Follows (drop (first + 1) (cardsOf deck)) (first + 1) text₁ text₂ at r → Takes deck card text text₂ (Statement n (r .length) (r .next))
-  takes-statement n text text₁ text₂ at r e p q =
-      let own = textOf (textColumns here) in
-      let more = textOf (following (drop (first + 1) (cardsOf deck))) in
-      let t = text-append (textColumns here) (following (drop (first + 1) (cardsOf deck))) in
-      let l = ap (length {A = ℕ}) t ∙ length-append own more in
+  pub takes-statement : (n : Number) (raw raw₁ raw₂ : List ℕ) (at : ℕ) (r : Reached) → punchedOf here ≡ columns.Punched n
+      → (at ≡ 0 + length (textColumns here)) × (raw₁ ≡ over 0 (textColumns here) raw)
+      → Follows (drop (first + 1) (cardsOf deck)) (first + 1) raw₁ raw₂ at r → Takes punchedRaw deck card raw raw₂ (Statement n (r .length) (r .next))
+  takes-statement n raw raw₁ raw₂ at r e p q =
+      let own = textColumns here in
+      let more = following (drop (first + 1) (cardsOf deck)) in
+      let l = length-append own more in
       let rl = ap (λ (x : Reached). x .length) (q .says) in
       let rn = ap (λ (x : Reached). x .next) (q .says) in
-      let m : r .length ≡ length (textOf (textColumns here ++ following (drop (first + 1) (cardsOf deck)))) = omega (arith, p .0) in
+      let m : r .length ≡ length (textColumns here ++ following (drop (first + 1) (cardsOf deck))) = omega (arith, p .0) in
       let k : r .next ≡ card + passed (drop card (cardsOf deck)) = omega (arith, f .next) in
       record {
         says =
             ap (λ (x : Number). Statement x (r .length) (r .next)) (sym (number-is n e))
             ∙ ap (λ (x : ℕ). Statement (record { 0 = numberOf here }) x (r .next)) m
-            ∙ ap (λ (x : ℕ). Statement (record { 0 = numberOf here }) (length (textOf (textColumns here ++ following (drop (first + 1) (cardsOf deck))))) x) k
-            ∙ sym (ap (λ (ps : List Punched). firstOf ps (card + passed (drop card (cardsOf deck)))) (f .group));
+            ∙ ap (λ (x : ℕ). Statement (record { 0 = numberOf here }) (length (textColumns here ++ following (drop (first + 1) (cardsOf deck)))) x) k
+            ∙ sym (ap (λ (ps : List Punched). firstOf punchedRaw ps (card + passed (drop card (cardsOf deck)))) (f .group));
         put =
-            q .put ∙ ap (λ (x : ℕ). over x more text₁) (p .0) ∙ ap (λ (x : List ℕ). over (0 + length own) more x) (p .1)
-            ∙ sym (over-append 0 own more text) ∙ ap (λ (x : List ℕ). over 0 x text) (sym t)
-            ∙ sym (ap (λ (ps : List Punched). over 0 (firstText ps) text) (f .group));
+            q .put ∙ ap (λ (x : ℕ). over x more raw₁) (p .0) ∙ ap (λ (x : List ℕ). over (0 + length own) more x) (p .1)
+            ∙ sym (over-append 0 own more raw)
+            ∙ sym (ap (λ (ps : List Punched). over 0 (firstContent punchedRaw ps) raw) (f .group));
       }

@@ -1,17 +1,16 @@
--- The laws of putting a card's text, byte after byte, and a statement's, card after card.
+-- The laws of putting a card's columns and a statement's text, byte after byte.
 -- Assumes nothing.
 use Prim.Native.Nat.{ℕ, suc, _+_, _≤_, _<_}
 use mathlib.Core.Path.{_≡_, refl, sym, ap, _∙_}
-use mathlib.Core.Bool.{Bool, true, false, cond}
-use mathlib.Core.List.{List, [], _∷_, _++_, map}
+use mathlib.Core.List.{List, [], _∷_, _++_}
 use native.Mathlib.Omega.{arith}
 use native.Mathlib.Numerals.{add-one}
-use lib.Dec.{eqb}
-use lib.ListN.{length, getD, set, take, drop}
-use lib.Seq.{sets, sets-eq, take-at}
+use lib.ListN.{length, getD, set, take, drop, drop-of-length-le}
+use lib.Seq.{sets, sets-eq, take-at, drop-cons}
 use borrow.Author.Tests.{ne-eqb}
-use Rattle.rules_deck.specs.Cards.{textColumns, withoutBlanks, readAs, textOf}
-use Rattle.texts.specs.Taking.{over}
+use Rattle.rules_deck.specs.Cards.{textColumns, readAs, textOf}
+use Rattle.rules_deck.proofs.CardsLaws.{text-length}
+use Rattle.texts.specs.Taking.{over, Written}
 use Rattle.cards.proofs.CardLaws.{column, columns-end, text-from}
 
 -- ---- a list put over another
@@ -44,22 +43,6 @@ over-stands xs o h =
 
 -- ---- a text
 
-map-append : (f : ℕ → ℕ) (s t : List ℕ) → map f (s ++ t) ≡ map f s ++ map f t
-map-append f [] t = refl
-map-append f (x ∷ s) t = ap (λ (l : List ℕ). f x ∷ l) (map-append f s t)
-
-solid-append : (s t : List ℕ) → withoutBlanks (s ++ t) ≡ withoutBlanks s ++ withoutBlanks t
-solid-append [] t = refl
-solid-append (c ∷ s) t = ap (λ (l : List ℕ). cond (eqb c 32) l (c ∷ l)) (solid-append s t) ∙ go (eqb c 32)
-  where
-    go : (b : Bool) → cond b (withoutBlanks s ++ withoutBlanks t) (c ∷ (withoutBlanks s ++ withoutBlanks t)) ≡ cond b (withoutBlanks s) (c ∷ withoutBlanks s) ++ withoutBlanks t
-    go true = refl
-    go false = refl
-
-pub text-append : (s t : List ℕ) → textOf (s ++ t) ≡ textOf s ++ textOf t
-unfolding textOf
-text-append s t = ap (map readAs) (solid-append s t) ∙ map-append readAs (withoutBlanks s) (withoutBlanks t)
-
 pub text-none : textOf [] ≡ []
 unfolding textOf
 text-none = refl
@@ -81,16 +64,16 @@ as-itself c n = sym (simp (ne-eqb c 36 n))
 -- ---- a card's columns 7-72
 
 -- the columns before i are put, the rest is still to come from n on
-pub record Putting (card : List ℕ) (at : ℕ) (before : List ℕ) (text : List ℕ) (n i : ℕ) : Type 0 where
+pub record Putting (card : List ℕ) (at : ℕ) (before : List ℕ) (raw : List ℕ) (n i : ℕ) : Type 0 where
   pub low : 6 ≤ i
   pub high : i ≤ 72
-  pub same : over at (textOf (textColumns card)) before ≡ over n (textOf (drop i (take 72 card))) text
-  pub count : at + length (textOf (textColumns card)) ≡ n + length (textOf (drop i (take 72 card)))
+  pub same : over at (textColumns card) before ≡ over n (drop i (take 72 card)) raw
+  pub count : at + length (textColumns card) ≡ n + length (drop i (take 72 card))
 
 module _ (card : List ℕ) (l : length card ≡ 80) (at : ℕ) (before : List ℕ) where
   pub putting-start : Putting card at before before at 6
   putting-start =
-      let e : textOf (textColumns card) ≡ textOf (drop 6 (take 72 card)) = ap textOf (text-from card l) in
+      let e = text-from card l in
       record {
         low = omega arith;
         high = omega arith;
@@ -98,48 +81,84 @@ module _ (card : List ℕ) (l : length card ≡ 80) (at : ℕ) (before : List �
         count = ap (λ (s : List ℕ). at + length s) e;
       }
 
-  module _ (text : List ℕ) (n i : ℕ) (p : Putting card at before text n i) where
-    pub putting-end : 72 ≤ i → (n ≡ at + length (textOf (textColumns card))) × (text ≡ over at (textOf (textColumns card)) before)
+  module _ (raw : List ℕ) (n i : ℕ) (p : Putting card at before raw n i) where
+    pub putting-end : 72 ≤ i → (n ≡ at + length (textColumns card)) × (raw ≡ over at (textColumns card) before)
     putting-end h =
-        let e : textOf (drop i (take 72 card)) ≡ [] = ap textOf (columns-end card 72 i h) ∙ text-none in
+        let e = columns-end card 72 i h in
         let z = ap (length {A = ℕ}) e in
-        (omega (arith, p .count), sym (p .same ∙ ap (λ (s : List ℕ). over n s text) e ∙ over-none n text))
+        (omega (arith, p .count), sym (p .same ∙ ap (λ (s : List ℕ). over n s raw) e ∙ over-none n raw))
 
     module _ (h : i < 72) where
-      abbrev c : ℕ
-      c = getD card i 0
-
-      abbrev rest : List ℕ
-      rest = drop (i + 1) (take 72 card)
-
-      here : drop i (take 72 card) ≡ c ∷ rest
+      here : drop i (take 72 card) ≡ getD card i 0 ∷ drop (i + 1) (take 72 card)
       here = column card 72 i (omega arith) h
 
-      solid : (c ≡ 32 → ⊥) → textOf (drop i (take 72 card)) ≡ readAs c ∷ textOf rest
-      solid s = ap textOf here ∙ text-solid c rest s
-
-      pub putting-room : at + length (textOf (textColumns card)) ≤ 660 → (c ≡ 32 → ⊥) → n < 660
-      putting-room m s =
-          let z = ap (length {A = ℕ}) (solid s) in
+      pub putting-room : at + length (textColumns card) ≤ 660 → n < 660
+      putting-room m =
+          let z = ap (length {A = ℕ}) here in
           omega (arith, p .count)
 
-      pub putting-blank : (text′ : List ℕ) (n′ : ℕ) → c ≡ 32 → text′ ≡ text → n′ ≡ n → Putting card at before text′ n′ (i + 1)
-      putting-blank text′ n′ b t m =
-          let e : textOf (drop i (take 72 card)) ≡ textOf rest = ap textOf here ∙ text-blank c rest b in
-          let z = ap (length {A = ℕ}) e in
+      pub putting-on : Putting card at before (set raw n (getD card i 0)) (n + 1) (i + 1)
+      putting-on =
+          let z = ap (length {A = ℕ}) here in
           record {
             low = omega (arith, p .low);
+            high = omega arith;
+            same = p .same ∙ ap (λ (s : List ℕ). over n s raw) here ∙ over-more n (getD card i 0) (drop (i + 1) (take 72 card)) raw;
+            count = omega (arith, p .count);
+          }
+
+-- ---- the text of what is punched
+
+-- what is before i is written, the rest is still to come from n on
+pub record Writing (raw before text : List ℕ) (n i : ℕ) : Type 0 where
+  pub high : i ≤ length raw
+  pub same : over 0 (textOf raw) before ≡ over n (textOf (drop i raw)) text
+  pub count : length (textOf raw) ≡ n + length (textOf (drop i raw))
+
+module _ (raw before : List ℕ) where
+  pub writing-start : Writing raw before before 0 0
+  writing-start = record { high = omega arith; same = refl; count = omega arith }
+
+  module _ (text : List ℕ) (n i : ℕ) (p : Writing raw before text n i) where
+    pub writing-end : length raw ≤ i → Written raw before text n
+    writing-end h =
+        let e : textOf (drop i raw) ≡ [] = ap textOf (drop-of-length-le raw h) ∙ text-none in
+        let z = ap (length {A = ℕ}) e in
+        record { count = omega (arith, p .count); put = sym (p .same ∙ ap (λ (s : List ℕ). over n s text) e ∙ over-none n text) }
+
+    module _ (h : i < length raw) where
+      abbrev c : ℕ
+      c = getD raw i 0
+
+      abbrev rest : List ℕ
+      rest = drop (i + 1) raw
+
+      at-byte : drop i raw ≡ c ∷ rest
+      at-byte = drop-cons raw i 0 h ∙ ap (λ (k : ℕ). c ∷ drop k raw) (sym (add-one i))
+
+      solid : (c ≡ 32 → ⊥) → textOf (drop i raw) ≡ readAs c ∷ textOf rest
+      solid s = ap textOf at-byte ∙ text-solid c rest s
+
+      pub writing-room : length raw ≤ 660 → (c ≡ 32 → ⊥) → n < 660
+      writing-room m s =
+          let z = ap (length {A = ℕ}) (solid s) in
+          omega (arith, p .count, text-length raw)
+
+      pub writing-blank : (text′ : List ℕ) (n′ : ℕ) → c ≡ 32 → text′ ≡ text → n′ ≡ n → Writing raw before text′ n′ (i + 1)
+      writing-blank text′ n′ b t m =
+          let e : textOf (drop i raw) ≡ textOf rest = ap textOf at-byte ∙ text-blank c rest b in
+          let z = ap (length {A = ℕ}) e in
+          record {
             high = omega arith;
             same = p .same ∙ ap (λ (s : List ℕ). over n s text) e ∙ (cc);
             count = omega (arith, p .count);
           }
 
-      pub putting-solid : (text′ : List ℕ) (n′ x : ℕ) → (c ≡ 32 → ⊥) → x ≡ readAs c → text′ ≡ set text n x → n′ ≡ n + 1 → Putting card at before text′ n′ (i + 1)
-      putting-solid text′ n′ x s q t m =
+      pub writing-solid : (text′ : List ℕ) (n′ x : ℕ) → (c ≡ 32 → ⊥) → x ≡ readAs c → text′ ≡ set text n x → n′ ≡ n + 1 → Writing raw before text′ n′ (i + 1)
+      writing-solid text′ n′ x s q t m =
           let e = solid s in
           let z = ap (length {A = ℕ}) e in
           record {
-            low = omega (arith, p .low);
             high = omega arith;
             same = p .same ∙ ap (λ (s : List ℕ). over n s text) e ∙ over-more n (readAs c) (textOf rest) text ∙ (cc);
             count = omega (arith, p .count);

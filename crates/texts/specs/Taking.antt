@@ -30,7 +30,7 @@ abbrev pub skipped : List (List ℕ) → ℕ
 skipped [] = 0
 skipped (card ∷ cards) = cond (begins card) 0 (suc (skipped cards))
 
--- what a card that starts no statement adds to the text
+-- what a card that starts no statement adds to what is punched
 unfoldable pub added : List ℕ → List ℕ
 added card = cond (comment card) [] (textColumns card)
 
@@ -38,20 +38,32 @@ added card = cond (comment card) [] (textColumns card)
 unfoldable pub passed : List (List ℕ) → ℕ
 passed cards = suc (skipped cards) + skipped (drop (suc (skipped cards)) cards)
 
-abbrev pub firstOf : List Punched → ℕ → Taken
-firstOf [] next = End
-firstOf (p ∷ ps) next = Statement (record { 0 = p .number }) (length (textOf (p .raw))) next
+-- what is put of a statement: what is punched in columns 7-72 of its cards, or its text
+abbrev pub punchedRaw : Punched → List ℕ
+punchedRaw p = p .raw
 
-abbrev pub firstText : List Punched → List ℕ
-firstText [] = []
-firstText (p ∷ ps) = textOf (p .raw)
+abbrev pub punchedText : Punched → List ℕ
+punchedText p = textOf (p .raw)
 
--- the statement taken at a card, and the text before and after; bytes past the statement's stay
-pub record Takes (deck : List ℕ) (card : ℕ) (text text′ : List ℕ) (r : Taken) : Type 0 where
-  pub says : r ≡ firstOf (grouped (drop card (cardsOf deck))) (card + passed (drop card (cardsOf deck)))
-  pub put : text′ ≡ over 0 (firstText (grouped (drop card (cardsOf deck)))) text
+abbrev pub firstOf : (Punched → List ℕ) → List Punched → ℕ → Taken
+firstOf content [] next = End
+firstOf content (p ∷ ps) next = Statement (record { 0 = p .number }) (length (content p)) next
+
+abbrev pub firstContent : (Punched → List ℕ) → List Punched → List ℕ
+firstContent content [] = []
+firstContent content (p ∷ ps) = content p
+
+-- the statement taken at a card, and the table before and after; bytes past the statement's stay
+pub record Takes (content : Punched → List ℕ) (deck : List ℕ) (card : ℕ) (table table′ : List ℕ) (r : Taken) : Type 0 where
+  pub says : r ≡ firstOf content (grouped (drop card (cardsOf deck))) (card + passed (drop card (cardsOf deck)))
+  pub put : table′ ≡ over 0 (firstContent content (grouped (drop card (cardsOf deck)))) table
+
+-- a text written at the start of a table
+pub record Written (raw text text′ : List ℕ) (n : ℕ) : Type 0 where
+  pub count : n ≡ length (textOf raw)
+  pub put : text′ ≡ over 0 (textOf raw) text
 
 -- what the continuations of a statement give: its length and the next card that starts one
-pub record Follows (cards : List (List ℕ)) (card : ℕ) (text text′ : List ℕ) (at : ℕ) (r : Reached) : Type 0 where
-  pub says : r ≡ record { length = at + length (textOf (following cards)); next = card + skipped cards }
-  pub put : text′ ≡ over at (textOf (following cards)) text
+pub record Follows (cards : List (List ℕ)) (card : ℕ) (raw raw′ : List ℕ) (at : ℕ) (r : Reached) : Type 0 where
+  pub says : r ≡ record { length = at + length (following cards); next = card + skipped cards }
+  pub put : raw′ ≡ over at (following cards) raw

@@ -1,14 +1,14 @@
-// A deck's statements, taken one after the other: number, text, and where the next one starts.
-// A text has at most 660 bytes: columns 7-72 of a first card and nine continuations.
+// A deck's statements, taken one after the other: number, what is punched, its text, and where the next one starts.
+// Columns 7-72 of a first card and nine continuations are 660 bytes.
 ghost use mathlib.Core.Path.{_≡_};
 ghost use Prim.Native.Nat.{_+_, _≤_};
 ghost use lib.ListN.{length, drop};
-ghost use Rattle.rules_deck.specs.Cards.{cardsOf, textColumns, readAs, textOf, following};
-ghost use Rattle.texts.specs.Taking.{Accepted, over, begins, skipped, added, Follows, Takes};
+ghost use Rattle.rules_deck.specs.Cards.{cardsOf, textColumns, readAs, following};
+ghost use Rattle.texts.specs.Taking.{Accepted, over, begins, skipped, added, punchedRaw, punchedText, Follows, Takes, Written};
 use cards::Number;
 
 pub enum Taken {
-    // `length` bytes of text, and the card at which the next statement starts.
+    // `length` bytes in the table, and the card at which the next statement starts.
     Statement {
         number: Number,
         length: usize,
@@ -43,38 +43,29 @@ fn first_from(deck: &[u8], card: usize) -> usize
     i
 }
 
-fn read_as(c: u8) -> u8
-    ensures { λ r. ⌜ r ≡ readAs c ⌝ }
-{
-    if c == b'$' { b'*' } else { c }
-}
-
-// Columns 7-72 from `at` on, blanks gone.
-fn put(card: &[u8], text: &mut [u8; 660], at: usize) -> usize
-    requires { ⌜ (length (now card) ≡ 80) × (at + length (textOf (textColumns (now card))) ≤ 660) ⌝ }
-    ensures { λ r. ⌜ (r ≡ at + length (textOf (textColumns (now (card .entry))))) × (now (text .exit) ≡ over at (textOf (textColumns (now (card .entry)))) (now (text .entry))) ⌝ }
+// Columns 7-72 from `at` on.
+fn put(card: &[u8], raw: &mut [u8; 660], at: usize) -> usize
+    requires { ⌜ (length (now card) ≡ 80) × (at + length (textColumns (now card)) ≤ 660) ⌝ }
+    ensures { λ r. ⌜ (r ≡ at + length (textColumns (now (card .entry)))) × (now (raw .exit) ≡ over at (textColumns (now (card .entry))) (now (raw .entry))) ⌝ }
 {
     let mut n = at;
     let mut i = 6;
     while i < 72 {
-        let c = card[i];
-        if c != b' ' {
-            text[n] = read_as(c);
-            n += 1;
-        }
+        raw[n] = card[i];
+        n += 1;
         i += 1;
     }
     n
 }
 
-fn put_added(card: &[u8], text: &mut [u8; 660], at: usize) -> usize
-    requires { ⌜ (length (now card) ≡ 80) × (at + length (textOf (added (now card))) ≤ 660) ⌝ }
-    ensures { λ r. ⌜ (r ≡ at + length (textOf (added (now (card .entry))))) × (now (text .exit) ≡ over at (textOf (added (now (card .entry)))) (now (text .entry))) ⌝ }
+fn put_added(card: &[u8], raw: &mut [u8; 660], at: usize) -> usize
+    requires { ⌜ (length (now card) ≡ 80) × (at + length (added (now card)) ≤ 660) ⌝ }
+    ensures { λ r. ⌜ (r ≡ at + length (added (now (card .entry)))) × (now (raw .exit) ≡ over at (added (now (card .entry))) (now (raw .entry))) ⌝ }
 {
     if cards::is_comment(card) {
         return at;
     }
-    put(card, text, at)
+    put(card, raw, at)
 }
 
 struct Reached {
@@ -82,10 +73,10 @@ struct Reached {
     next: usize,
 }
 
-// The texts of the continuations from `card` on, put from `at` on.
-fn put_following(deck: &[u8], card: usize, text: &mut [u8; 660], at: usize) -> Reached
-    requires { ⌜ at + length (textOf (following (drop card (cardsOf (now deck))))) ≤ 660 ⌝ }
-    ensures { λ r. ⌜ Follows (drop card (cardsOf (now (deck .entry)))) card (now (text .entry)) (now (text .exit)) at r ⌝ }
+// What is punched in the continuations from `card` on, put from `at` on.
+fn put_following(deck: &[u8], card: usize, raw: &mut [u8; 660], at: usize) -> Reached
+    requires { ⌜ at + length (following (drop card (cardsOf (now deck)))) ≤ 660 ⌝ }
+    ensures { λ r. ⌜ Follows (drop card (cardsOf (now (deck .entry)))) card (now (raw .entry)) (now (raw .exit)) at r ⌝ }
 {
     let cards = deck.len() / 80;
     let mut n = at;
@@ -95,16 +86,16 @@ fn put_following(deck: &[u8], card: usize, text: &mut [u8; 660], at: usize) -> R
         if starts_statement(here) {
             return Reached { length: n, next: i };
         }
-        n = put_added(here, text, n);
+        n = put_added(here, raw, n);
         i += 1;
     }
     Reached { length: n, next: i }
 }
 
-// Of a deck that `judge` does not refuse: the first statement from `card` on, its text put at the start.
-pub fn statement(deck: &[u8], card: usize, text: &mut [u8; 660]) -> Taken
+// Of a deck that `judge` does not refuse: the first statement from `card` on, what is punched put at the start.
+pub fn columns(deck: &[u8], card: usize, raw: &mut [u8; 660]) -> Taken
     requires { ⌜ Accepted (now deck) ⌝ }
-    ensures { λ r. ⌜ Takes (now (deck .entry)) card (now (text .entry)) (now (text .exit)) r ⌝ }
+    ensures { λ r. ⌜ Takes punchedRaw (now (deck .entry)) card (now (raw .entry)) (now (raw .exit)) r ⌝ }
 {
     let first = first_from(deck, card);
     if deck.len() / 80 <= first {
@@ -115,11 +106,56 @@ pub fn statement(deck: &[u8], card: usize, text: &mut [u8; 660]) -> Taken
     let cards::Columns::Punched(number) = cards::punched(here) else {
         return Taken::End;
     };
-    let n = put(here, text, 0);
-    let reached = put_following(deck, first + 1, text, n);
+    let n = put(here, raw, 0);
+    let reached = put_following(deck, first + 1, raw, n);
     Taken::Statement {
         number,
         length: reached.length,
         next: reached.next,
+    }
+}
+
+fn read_as(c: u8) -> u8
+    ensures { λ r. ⌜ r ≡ readAs c ⌝ }
+{
+    if c == b'$' { b'*' } else { c }
+}
+
+// The text of what is punched, put at the start: blanks gone.
+pub fn text_of(raw: &[u8], text: &mut [u8; 660]) -> usize
+    requires { ⌜ length (now raw) ≤ 660 ⌝ }
+    ensures { λ r. ⌜ Written (now (raw .entry)) (now (text .entry)) (now (text .exit)) r ⌝ }
+{
+    let mut n = 0;
+    let mut i = 0;
+    while i < raw.len() {
+        let c = raw[i];
+        if c != b' ' {
+            text[n] = read_as(c);
+            n += 1;
+        }
+        i += 1;
+    }
+    n
+}
+
+// The same statement, its text put at the start.
+pub fn statement(deck: &[u8], card: usize, text: &mut [u8; 660]) -> Taken
+    requires { ⌜ Accepted (now deck) ⌝ }
+    ensures { λ r. ⌜ Takes punchedText (now (deck .entry)) card (now (text .entry)) (now (text .exit)) r ⌝ }
+{
+    let mut raw = [0u8; 660];
+    let Taken::Statement {
+        number,
+        length,
+        next,
+    } = columns(deck, card, &mut raw)
+    else {
+        return Taken::End;
+    };
+    Taken::Statement {
+        number,
+        length: text_of(&raw[0..length], text),
+        next,
     }
 }

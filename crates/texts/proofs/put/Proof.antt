@@ -1,55 +1,42 @@
 -- `texts::put` meets its contract. Assumes nothing.
-use mathlib.Core.Logic.{⊎-elim}
 use Prim.Native.Nat.{_-_}
 use native.Mathlib.Omega.{arith}
-use Rattle.texts.proofs.TextLaws.{Putting, putting-start, putting-end, putting-room, putting-blank, putting-solid}
+use Rattle.texts.proofs.TextLaws.{Putting, putting-start, putting-end, putting-room, putting-on}
 use borrow.Author.Needs.{needs}
 use Rattle.texts.proofs.put.Statement.{statement}
 use Rattle.texts.proofs.put.Tie as tie
 
 abbrev Inv-loop : tie.InvT-loop
-Inv-loop card text₀ at n₀ i₀ text n i = Putting card at text₀ text n i
+Inv-loop card raw₀ at n₀ i₀ raw n i = Putting card at raw₀ raw n i
 
 abbrev μ-loop : tie.MeasureT-loop
-μ-loop card text₀ at n₀ i₀ text n i = 72 - i
+μ-loop card raw₀ at n₀ i₀ raw n i = 72 - i
 
 loop-holds : tie.Need-loop-holds Inv-loop μ-loop
 loop-holds c =
-    let s = c .before .args .card .now in
-    let p = c .before .pre .0 in
-    let at = c .before .args .at in
-    let o = c .before .args .text .now in
-    putting-start s p at o
+    let s = c .args .card .now in
+    putting-start s (c .pre .0) (c .args .at) (c .args .raw .now)
 
-shared-slice-read-c : tie.Need-shared-slice-read-c Inv-loop μ-loop
-shared-slice-read-c c = search needs
+shared-slice-read-raw : tie.Need-shared-slice-read-raw Inv-loop μ-loop
+shared-slice-read-raw c = search needs
 
-read-as-requires : tie.Need-read-as-requires Inv-loop μ-loop
-read-as-requires c κs = search needs
-
-element-write-text : tie.Need-element-write-text Inv-loop μ-loop
-element-write-text c =
-    let s = c .before .before .before .before .before .before .args .card .now in
-    let p = c .before .before .before .before .before .before .pre .0 in
-    let m = c .before .before .before .before .before .before .pre .1 in
-    let at = c .before .before .before .before .before .before .args .at in
-    let o = c .before .before .before .before .before .before .args .text .now in
-    let lp = c .before .before .before .before .loop in
-    let h = c .before .before .before .loop-test .taken in
-    let r = putting-room s p at o (lp .text) (lp .n) (lp .i) (lp .inv) h m (c .before .if1 .taken) in
-    omega (arith, r)
+element-write-raw : tie.Need-element-write-raw Inv-loop μ-loop
+element-write-raw c =
+    let s = c .before .before .before .args .card .now in
+    let p = c .before .before .before .pre .0 in
+    let at = c .before .before .before .args .at in
+    let o = c .before .before .before .args .raw .now in
+    let lp = c .before .before .loop in
+    omega (arith, putting-room s p at o (lp .raw) (lp .n) (lp .i) (lp .inv) (c .before .loop-test .taken) (c .before .before .before .pre .1))
 
 add-n : tie.Need-add-n Inv-loop μ-loop
 add-n c =
-    let s = c .before .before .before .before .before .before .args .card .now in
-    let p = c .before .before .before .before .before .before .pre .0 in
-    let m = c .before .before .before .before .before .before .pre .1 in
-    let at = c .before .before .before .before .before .before .args .at in
-    let o = c .before .before .before .before .before .before .args .text .now in
-    let lp = c .before .before .before .before .loop in
-    let h = c .before .before .before .loop-test .taken in
-    let r = putting-room s p at o (lp .text) (lp .n) (lp .i) (lp .inv) h m (c .before .if1 .taken) in
-    omega (arith, r)
+    let s = c .before .before .before .args .card .now in
+    let p = c .before .before .before .pre .0 in
+    let at = c .before .before .before .args .at in
+    let o = c .before .before .before .args .raw .now in
+    let lp = c .before .before .loop in
+    omega (arith, putting-room s p at o (lp .raw) (lp .n) (lp .i) (lp .inv) (c .before .loop-test .taken) (c .before .before .before .pre .1))
 
 add-i : tie.Need-add-i Inv-loop μ-loop
 add-i c = search needs
@@ -59,25 +46,21 @@ loop-less c = search needs
 
 loop-again : tie.Need-loop-again Inv-loop μ-loop
 loop-again c =
-    let s = c .before .before .before .before .before .args .card .now in
-    let p = c .before .before .before .before .before .pre .0 in
-    let at = c .before .before .before .before .before .args .at in
-    let o = c .before .before .before .before .before .args .text .now in
-    let lp = c .before .before .before .loop in
-    let h = c .before .before .loop-test .taken in
-    ⊎-elim
-    (λ t. putting-solid s p at o (lp .text) (lp .n) (lp .i) (lp .inv) h _ _ _ (t .0 .taken) (t .1 .ensures) (t .2) (t .3))
-    (λ t. putting-blank s p at o (lp .text) (lp .n) (lp .i) (lp .inv) h _ _ (t .0 .left) (t .1) (t .2))
-    (c .if1 .came)
-
-returns : tie.Need-returns Inv-loop μ-loop
-returns c =
     let s = c .before .before .before .args .card .now in
     let p = c .before .before .before .pre .0 in
     let at = c .before .before .before .args .at in
-    let o = c .before .before .before .args .text .now in
+    let o = c .before .before .before .args .raw .now in
+    let lp = c .before .before .loop in
+    putting-on s p at o (lp .raw) (lp .n) (lp .i) (lp .inv) (c .before .loop-test .taken)
+
+returns : tie.Need-returns Inv-loop μ-loop
+returns c =
+    let s = c .before .before .args .card .now in
+    let p = c .before .before .pre .0 in
+    let at = c .before .before .args .at in
+    let o = c .before .before .args .raw .now in
     let lp = c .before .loop in
-    putting-end s p at o (lp .text) (lp .n) (lp .i) (lp .inv) (c .loop-test .left)
+    putting-end s p at o (lp .raw) (lp .n) (lp .i) (lp .inv) (c .loop-test .left)
 
 pub put-spec : {M : Type 1} → statement M
 put-spec =
@@ -86,9 +69,8 @@ put-spec =
     Inv-loop
     μ-loop
     loop-holds
-    shared-slice-read-c
-    read-as-requires
-    element-write-text
+    shared-slice-read-raw
+    element-write-raw
     add-n
     add-i
     loop-less

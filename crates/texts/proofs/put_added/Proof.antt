@@ -12,7 +12,7 @@ returns : tie.Need-returns
 returns c =
     let s = c .before .before .before .args .card .now in
     let at = c .before .before .before .args .at in
-    let o = c .before .before .before .args .text .now in
+    let o = c .before .before .before .args .raw .now in
     added-none s at o (sym (c .before .is-comment .ensures) ∙ c .if1 .taken)
 
 put-requires : tie.Need-put-requires
@@ -25,7 +25,7 @@ returns-2 : tie.Need-returns-2
 returns-2 c =
     let s = c .before .before .before .before .before .args .card .now in
     let at = c .before .before .before .before .before .args .at in
-    let o = c .before .before .before .before .before .args .text .now in
+    let o = c .before .before .before .before .before .args .raw .now in
     added-put s at o _ _ (sym (c .before .before .before .is-comment .ensures) ∙ c .before .before .if1 .left) (c .put .ensures)
 
 pub put-added-spec : {M : Type 1} → statement M

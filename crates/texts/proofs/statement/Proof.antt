@@ -1,27 +1,13 @@
 -- `texts::statement` meets its contract. Assumes nothing.
-use mathlib.Core.Path.{sym, _∙_}
+use mathlib.Core.Path.{refl}
 use native.Mathlib.Omega.{arith}
-use Rattle.texts.proofs.StatementLaws.{takes-end, first-is, never-wrong, takes-statement}
+use Rattle.texts.proofs.Onward.{text-ended, raw-going, raw-long, raw-short, text-taken}
 use borrow.Author.Needs.{needs}
 use Rattle.texts.proofs.statement.Statement.{statement}
 use Rattle.texts.proofs.statement.Tie as tie
 
-first-from-requires : tie.Need-first-from-requires
-first-from-requires c κs = search needs
-
-returns : tie.Need-returns
-returns c =
-    let d = c .before .before .before .args .deck .now in
-    let k = c .before .before .before .args .card in
-    let o = c .before .before .before .args .text .now in
-    takes-end d k _ (c .before .first-from .ensures) o (c .if1 .taken)
-
-card-at-requires : tie.Need-card-at-requires
-card-at-requires c κs = search needs
-
-punched-requires : tie.Need-punched-requires
-punched-requires c κs =
-    c .card-at .ensures .whole
+columns-requires : tie.Need-columns-requires
+columns-requires c κs = search needs
 
 enum-known-number : tie.Need-enum-known-number
 enum-known-number c = search needs
@@ -29,51 +15,40 @@ enum-known-number c = search needs
 enum-told : tie.Need-enum-told
 enum-told c = search needs
 
+returns : tie.Need-returns
+returns c =
+    text-ended (c .before .before .columns .ensures) (c .before .before .before .before .before .args .text .now) (c .enum-told .given .1)
+
+sub-text-of : tie.Need-sub-text-of
+sub-text-of c = search needs
+
+part-text-of-start : tie.Need-part-text-of-start
+part-text-of-start c = search needs
+
+part-text-of-end : tie.Need-part-text-of-end
+part-text-of-end c =
+    let t = c .before .before .before .before .columns .ensures in
+    let f = c .before .before .number .given .1 in
+    omega (arith, raw-going t (c .before .before .before .before .before .before .before .pre) f .short, raw-long t (c .before .before .before .before .before .before .before .pre) f refl)
+
+text-of-requires : tie.Need-text-of-requires
+text-of-requires c κs =
+    raw-short (c .before .before .before .before .before .before .columns .ensures) (c .before .before .before .before .before .before .before .before .before .pre) (c .before .before .before .before .number .given .1)
+
 returns-2 : tie.Need-returns-2
 returns-2 c =
-    let d = c .before .before .before .before .before .before .before .args .deck .now in
-    let k = c .before .before .before .before .before .before .before .args .card in
-    let f = first-is d k _ (c .before .before .before .before .before .first-from .ensures) (c .before .before .before .before .before .before .before .pre) _ (c .before .before .before .card-at .ensures) in
-    absurd (never-wrong f (sym (c .before .before .punched .ensures) ∙ c .enum-told .given .1))
-
-put-requires : tie.Need-put-requires
-put-requires c κs =
-    let d = c .before .before .before .before .before .before .before .before .before .args .deck .now in
-    let k = c .before .before .before .before .before .before .before .before .before .args .card in
-    let f = first-is d k _ (c .before .before .before .before .before .before .before .first-from .ensures) (c .before .before .before .before .before .before .before .before .before .pre) _ (c .before .before .before .before .before .card-at .ensures) in
-    (c .before .before .before .before .before .card-at .ensures .whole, omega (arith, f .fits))
-
-add-put-following : tie.Need-add-put-following
-add-put-following c =
-    omega (arith, c .before .before .before .before .before .before .before .if1 .left)
-
-put-following-requires : tie.Need-put-following-requires
-put-following-requires c κs =
-    let d = c .before .before .before .before .before .before .before .before .before .before .before .args .deck .now in
-    let k = c .before .before .before .before .before .before .before .before .before .before .before .args .card in
-    let f = first-is d k _ (c .before .before .before .before .before .before .before .before .before .first-from .ensures) (c .before .before .before .before .before .before .before .before .before .before .before .pre) _ (c .before .before .before .before .before .before .before .card-at .ensures) in
-    omega (arith, f .fits, c .before .put .ensures .0)
-
-returns-3 : tie.Need-returns-3
-returns-3 c =
-    let d = c .before .before .before .before .before .before .before .before .before .before .before .before .args .deck .now in
-    let k = c .before .before .before .before .before .before .before .before .before .before .before .before .args .card in
-    let o = c .before .before .before .before .before .before .before .before .before .before .before .before .args .text .now in
-    let f = first-is d k _ (c .before .before .before .before .before .before .before .before .before .before .first-from .ensures) (c .before .before .before .before .before .before .before .before .before .before .before .before .pre) _ (c .before .before .before .before .before .before .before .before .card-at .ensures) in
-    takes-statement f (c .before .before .before .before .before .number .given .0 .0) o _ _ _ _ (sym (c .before .before .before .before .before .before .before .punched .ensures) ∙ c .before .before .before .before .before .number .given .1) (c .before .before .put .ensures) (c .put-following .ensures)
+    text-taken (c .before .before .before .before .before .before .before .columns .ensures) (c .before .before .before .before .before .before .before .before .before .before .pre) (c .before .before .before .before .before .number .given .1) refl (c .text-of .ensures)
 
 pub statement-spec : {M : Type 1} → statement M
 statement-spec =
     tie.close
     (tie.spec
-    first-from-requires
-    returns
-    card-at-requires
-    punched-requires
+    columns-requires
     enum-known-number
     enum-told
-    returns-2
-    put-requires
-    add-put-following
-    put-following-requires
-    returns-3)
+    returns
+    sub-text-of
+    part-text-of-start
+    part-text-of-end
+    text-of-requires
+    returns-2)
