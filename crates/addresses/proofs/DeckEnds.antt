@@ -12,6 +12,7 @@ use lib.Dec.{eqb}
 use lib.ListN.{length, take, getD, getElem?, length-map}
 use lib.Seq.{take-length}
 use borrow.Author.Tests.{eqb-true, eqb-false, eq-eqb, ne-eqb, lt-ltb, le-ltb}
+use Rattle.rules_shared.specs.House.{House}
 use Rattle.rules_object.specs.Operations.{NEG}
 use Rattle.rules_deck.specs.Trees.{Statement}
 use Rattle.rules_deck.specs.Deck.{positionOf, Do, dosOf, dimsOf, endingWith, endings}
@@ -61,7 +62,7 @@ ending-last n (d ∷ l) x = go (eqb (d .last) n) (ending-last n l x)
     go true h = ap (λ (m : List Do). d ∷ m) h
     go false h = h
 
-module _ {k : ℕ} {deck : List Statement} {loops : List ℕ} {n : ℕ} (told : Loops k deck loops n) where
+module _ {house : House} {deck : List Statement} {loops : List ℕ} {n : ℕ} (told : Loops house deck loops n) where
   pub loops-long : 2 * n ≤ length loops
   unfolding dosOf
   loops-long = begins-long loops (loopsFrom 0 0 deck) (2 * n) (told .loops-are) (omega (arith, loops-length 0 0 deck, told .dos-counted))
@@ -86,7 +87,7 @@ module _ {k : ℕ} {deck : List Statement} {loops : List ℕ} {n : ℕ} (told : 
   pub do-number : (m : ℕ) (x : Do) → getElem? (dosOf deck) m ≡ some x → doNumber (dosOf deck) (x .position) ≡ m
   do-number m x e = number-of (dosOf deck) m x (rising deck) e
 
-module _ {k : ℕ} {deck : List Statement} {rows : List ℕ} {count : ℕ} {loops : List ℕ} {n : ℕ} {jumps : List ℕ} (told : Judged k deck rows count loops n jumps) where
+module _ {house : House} {deck : List Statement} {rows : List ℕ} {count : ℕ} {loops : List ℕ} {n : ℕ} {jumps : List ℕ} (told : Judged house deck rows count loops n jumps) where
   jumps-long : length (deckJumps deck) ≤ length jumps
   jumps-long = begins-long jumps (map (positionOf deck) (deckJumps deck)) (length (deckJumps deck)) (told .jumps-are) (length-map (deckJumps deck) (positionOf deck))
 

@@ -7,6 +7,7 @@ use native.Mathlib.Omega.{arith}
 use mathlib.Core.List.{List}
 use lib.ListN.{length, getD, set}
 use lib.Seq.{getD-set-same, getD-set-other}
+use Rattle.rules_shared.specs.House.{House}
 use Rattle.rules_deck.specs.Trees.{Statement}
 use Rattle.rules_deck.specs.Translation.{addressAt}
 use Rattle.rules_deck.proofs.Addresses.{at-some, address-zero}
@@ -36,7 +37,7 @@ less-or-same (suc a) (suc b) h = go (less-or-same a b (omega arith))
     go (inl l) = inl (omega arith)
     go (inr l) = inr (omega arith)
 
-module _ {k : ℕ} {deck : List Statement} {rows : List ℕ} {count : ℕ} {loops : List ℕ} {n : ℕ} {jumps : List ℕ} (told : Judged k deck rows count loops n jumps) where
+module _ {house : House} {deck : List Statement} {rows : List ℕ} {count : ℕ} {loops : List ℕ} {n : ℕ} {jumps : List ℕ} (told : Judged house deck rows count loops n jumps) where
   -- the address after the statement at position i
   pub following : (i at ends : ℕ) → i < count → ends ≡ length (endsAt loops jumps i n) → at ≡ addressAt deck i → at + getD rows (5 * i + 3) 0 + ends ≡ addressAt deck (i + 1)
   following i at ends h e is =

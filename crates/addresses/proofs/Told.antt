@@ -7,6 +7,7 @@ use mathlib.Core.List.{List, [], _∷_, _++_, map}
 use mathlib.Core.Option.{some}
 use lib.ListN.{length, take, getD, getElem?, length-take, List·getD-append}
 use lib.Seq.{getD-take, getD-append-add}
+use Rattle.rules_shared.specs.House.{House}
 use Rattle.rules_object.specs.Operations.{Instr, NEG}
 use Rattle.rules_object.specs.Bytes.{concat}
 use Rattle.rules_deck.specs.Trees.{Name, Form, Statement}
@@ -45,7 +46,7 @@ rows-get (t ∷ deck) (suc j) s e r h =
     ap (λ (i : ℕ). getD (rowWords t ++ concat (map rowWords deck)) i 0) n
     ∙ getD-append-add (rowWords t) (concat (map rowWords deck)) (5 * j + r) 0 ∙ rows-get deck j s e r h
 
-module _ {k : ℕ} {deck : List Statement} {rows : List ℕ} {count : ℕ} (told : Rows k deck rows count) where
+module _ {house : House} {deck : List Statement} {rows : List ℕ} {count : ℕ} (told : Rows house deck rows count) where
   pub rows-long : 5 * count ≤ length rows
   rows-long = begins-long rows (concat (map rowWords deck)) (5 * count) (told .rows-are) (omega (arith, rows-length deck, told .counted))
 

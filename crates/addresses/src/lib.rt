@@ -1,8 +1,9 @@
 // The address of every statement: the words of code before it, a DOE among them for each DO that ends there.
 ghost use mathlib.Core.Path.{_≡_};
 ghost use mathlib.Core.List.{List, [], _∷_};
-ghost use Prim.Native.Nat.{ℕ, _+_, _*_, _^_, _<_};
+ghost use Prim.Native.Nat.{_+_, _*_, _^_, _<_};
 ghost use lib.ListN.{length};
+ghost use Rattle.rules_shared.specs.House.{House};
 ghost use Rattle.rules_deck.specs.Trees.{Statement};
 ghost use Rattle.items.specs.Parsed.{Put};
 ghost use Rattle.addresses.specs.Given.{Judged, Given, Starts};
@@ -67,7 +68,7 @@ pub fn addresses(
     starts: &mut [u32],
 )
     requires { ⌜ Given (now rows) count (now loops) n (now jumps) × (count < length (now starts)) ⌝ }
-    ensures { λ _. ⌜ ((k : ℕ) (deck : List Statement) → Judged k deck (now (rows .entry)) count (now (loops .entry)) n (now (jumps .entry)) → Starts deck (now (starts .exit))) ⌝ }
+    ensures { λ _. ⌜ ((house : House) (deck : List Statement) → Judged house deck (now (rows .entry)) count (now (loops .entry)) n (now (jumps .entry)) → Starts deck (now (starts .exit))) ⌝ }
 {
     let mut at: usize = 0;
     starts[0] = 0;

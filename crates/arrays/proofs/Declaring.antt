@@ -47,14 +47,14 @@ some-rows (array v r (some c)) e = leb-true 1 (valueOf r) (both-true (leb 1 (val
 pub record Cells (held : List Held) (declared : List Array) (t : List ℕ) (i n cells : ℕ) : Type 0 where
   pub parted : Parted declared i
   pub lists : Lists (held ++ brought (parted .before)) t n cells
-  pub right : rightArrays (held ++ brought (parted .before)) (parted .left) ≡ true
+  pub right : rightArrays false (held ++ brought (parted .before)) (parted .left) ≡ true
 
 pub record Declaring (arrays t₀ : List ℕ) (n₀ cells₀ m : ℕ) (t : List ℕ) (i n cells : ℕ) : Type 0 where
   pub within : i ≤ m
   pub kept : length t ≡ length t₀
   pub names-fit : n ≤ 100
   pub cells-fit : cells ≤ 4096
-  pub part : (held : List Held) (declared : List Array) → Lists held t₀ n₀ cells₀ → arrays ≡ allWords declared → Each Told (arrayNames declared) → rightArrays held declared ≡ true
+  pub part : (held : List Held) (declared : List Array) → Lists held t₀ n₀ cells₀ → arrays ≡ allWords declared → Each Told (arrayNames declared) → rightArrays false held declared ≡ true
       → Cells held declared t i n cells
 
 -- what is declared, taken apart at an array
@@ -80,7 +80,7 @@ module _ (arrays t₀ : List ℕ) (n₀ cells₀ m : ℕ) (h : 4 * m ≡ length 
             record {
               parted = parted-start declared;
               lists = subst (λ (x : List Held). Lists x t₀ n₀ cells₀) (sym (append-nil held)) l;
-              right = subst (λ (x : List Held). rightArrays x declared ≡ true) (sym (append-nil held)) right;
+              right = subst (λ (x : List Held). rightArrays false x declared ≡ true) (sym (append-nil held)) right;
             };
       }
 
@@ -95,8 +95,8 @@ module _ (arrays t₀ : List ℕ) (n₀ cells₀ m : ℕ) (h : 4 * m ≡ length 
         let p = c .parted in
         let ws = here-words p x arrays w in
         let ts = here-told p x told in
-        let passes = sym (right-more held (p .before) (x .here) (x .after)) ∙ ap (rightArrays (held ++ brought (p .before))) (sym (x .is)) ∙ c .right in
-        let here = both-true (rightArray (held ++ brought (p .before)) (x .here)) (rightArrays (held ++ brought (p .before ++ (x .here ∷ []))) (x .after)) passes .0 in
+        let passes = sym (right-more held (p .before) (x .here) (x .after)) ∙ ap (rightArrays false (held ++ brought (p .before))) (sym (x .is)) ∙ c .right in
+        let here = both-true (rightArray (held ++ brought (p .before)) (x .here)) (rightArrays false (held ++ brought (p .before ++ (x .here ∷ []))) (x .after)) passes .0 in
         let cells-some = both-true (someCells (x .here)) _ here .0 in
         one .is (held ++ brought (p .before)) (declare (x .here)) (c .lists) (ts .1) (named-at (p .before) (x .here) (x .after) ws (p .count))
         (word-at (p .before) (x .here) (x .after) ws (p .count) 2 ∙ rows-at (x .here) (allWords (x .after)))
@@ -128,11 +128,11 @@ module _ (arrays t₀ : List ℕ) (n₀ cells₀ m : ℕ) (h : 4 * m ≡ length 
               let c = d .part held declared ls w told right in
               let x = parted-next (c .parted) arrays m w h l in
               let p = c .parted in
-              let passes = sym (right-more held (p .before) (x .here) (x .after)) ∙ ap (rightArrays (held ++ brought (p .before))) (sym (x .is)) ∙ c .right in
+              let passes = sym (right-more held (p .before) (x .here) (x .after)) ∙ ap (rightArrays false (held ++ brought (p .before))) (sym (x .is)) ∙ c .right in
               record {
                 parted = parted-more p x;
                 lists = subst (λ (y : List Held). Lists y t′ a b) (brought-last held (p .before) (x .here)) (one-is more held declared w told c x);
-                right = both-true (rightArray (held ++ brought (p .before)) (x .here)) (rightArrays (held ++ brought (p .before ++ (x .here ∷ []))) (x .after)) passes .1;
+                right = both-true (rightArray (held ++ brought (p .before)) (x .here)) (rightArrays false (held ++ brought (p .before ++ (x .here ∷ []))) (x .after)) passes .1;
               };
         }
 

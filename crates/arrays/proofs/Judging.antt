@@ -151,15 +151,15 @@ brought-last held before a = append-assoc held (brought before) (Held.array (dec
 
 -- one array's test, then those after it
 pub right-more : (held : List Held) (before : List Array) (a : Array) (after : List Array)
-    → rightArrays (held ++ brought before) (a ∷ after) ≡ rightArray (held ++ brought before) a && rightArrays (held ++ brought (before ++ (a ∷ []))) after
+    → rightArrays false (held ++ brought before) (a ∷ after) ≡ rightArray (held ++ brought before) a && rightArrays false (held ++ brought (before ++ (a ∷ []))) after
 right-more held before a after =
     and-assoc (someCells a) (not (seen (held ++ brought before) (declare a .name))) (not (endsInF (declare a .name)))
-    (rightArrays ((held ++ brought before) ++ (Held.array (declare a) ∷ [])) after)
-    ∙ ap (λ (l : List Held). rightArray (held ++ brought before) a && rightArrays l after) (brought-last held before a)
+    (rightArrays false ((held ++ brought before) ++ (Held.array (declare a) ∷ [])) after)
+    ∙ ap (λ (l : List Held). rightArray (held ++ brought before) a && rightArrays false l after) (brought-last held before a)
 
 pub record Judged (held : List Held) (declared : List Array) (i : ℕ) : Type 0 where
   pub parted : Parted declared i
-  pub same : rightArrays held declared ≡ rightArrays (held ++ brought (parted .before)) (parted .left)
+  pub same : rightArrays false held declared ≡ rightArrays false (held ++ brought (parted .before)) (parted .left)
 
 pub record Checking (arrays t : List ℕ) (n m i : ℕ) : Type 0 where
   pub within : i ≤ m
@@ -171,24 +171,24 @@ module _ (arrays t : List ℕ) (n m : ℕ) (h : 4 * m ≡ length arrays) where
   checking-start =
       record {
         within = omega arith;
-        part = λ held cells declared l w told. record { parted = parted-start declared; same = ap (λ (x : List Held). rightArrays x declared) (sym (append-nil held)) };
+        part = λ held cells declared l w told. record { parted = parted-start declared; same = ap (λ (x : List Held). rightArrays false x declared) (sym (append-nil held)) };
       }
 
   step : (i : ℕ) (r : Bool) → RightArray arrays i t n r → i < m → (held : List Held) (cells : ℕ) (declared : List Array) → Lists held t n cells
       → arrays ≡ allWords declared → Each Told (arrayNames declared) → (j : Judged held declared i) (x : Next declared i (j .parted))
-      → rightArrays held declared ≡ r && rightArrays (held ++ brought (j .parted .before ++ (x .here ∷ []))) (x .after)
+      → rightArrays false held declared ≡ r && rightArrays false (held ++ brought (j .parted .before ++ (x .here ∷ []))) (x .after)
   step i r right l held cells declared ls w told j x =
       let p = j .parted in
       let ts = here-told p x told in
-      j .same ∙ ap (rightArrays (held ++ brought (p .before))) (x .is) ∙ right-more held (p .before) (x .here) (x .after)
-      ∙ ap (λ (b : Bool). b && rightArrays (held ++ brought (p .before ++ (x .here ∷ []))) (x .after))
+      j .same ∙ ap (rightArrays false (held ++ brought (p .before))) (x .is) ∙ right-more held (p .before) (x .here) (x .after)
+      ∙ ap (λ (b : Bool). b && rightArrays false (held ++ brought (p .before ++ (x .here ∷ []))) (x .after))
       (sym (right held cells (p .before) (x .here) (x .after) ls (here-words p x arrays w) (p .count) (ts .0) (ts .1)))
 
   pub checking-no : (i : ℕ) (r : Bool) → Checking arrays t n m i → i < m → RightArray arrays i t n r → r ≡ false → Dimensions arrays t n false
   checking-no i r c l right e held cells declared ls w told =
       let j = c .part held cells declared ls w told in
       let x = parted-next (j .parted) arrays m w h l in
-      sym (step i r right l held cells declared ls w told j x ∙ ap (λ (b : Bool). b && rightArrays (held ++ brought (j .parted .before ++ (x .here ∷ []))) (x .after)) e)
+      sym (step i r right l held cells declared ls w told j x ∙ ap (λ (b : Bool). b && rightArrays false (held ++ brought (j .parted .before ++ (x .here ∷ []))) (x .after)) e)
 
   pub checking-on : (i : ℕ) (r : Bool) → Checking arrays t n m i → i < m → RightArray arrays i t n r → r ≡ true → Checking arrays t n m (i + 1)
   unfolding parted-more
@@ -200,11 +200,11 @@ module _ (arrays t : List ℕ) (n m : ℕ) (h : 4 * m ≡ length arrays) where
             let x = parted-next (j .parted) arrays m w h l in
             record {
               parted = parted-more (j .parted) x;
-              same = step i r right l held cells declared ls w told j x ∙ ap (λ (b : Bool). b && rightArrays (held ++ brought (j .parted .before ++ (x .here ∷ []))) (x .after)) e;
+              same = step i r right l held cells declared ls w told j x ∙ ap (λ (b : Bool). b && rightArrays false (held ++ brought (j .parted .before ++ (x .here ∷ []))) (x .after)) e;
             };
       }
 
   pub checking-end : (i : ℕ) → Checking arrays t n m i → m ≤ i → Dimensions arrays t n true
   checking-end i c l held cells declared ls w told =
       let j = c .part held cells declared ls w told in
-      sym (j .same ∙ ap (rightArrays (held ++ brought (j .parted .before))) (parted-end (j .parted) arrays m w h l))
+      sym (j .same ∙ ap (rightArrays false (held ++ brought (j .parted .before))) (parted-end (j .parted) arrays m w h l))

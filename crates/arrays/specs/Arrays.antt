@@ -2,7 +2,7 @@
 -- Assumes nothing.
 use mathlib.Core.Path.{_≡_}
 use Prim.Native.Nat.{ℕ}
-use mathlib.Core.Bool.{Bool, true}
+use mathlib.Core.Bool.{Bool, true, false}
 use mathlib.Core.List.{List, _++_, map}
 use Rattle.rules_shared.specs.Lists.{Each}
 use Rattle.rules_deck.specs.Trees.{Array, arrayNames}
@@ -18,10 +18,10 @@ use Rattle.names.specs.Appears.{Appeared, Within}
 abbrev pub Dimensions : List ℕ → List ℕ → ℕ → Bool → Type 0
 Dimensions arrays table n r =
     (held : List Held) (cells : ℕ) (declared : List Array) → Lists held table n cells → arrays ≡ allWords declared → Each Told (arrayNames declared)
-    → r ≡ rightArrays held declared
+    → r ≡ rightArrays false held declared
 
 -- the arrays of a DIMENSION that passes 15 have taken their cells
 pub record Declares (arrays before after : List ℕ) (n cells : ℕ) (r : Grown) : Type 0 where
   pub within : Within r
   pub is : (held : List Held) (declared : List Array) → Lists held before n cells → arrays ≡ allWords declared → Each Told (arrayNames declared)
-      → rightArrays held declared ≡ true → Appeared (held ++ map (λ a. array (declare a)) declared) after r
+      → rightArrays false held declared ≡ true → Appeared (held ++ map (λ a. array (declare a)) declared) after r

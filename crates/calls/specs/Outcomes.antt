@@ -3,9 +3,10 @@
 use mathlib.Core.Path.{_≡_}
 use mathlib.Core.List.{List}
 use Prim.Native.Nat.{ℕ}
+use Rattle.rules_shared.specs.House.{house1401}
 use Rattle.rules_deck.specs.Compile.{compiling}
 use Rattle.verdicts.specs.declared.Written.{Written}
 use Rattle.verdicts.specs.Outcomes.{writtenOf}
 
 pub record Compiles (k : ℕ) (deck output output′ : List ℕ) (r : Written) : Type 0 where
-  pub is : compiling k deck output ≡ writtenOf r output′
+  pub is : compiling (house1401 k) deck output ≡ writtenOf r output′

@@ -6,6 +6,7 @@ use mathlib.Core.List.{List, _++_, []}
 use mathlib.Core.Option.{Option, none, some}
 use native.Mathlib.Omega.{arith}
 use lib.ListN.{length, getElem?}
+use Rattle.rules_shared.specs.House.{house1401}
 use Rattle.rules_object.specs.Bytes.{objectBytes}
 use Rattle.rules_shared.specs.Refusals.{Refusal, refusal}
 use Rattle.rules_shared.specs.Output.{notWritten, write}
@@ -17,6 +18,7 @@ use Rattle.rules_deck.specs.Whole.{targetSets, formSets, judgeDeck}
 use Rattle.rules_deck.specs.Judge.{nothingTaken}
 use Rattle.rules_deck.specs.Compile.{Read, notRead, read, readFrom, readCarded, orRefuse, judgeRead, deckOf, writeRead, compiling}
 use Rattle.rules_deck.specs.Accepted.{Accepted, Among, here, there}
+use Rattle.rules_deck.proofs.Houses.{lawful1401}
 use Rattle.rules_deck.proofs.AcceptedDeck.{accepted}
 use Rattle.rules_deck.proofs.DeckCells.{plain-has}
 use Rattle.rules_deck.specs.Cells.{namesHeld}
@@ -78,22 +80,22 @@ module _ {k : ℕ} {deck : List Statement} {n : Counts} {names constants element
   told = sets-told deck (subst (λ l. Each Told (namesHeld l)) (draft-held deck) (h .kept .held .told))
 
   pub low : Each LowNumber deck
-  low = numbered k (h .bytes) deck (h .is)
+  low = numbered (house1401 k) (h .bytes) deck (h .is)
 
   pub whole-refused : {number : ℕ} {place : Sequence} (output : List ℕ) (r : Placed) → whole.Judged deck r → r .verdict ≡ verdict.Refused number place
-      → answer (Refused number (place .0)) output ≡ writeRead k output (judgeRead (read deck))
+      → answer (Refused number (place .0)) output ≡ writeRead (house1401 k) output (judgeRead (read deck))
   unfolding refusalOf
   whole-refused {number = number} {place = place} output r j e =
       let o : judgeDeck deck ≡ some (refusal number (place .0) 0) = sym (j .says) ∙ ap refusalOf e in
-      sym (ap (λ (o : Option Refusal). writeRead k output (orRefuse deck o)) o)
+      sym (ap (λ (o : Option Refusal). writeRead (house1401 k) output (orRefuse deck o)) o)
 
   right : (r : Placed) → whole.Judged deck r → r .verdict ≡ verdict.Right → judgeDeck deck ≡ none
   unfolding refusalOf
   right r j e = sym (j .says) ∙ ap refusalOf e
 
-  accepted-deck : judgeDeck deck ≡ none → Accepted k deck
+  accepted-deck : judgeDeck deck ≡ none → Accepted (house1401 k) deck
   unfolding deckOf
-  accepted-deck e = accepted k (h .bytes) deck (ap judgeRead (h .is) ∙ ap (orRefuse deck) e)
+  accepted-deck e = accepted (house1401 k) (lawful1401 k) (h .bytes) deck (ap judgeRead (h .is) ∙ ap (orRefuse deck) e)
 
   jumps-many : n .jumps ≡ length (deckJumps deck)
   jumps-many = h .kept .jumps-count ∙ ap length (draft-jumps deck)
@@ -137,75 +139,75 @@ module _ {k : ℕ} {deck : List Statement} {n : Counts} {names constants element
       }
 
   whole-right : (output : List ℕ) (r : Placed) → whole.Judged deck r → r .verdict ≡ verdict.Right
-      → write (objectBytes (translate k deck)) output ≡ writeRead k output (judgeRead (read deck))
-  whole-right output r j e = sym (ap (λ (o : Option Refusal). writeRead k output (orRefuse deck o)) (right r j e))
+      → write (objectBytes (translate (house1401 k) deck)) output ≡ writeRead (house1401 k) output (judgeRead (read deck))
+  whole-right output r j e = sym (ap (λ (o : Option Refusal). writeRead (house1401 k) output (orRefuse deck o)) (right r j e))
 
   pub whole-object : {length : ℕ} (output output′ : List ℕ) (r : Placed) → whole.Judged deck r → r .verdict ≡ verdict.Right → (w : Wrote)
-      → written.answer w output′ ≡ write (objectBytes (translate k deck)) output → w ≡ wrote.Bytes length → answer (Object length) output′ ≡ writeRead k output (judgeRead (read deck))
+      → written.answer w output′ ≡ write (objectBytes (translate (house1401 k) deck)) output → w ≡ wrote.Bytes length → answer (Object length) output′ ≡ writeRead (house1401 k) output (judgeRead (read deck))
   whole-object output output′ r j e w a i =
       sym (ap (λ (x : Wrote). written.answer x output′) i) ∙ a ∙ whole-right output r j e
 
   pub whole-short : (output output′ : List ℕ) (r : Placed) → whole.Judged deck r → r .verdict ≡ verdict.Right → (w : Wrote)
-      → written.answer w output′ ≡ write (objectBytes (translate k deck)) output → w ≡ wrote.Short → answer Short output′ ≡ writeRead k output (judgeRead (read deck))
+      → written.answer w output′ ≡ write (objectBytes (translate (house1401 k) deck)) output → w ≡ wrote.Short → answer Short output′ ≡ writeRead (house1401 k) output (judgeRead (read deck))
   whole-short output output′ r j e w a i =
       sym (ap (λ (x : Wrote). written.answer x output′) i) ∙ a ∙ whole-right output r j e
 
 -- ---- the statements
 
-module _ (k : ℕ) (bytes : List ℕ) (ps : List Punched) (cards : carded k bytes ≡ statements ps) where
-  statements-read : readCarded k (carded k bytes) ≡ readFrom k 0 nothingTaken ps
-  statements-read = ap (readCarded k) cards
+module _ (k : ℕ) (bytes : List ℕ) (ps : List Punched) (cards : carded (house1401 k) bytes ≡ statements ps) where
+  statements-read : readCarded (house1401 k) (carded (house1401 k) bytes) ≡ readFrom (house1401 k) 0 nothingTaken ps
+  statements-read = ap (readCarded (house1401 k)) cards
 
-  pub statements-refused : {names constants elements dos loops code rows jumps : List ℕ} {number : ℕ} {place : Sequence} (output : List ℕ) (d : Drafted) → Drafts (readFrom k 0 nothingTaken ps) names constants elements dos loops code rows jumps d
-      → d ≡ drafted.Refused number place → answer (Refused number (place .0)) output ≡ compiling k bytes output
+  pub statements-refused : {names constants elements dos loops code rows jumps : List ℕ} {number : ℕ} {place : Sequence} (output : List ℕ) (d : Drafted) → Drafts (readFrom (house1401 k) 0 nothingTaken ps) names constants elements dos loops code rows jumps d
+      → d ≡ drafted.Refused number place → answer (Refused number (place .0)) output ≡ compiling (house1401 k) bytes output
   unfolding compiling deckOf
   statements-refused {names} {constants} {elements} {dos} {loops} {code} {rows} {jumps} {number} {place} output d h e =
-      sym (ap (λ (r : Read). writeRead k output (judgeRead r)) (statements-read ∙ refuses (subst (Drafts (readFrom k 0 nothingTaken ps) names constants elements dos loops code rows jumps) e h)))
+      sym (ap (λ (r : Read). writeRead (house1401 k) output (judgeRead r)) (statements-read ∙ refuses (subst (Drafts (readFrom (house1401 k) 0 nothingTaken ps) names constants elements dos loops code rows jumps) e h)))
     where
-      refuses : Drafts (readFrom k 0 nothingTaken ps) names constants elements dos loops code rows jumps (drafted.Refused number place) → readFrom k 0 nothingTaken ps ≡ notRead (refusal number (place .0) 0)
+      refuses : Drafts (readFrom (house1401 k) 0 nothingTaken ps) names constants elements dos loops code rows jumps (drafted.Refused number place) → readFrom (house1401 k) 0 nothingTaken ps ≡ notRead (refusal number (place .0) 0)
       refuses (refused number place e) = e
 
   -- the deck that the tables hold
   pub record Kept-deck (names constants elements dos loops code rows jumps : List ℕ) (n : Counts) : Type 0 where
     pub deck : List Statement
-    pub is : readFrom k 0 nothingTaken ps ≡ read deck
+    pub is : readFrom (house1401 k) 0 nothingTaken ps ≡ read deck
     pub counted : n .statements ≡ length deck
     pub fit : Fit n
     pub kept : Kept (draftOf deck) names constants elements dos loops code rows jumps n
 
-  pub statements-kept : {names constants elements dos loops code rows jumps : List ℕ} {n : Counts} (d : Drafted) → Drafts (readFrom k 0 nothingTaken ps) names constants elements dos loops code rows jumps d → d ≡ drafted.Kept n → Kept-deck names constants elements dos loops code rows jumps n
-  statements-kept {names} {constants} {elements} {dos} {loops} {code} {rows} {jumps} {n} d h e = keeps (subst (Drafts (readFrom k 0 nothingTaken ps) names constants elements dos loops code rows jumps) e h)
+  pub statements-kept : {names constants elements dos loops code rows jumps : List ℕ} {n : Counts} (d : Drafted) → Drafts (readFrom (house1401 k) 0 nothingTaken ps) names constants elements dos loops code rows jumps d → d ≡ drafted.Kept n → Kept-deck names constants elements dos loops code rows jumps n
+  statements-kept {names} {constants} {elements} {dos} {loops} {code} {rows} {jumps} {n} d h e = keeps (subst (Drafts (readFrom (house1401 k) 0 nothingTaken ps) names constants elements dos loops code rows jumps) e h)
     where
-      keeps : Drafts (readFrom k 0 nothingTaken ps) names constants elements dos loops code rows jumps (drafted.Kept n) → Kept-deck names constants elements dos loops code rows jumps n
+      keeps : Drafts (readFrom (house1401 k) 0 nothingTaken ps) names constants elements dos loops code rows jumps (drafted.Kept n) → Kept-deck names constants elements dos loops code rows jumps n
       keeps (kept deck n o c f κ) = record { deck = deck; is = o; counted = c; fit = f; kept = κ }
 
   pub holds : {names constants elements dos loops code rows jumps : List ℕ} {n : Counts} (d : Kept-deck names constants elements dos loops code rows jumps n) → Room names constants elements dos loops code rows jumps → Holds k (d .deck) n names constants elements dos loops code rows jumps
   holds d room = record { bytes = bytes; is = statements-read ∙ d .is; counted = d .counted; kept = d .kept; room = room; fit = d .fit }
 
-  pub compiled : (deck : List Statement) (output : List ℕ) → readFrom k 0 nothingTaken ps ≡ read deck → writeRead k output (judgeRead (read deck)) ≡ compiling k bytes output
+  pub compiled : (deck : List Statement) (output : List ℕ) → readFrom (house1401 k) 0 nothingTaken ps ≡ read deck → writeRead (house1401 k) output (judgeRead (read deck)) ≡ compiling (house1401 k) bytes output
   unfolding compiling deckOf
-  compiled deck output e = sym (ap (λ (r : Read). writeRead k output (judgeRead r)) (statements-read ∙ e))
+  compiled deck output e = sym (ap (λ (r : Read). writeRead (house1401 k) output (judgeRead r)) (statements-read ∙ e))
 
 -- ---- the cards
 
-pub cards-refused : {number place : ℕ} (k : ℕ) (bytes : List ℕ) (output : List ℕ) (j : Judged) → j ≡ judgedOf (carded k bytes) → j ≡ judged.Refused number place
-    → answer (Refused number place) output ≡ compiling k bytes output
+pub cards-refused : {number place : ℕ} (k : ℕ) (bytes : List ℕ) (output : List ℕ) (j : Judged) → j ≡ judgedOf (carded (house1401 k) bytes) → j ≡ judged.Refused number place
+    → answer (Refused number place) output ≡ compiling (house1401 k) bytes output
 unfolding judgedOf compiling deckOf
-cards-refused {number} {place} k bytes output j a e = go (carded k bytes) refl (sym a ∙ e)
+cards-refused {number} {place} k bytes output j a e = go (carded (house1401 k) bytes) refl (sym a ∙ e)
   where
-    go : (c : Carded) → carded k bytes ≡ c → judgedOf c ≡ judged.Refused number place → notWritten (refusal number place 0) output ≡ writeRead k output (judgeRead (readCarded k (carded k bytes)))
+    go : (c : Carded) → carded (house1401 k) bytes ≡ c → judgedOf c ≡ judged.Refused number place → notWritten (refusal number place 0) output ≡ writeRead (house1401 k) output (judgeRead (readCarded (house1401 k) (carded (house1401 k) bytes)))
     go (cardsRefused m p) e h =
         let x : m ≡ number = cc in
         let y : p ≡ place = cc in
         ap (λ (i : ℕ). notWritten (refusal i place 0) output) (sym x) ∙ ap (λ (i : ℕ). notWritten (refusal m i 0) output) (sym y)
-        ∙ sym (ap (λ (c : Carded). writeRead k output (judgeRead (readCarded k c))) e)
+        ∙ sym (ap (λ (c : Carded). writeRead (house1401 k) output (judgeRead (readCarded (house1401 k) c))) e)
     go (statements ps) e h = let z : _≡_ {A = ℕ} 0 1 = cc in absurd (omega arith)
 
-pub cards-punched : {s : Sequence} (k : ℕ) (bytes : List ℕ) (j : Judged) → j ≡ judgedOf (carded k bytes) → j ≡ judged.Statements s → Punches k bytes
+pub cards-punched : {s : Sequence} (k : ℕ) (bytes : List ℕ) (j : Judged) → j ≡ judgedOf (carded (house1401 k) bytes) → j ≡ judged.Statements s → Punches k bytes
 unfolding judgedOf
-cards-punched {s} k bytes j a e = go (carded k bytes) refl (sym a ∙ e)
+cards-punched {s} k bytes j a e = go (carded (house1401 k) bytes) refl (sym a ∙ e)
   where
-    go : (c : Carded) → carded k bytes ≡ c → judgedOf c ≡ judged.Statements s → Punches k bytes
+    go : (c : Carded) → carded (house1401 k) bytes ≡ c → judgedOf c ≡ judged.Statements s → Punches k bytes
     go (cardsRefused m p) e h = let z : _≡_ {A = ℕ} 0 1 = cc in absurd (omega arith)
     go (statements ps) e h = record { punched = ps; are = e }
 

@@ -4,6 +4,7 @@ use mathlib.Core.Path.{_≡_}
 use Prim.Native.Nat.{ℕ}
 use mathlib.Core.List.{List}
 use lib.ListN.{length}
+use Rattle.rules_shared.specs.House.{house1401}
 use Rattle.rules_shared.specs.Refusals.{refusal, accepted}
 use Rattle.rules_shared.specs.Output.{Written, notWritten}
 use Rattle.rules_deck.specs.Trees.{Statement}
@@ -24,12 +25,12 @@ answer Short output = notWritten (refusal 30 0 0) output
 -- a deck whose cards are right
 pub record Punches (k : ℕ) (bytes : List ℕ) : Type 0 where
   pub punched : List Punched
-  pub are : carded k bytes ≡ statements punched
+  pub are : carded (house1401 k) bytes ≡ statements punched
 
 -- the tables hold a deck whose statements are right
 pub record Holds (k : ℕ) (deck : List Statement) (n : Counts) (names constants elements dos loops code rows jumps : List ℕ) : Type 0 where
   pub bytes : List ℕ
-  pub is : readCarded k (carded k bytes) ≡ read deck
+  pub is : readCarded (house1401 k) (carded (house1401 k) bytes) ≡ read deck
   pub counted : n .statements ≡ length deck
   pub kept : Kept (draftOf deck) names constants elements dos loops code rows jumps n
   pub room : Room names constants elements dos loops code rows jumps

@@ -2,6 +2,7 @@
 // All that it works with is on the stack.
 ghost use mathlib.Core.Path.{_≡_};
 ghost use mathlib.Core.List.{List};
+ghost use Rattle.rules_shared.specs.House.{house1401};
 ghost use Rattle.rules_deck.specs.Trees.{Statement};
 ghost use Rattle.rules_deck.specs.Compile.{read, judgeRead, writeRead, compiling};
 ghost use Rattle.compiler.specs.Compiled.{answer, Punches, Holds, HoldsOne};
@@ -34,7 +35,7 @@ fn judge_whole(
     output: &mut [u8],
 ) -> Compiled
     requires { ⌜ HoldsOne k n (now names) (now constants) (now elements) (now dos) (now loops) (now code) (now rows) (now jumps) ⌝ }
-    ensures { λ r. ⌜ ((deck : List Statement) → Holds k deck n (now (names .entry)) (now (constants .entry)) (now (elements .entry)) (now (dos .entry)) (now (loops .entry)) (now (code .entry)) (now (rows .entry)) (now (jumps .entry)) → answer r (now (output .exit)) ≡ writeRead k (now (output .entry)) (judgeRead (read deck))) ⌝ }
+    ensures { λ r. ⌜ ((deck : List Statement) → Holds k deck n (now (names .entry)) (now (constants .entry)) (now (elements .entry)) (now (dos .entry)) (now (loops .entry)) (now (code .entry)) (now (rows .entry)) (now (jumps .entry)) → answer r (now (output .exit)) ≡ writeRead (house1401 k) (now (output .entry)) (judgeRead (read deck))) ⌝ }
 {
     let judged = whole::judge(rows, n.statements, loops, n.dos, jumps, n.jumps);
     let verdict = judged.verdict;
@@ -70,7 +71,7 @@ fn judge_whole(
 // A deck whose cards are right.
 fn compile_statements(k: u32, deck: &[u8], output: &mut [u8]) -> Compiled
     requires { ⌜ Punches k (now deck) ⌝ }
-    ensures { λ r. ⌜ answer r (now (output .exit)) ≡ compiling k (now (deck .entry)) (now (output .entry)) ⌝ }
+    ensures { λ r. ⌜ answer r (now (output .exit)) ≡ compiling (house1401 k) (now (deck .entry)) (now (output .entry)) ⌝ }
 {
     let mut items = [0u64; 2651];
     let mut names = [0u64; 400];
@@ -115,7 +116,7 @@ fn compile_statements(k: u32, deck: &[u8], output: &mut [u8]) -> Compiled
 }
 
 pub fn compile(k: u32, deck: &[u8], output: &mut [u8]) -> Compiled
-    ensures { λ r. ⌜ answer r (now (output .exit)) ≡ compiling k (now (deck .entry)) (now (output .entry)) ⌝ }
+    ensures { λ r. ⌜ answer r (now (output .exit)) ≡ compiling (house1401 k) (now (deck .entry)) (now (output .entry)) ⌝ }
 {
     match judge_cards::judge(k, deck) {
         Judged::Refused { number, place } => Compiled::Refused { number, place },

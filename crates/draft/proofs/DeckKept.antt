@@ -4,6 +4,7 @@ use mathlib.Core.Path.{_≡_, refl, sym, ap, _∙_}
 use Prim.Native.Nat.{ℕ, suc, _+_}
 use mathlib.Core.List.{List, [], _∷_, map}
 use lib.ListN.{length, length-map}
+use Rattle.rules_shared.specs.House.{House}
 use Rattle.rules_object.specs.Object.{Element, Loop}
 use Rattle.rules_object.specs.Bytes.{concat, elementWords, loopWords}
 use Rattle.rules_deck.specs.Trees.{Statement}
@@ -35,16 +36,16 @@ exits-from deck q (s ∷ more) T t e =
     (statement-brings deck q s .exits T ∙ ap (λ (n : ℕ). n + formExitWords (s .form)) e)
 
 -- of any deck
-pub final-exits : (k : ℕ) (deck : List Statement) → length (draftOf deck .tables .exits) ≡ length (translate k deck .exits)
+pub final-exits : (house : House) (deck : List Statement) → length (draftOf deck .tables .exits) ≡ length (translate house deck .exits)
 unfolding translate codeOf
-final-exits k deck = sym (exits-from deck 0 deck noTables nothingTaken refl ∙ matches-deck deck .exits)
+final-exits house deck = sym (exits-from deck 0 deck noTables nothingTaken refl ∙ matches-deck deck .exits)
 
 -- ---- the tables
 
-pub kept-deck : {k : ℕ} {deck : List Statement} {names constants elements dos loops code rows jumps : List ℕ} {n : Counts} → Accepted k deck
-    → Kept (draftOf deck) names constants elements dos loops code rows jumps n → KeptDeck k deck names constants elements dos loops code rows jumps n
-kept-deck {k} {deck} accepted w =
-    let c = final-constants k deck in
+pub kept-deck : {house : House} {deck : List Statement} {names constants elements dos loops code rows jumps : List ℕ} {n : Counts} → Accepted house deck
+    → Kept (draftOf deck) names constants elements dos loops code rows jumps n → KeptDeck house deck names constants elements dos loops code rows jumps n
+kept-deck {house} {deck} accepted w =
+    let c = final-constants house deck in
     let e = final-elements accepted in
     let d = final-dos accepted in
     let i = final-code accepted in
@@ -56,7 +57,7 @@ kept-deck {k} {deck} accepted w =
       constants-count = w .tables .constants-count ∙ ap (λ (l : List ℕ). length l) c;
       elements-are = w .tables .elements-are ∙ ap (λ (l : List Element). concat (map elementWords l)) e;
       elements-count = w .tables .elements-count ∙ ap (λ (l : List Element). length l) e;
-      exits-count = w .tables .exits-count ∙ final-exits k deck;
+      exits-count = w .tables .exits-count ∙ final-exits house deck;
       dos-are = w .dos-are ∙ ap (λ (l : List Loop). concat (map loopWords l)) d;
       dos-count = w .dos-count ∙ ap (λ (l : List Loop). length l) d ∙ length-map (dosOf deck) (openEntry deck);
       loops-are = w .loops-are ∙ draft-loops deck;

@@ -7,6 +7,7 @@ use native.Mathlib.Omega.{arith}
 use mathlib.Core.List.{List, [], _∷_, _++_, append-nil, append-assoc}
 use mathlib.Core.Option.{some}
 use lib.ListN.{length, getElem?, length-append}
+use Rattle.rules_shared.specs.House.{House}
 use Rattle.rules_object.specs.Operations.{Instr, DOI}
 use Rattle.rules_deck.specs.Trees.{Name, Statement, formLast}
 use Rattle.rules_deck.specs.Deck.{Dims, dimsIn, dimsOf}
@@ -67,7 +68,7 @@ pub data Knows : ℕ → List Held → List Statement → Type 0 where
   next : {q : ℕ} {held : List Held} {s : Statement} {more : List Statement} → Known (brings q (s .form) held) (formFirst (s .form))
       → Known (brings q (s .form) held) (formItems (s .form)) → Knows (suc q) (brings q (s .form) held) more → Knows q held (s ∷ more)
 
-module _ {k : ℕ} {deck : List Statement} (accepted : Accepted k deck) where
+module _ {house : House} {deck : List Statement} (accepted : Accepted house deck) where
   next-held : (q : ℕ) (s : Statement) → getElem? deck q ≡ some s → takenBefore deck (suc q) .held ≡ brings q (s .form) (takenBefore deck q .held)
   unfolding takes
   next-held q s e = ap (λ (t : Taken). t .held) (before-next deck q s e)
@@ -79,8 +80,8 @@ module _ {k : ℕ} {deck : List Statement} (accepted : Accepted k deck) where
       let j = accepted .judged q s e in
       let held = takenBefore deck q .held in
       let rest = knows-from (suc q) more (λ i t f. subst (λ (n : ℕ). getElem? deck n ≡ some t) (let m : q + suc i ≡ suc q + i = omega arith in m) (at (suc i) t f)) in
-      next (brings-first k (j .text) (s .form) held (j .form) (accepted .digits) (j .passes11) (j .passes12) (j .passes16) q)
-      (brings-items k (j .text) (s .form) held (j .form) (accepted .digits) (j .passes11) (j .passes12) (j .passes16) q)
+      next (brings-first (accepted .lawful) (j .text) (s .form) held (j .form) (accepted .digits) (j .passes11) (j .passes12) (j .passes16) q)
+      (brings-items (accepted .lawful) (j .text) (s .form) held (j .form) (accepted .digits) (j .passes11) (j .passes12) (j .passes16) q)
       (subst (λ (l : List Held). Knows (suc q) l more) (next-held q s e) rest)
 
   pub knows-deck : Knows 0 [] deck
@@ -103,15 +104,15 @@ pub dims-deck : (deck : List Statement) → dimsHeld (heldOf deck) ≡ dimsOf de
 unfolding dimsOf
 dims-deck deck = ap {B = Name → Dims} dimsIn (arrays-held deck)
 
-made-deck : {k : ℕ} {deck : List Statement} → Accepted k deck → madeFrom 0 0 [] deck ≡ plainCode deck
+made-deck : {house : House} {deck : List Statement} → Accepted house deck → madeFrom 0 0 [] deck ≡ plainCode deck
 unfolding plainCode heldOf
-made-deck {k} {deck} accepted =
+made-deck {house} {deck} accepted =
     made-plain 0 0 [] (heldOf deck) deck (knows-deck accepted) refl ∙ ap (λ (dims : Name → Dims). plainFrom (heldOf deck) dims 0 deck) (dims-deck deck)
 
-pub final-tables : {k : ℕ} {deck : List Statement} → Accepted k deck → draftOf deck .tables ≡ tablesOf noTables (plainCode deck)
+pub final-tables : {house : House} {deck : List Statement} → Accepted house deck → draftOf deck .tables ≡ tablesOf noTables (plainCode deck)
 unfolding draftOf
-final-tables {k} {deck} accepted = tables-made 0 deck noDraft ∙ ap (tablesOf noTables) (made-deck accepted)
+final-tables {house} {deck} accepted = tables-made 0 deck noDraft ∙ ap (tablesOf noTables) (made-deck accepted)
 
-pub final-code : {k : ℕ} {deck : List Statement} → Accepted k deck → draftOf deck .code ≡ emit noTables (plainCode deck)
+pub final-code : {house : House} {deck : List Statement} → Accepted house deck → draftOf deck .code ≡ emit noTables (plainCode deck)
 unfolding draftOf
-final-code {k} {deck} accepted = code-made 0 deck noDraft ∙ ap (emit noTables) (made-deck accepted)
+final-code {house} {deck} accepted = code-made 0 deck noDraft ∙ ap (emit noTables) (made-deck accepted)

@@ -6,6 +6,7 @@ use mathlib.Core.Bool.{Bool, false, _||_}
 use mathlib.Core.List.{List, [], _∷_, _++_, map, append-nil, append-assoc}
 use lib.ListN.{length}
 use borrow.Author.Tests.{eq-eqb}
+use Rattle.rules_shared.specs.House.{House}
 use Rattle.rules_object.specs.Object.{Loop, Element}
 use Rattle.rules_object.specs.Operations.{Instr, HLT, CON, LOD, STO, LDE, STE, OP, NEG, JMP, BR3, BRC, DOI, DOE}
 use Rattle.rules_shared.proofs.EachLaws.{each-head}
@@ -77,9 +78,9 @@ entries-last q held last (s ∷ deck) (next w x h) e =
     subst (λ (l : List Held). entriesOf later q (s .form) ≡ map (entryIn l) (doOf q (s .form))) (sym is) (entry-stays held (g .more) q (s .form) w) in
     rw (same, entries-last (suc q) later last deck h e) (sym (map-append (entryIn last) (doOf q (s .form)) (dosFrom (suc q) deck)))
 
-pub final-dos : {k : ℕ} {deck : List Statement} → Accepted k deck → draftOf deck .dos ≡ map (openEntry deck) (dosOf deck)
+pub final-dos : {house : House} {deck : List Statement} → Accepted house deck → draftOf deck .dos ≡ map (openEntry deck) (dosOf deck)
 unfolding draftOf heldOf dosOf
-final-dos {k} {deck} accepted = dos-made 0 deck noDraft ∙ entries-last 0 [] (heldOf deck) deck (knows-deck accepted) refl
+final-dos {house} {deck} accepted = dos-made 0 deck noDraft ∙ entries-last 0 [] (heldOf deck) deck (knows-deck accepted) refl
 
 -- ---- constants
 
@@ -93,9 +94,9 @@ constants-from deck q (s ∷ more) T t e =
     (statement-brings deck q s .constants T ∙ ap (λ (p : List ℕ). poolAll p (formPooled (s .form))) e)
 
 -- of any deck
-pub final-constants : (k : ℕ) (deck : List Statement) → draftOf deck .tables .constants ≡ translate k deck .constants
+pub final-constants : (house : House) (deck : List Statement) → draftOf deck .tables .constants ≡ translate house deck .constants
 unfolding translate codeOf
-final-constants k deck = sym (constants-from deck 0 deck noTables nothingTaken refl ∙ matches-deck deck .constants)
+final-constants house deck = sym (constants-from deck 0 deck noTables nothingTaken refl ∙ matches-deck deck .constants)
 
 -- ---- elements
 
@@ -191,8 +192,8 @@ code-elements deck q d (s ∷ more) =
     ap (λ (l : List Element). l ++ elementsIn (codeFrom deck (suc q) more)) (elements-append own ends ∙ ap (λ (l : List Element). elementsIn own ++ l) (ends-elements deck (endings deck (s .number))) ∙ append-nil (elementsIn own) ∙ same) ∙
     ap (λ (l : List Element). elementsIn plain ++ l) (code-elements deck (suc q) n more) ∙ sym (elements-append plain (plainFrom held (dimsOf deck) n more))
 
-pub final-elements : {k : ℕ} {deck : List Statement} → Accepted k deck → draftOf deck .tables .elements ≡ translate k deck .elements
+pub final-elements : {house : House} {deck : List Statement} → Accepted house deck → draftOf deck .tables .elements ≡ translate house deck .elements
 unfolding translate codeOf plainCode
-final-elements {k} {deck} accepted =
+final-elements {house} {deck} accepted =
     ap (λ (T : Tables). T .elements) (final-tables accepted) ∙ elements-after noTables (plainCode deck) ∙ sym (code-elements deck 0 0 deck) ∙
     sym (elements-after noTables (codeFrom deck 0 deck))

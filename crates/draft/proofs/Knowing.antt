@@ -7,6 +7,7 @@ use mathlib.Core.Logic.{_⊎_, inl, inr}
 use mathlib.Core.Bool.{Bool, true, false, cond, false≢true}
 use mathlib.Core.List.{List, [], _∷_, _++_, map}
 use mathlib.Core.Option.{some}
+use Rattle.rules_shared.specs.House.{House}
 use Rattle.rules_shared.specs.Lists.{all, Each}
 use Rattle.rules_shared.proofs.EachLaws.{each-map}
 use Rattle.rules_deck.specs.Trees.{Name, Digits, valueOf, Form, formNames, formConstants}
@@ -15,6 +16,7 @@ use Rattle.rules_deck.specs.Grammar.{formOf}
 use Rattle.rules_deck.specs.Deck.{sameName, declare, arraysIn}
 use Rattle.rules_deck.specs.Translation.{Held, name, array, hidden, isName, holds, appear, formPlain, hiddenIn, brings}
 use Rattle.rules_deck.specs.Judge.{right11, right12, Reference, rightCount, rightReference, right16}
+use Rattle.rules_deck.specs.Lawful.{Lawful}
 use Rattle.rules_deck.specs.Accepted.{Among}
 use Rattle.rules_deck.proofs.Readers.{both-true}
 use Rattle.rules_deck.proofs.TestLaws.{all-among, among-left, among-right}
@@ -55,13 +57,13 @@ exact-one : Exact (49 ∷ [])
 unfolding valueOf
 exact-one = omega arith
 
-module _ (k : ℕ) (text : List ℕ) (f : Form) (held : List Held) (r : formOf text ≡ some f) (d : rightDigits k ≡ true) (right : right11 f ≡ true) (right′ : right12 k f ≡ true)
+module _ {house : House} (lawful : Lawful house) (text : List ℕ) (f : Form) (held : List Held) (r : formOf text ≡ some f) (d : rightDigits house ≡ true) (right : right11 house f ≡ true) (right′ : right12 house f ≡ true)
     (right″ : right16 held f ≡ true) where
   told : Each Told (formNames f)
-  told = read-told text f r right
+  told = read-told lawful text f r right
 
   exact : Each Exact (formConstants f)
-  exact = read-exact k text f r d right′
+  exact = read-exact lawful text f r d right′
 
   both16 : (rightItems held (formFirst f) ≡ true) × (rightItems held (formItems f) ≡ true)
   both16 = both-true (rightItems held (formFirst f)) (rightItems held (formItems f)) (sym (form-right16 held f) ∙ right″)

@@ -38,14 +38,14 @@ blanks-bytes : (m : ℕ) → Each Byte (replicate m 32)
 blanks-bytes zero = each-none
 blanks-bytes (suc m) = each-more {x = 32} (omega arith) (blanks-bytes m)
 
-filled-bytes : (v : Name) → Each Byte v → Each Byte (filled v)
+filled-bytes : (v : Name) → Each Byte v → Each Byte (filled 8 v)
 filled-bytes v a = each-take 8 _ (each-append a (blanks-bytes 8))
 
 pub word-inj : (v w : Name) → Told v → Told w → nameWord v ≡ nameWord w → v ≡ w
 unfolding nameWord
 word-inj v w g h e =
-    filled-inj v w (g .short) (h .short) (g .solid) (h .solid)
-    (bytes-inj 0 0 (filled v) (filled w) (filled-length v ∙ sym (filled-length w)) (filled-bytes v (g .bytes)) (filled-bytes w (h .bytes)) e .1)
+    filled-inj 8 v w (let s = g .short in omega (arith, s)) (let s = h .short in omega (arith, s)) (g .solid) (h .solid)
+    (bytes-inj 0 0 (filled 8 v) (filled 8 w) (filled-length v ∙ sym (filled-length w)) (filled-bytes v (g .bytes)) (filled-bytes w (h .bytes)) e .1)
 
 -- comparing words is comparing names
 pub word-test : (v w : Name) → Told v → Told w → eqb (nameWord v) (nameWord w) ≡ sameName v w

@@ -10,6 +10,7 @@ use lib.Dec.{leb}
 use lib.ListN.{length}
 use borrow.Author.Tests.{leb-true, leb-false, le-leb, lt-leb}
 use Rattle.rules_shared.specs.Limits.{limits}
+use Rattle.rules_shared.specs.House.{House}
 use Rattle.rules_shared.specs.Lists.{all, Each, each-none, each-more}
 use Rattle.rules_object.specs.Check.{isLetter, isDigit}
 use Rattle.rules_shared.proofs.EachLaws.{each-map}
@@ -17,8 +18,10 @@ use Rattle.rules_deck.specs.Trees.{Name, Digits, valueOf, Form, formNames, form
 use Rattle.rules_deck.specs.Tokens.{isLetterOrDigit}
 use Rattle.rules_deck.specs.Cards.{rightDigits}
 use Rattle.rules_deck.specs.Grammar.{formOf}
-use Rattle.rules_deck.specs.Judge.{startsInteger, right11, right12, right13}
+use Rattle.rules_deck.specs.Judge.{startsInteger, right11, right12, numberWithin, right13}
+use Rattle.rules_deck.specs.Lawful.{Lawful}
 use Rattle.rules_deck.specs.Spelling.{IsDigits, IsName, is-name}
+use Rattle.rules_deck.proofs.Houses.{right13-all}
 use Rattle.rules_deck.proofs.Readers.{both-true, digit-bounds, letter-bounds}
 use Rattle.rules_deck.proofs.ReadForms.{read-names, read-constants}
 use Rattle.rules_deck.proofs.MapNames.{NoBlank}
@@ -44,16 +47,16 @@ name-solid (is-name {c} p ps) =
 pub name-bytes : {v : Name} → IsName v → Each (λ (c : ℕ). c < 256) v
 name-bytes (is-name {c} p ps) = each-more {x = c} (omega (arith, letter-bounds c p)) (each-map (λ a e. omega (arith, solid-byte a e)) ps)
 
-told-all : {l : List Name} → Each IsName l → all (λ v. leb (length v) (limits .nameLength) && startsInteger v) l ≡ true → Each Told l
-told-all each-none e = each-none
-told-all (each-more {x = a} {xs = l} p ps) e =
-    let two = both-true (leb (length a) (limits .nameLength) && startsInteger a) _ e in
-    let s = both-true (leb (length a) (limits .nameLength)) (startsInteger a) (two .0) in
-    each-more (record { short = leb-true (length a) (limits .nameLength) (s .0); solid = name-solid p; bytes = name-bytes p }) (told-all ps (two .1))
+told-all : (n : ℕ) → n < 8 → {l : List Name} → Each IsName l → all (λ v. leb (length v) n && startsInteger v) l ≡ true → Each Told l
+told-all n h each-none e = each-none
+told-all n h (each-more {x = a} {xs = l} p ps) e =
+    let two = both-true (leb (length a) n && startsInteger a) _ e in
+    let s = both-true (leb (length a) n) (startsInteger a) (two .0) in
+    each-more {x = a} (record { short = let f = leb-true (length a) n (s .0) in omega (arith, f, h); solid = name-solid p; bytes = name-bytes p }) (told-all n h ps (two .1))
 
-pub read-told : (text : List ℕ) (f : Form) → formOf text ≡ some f → right11 f ≡ true → Each Told (formNames f)
+pub read-told : {house : House} → Lawful house → (text : List ℕ) (f : Form) → formOf text ≡ some f → right11 house f ≡ true → Each Told (formNames f)
 unfolding right11
-read-told text f r e = told-all (read-names text f r) e
+read-told {house} lawful text f r e = told-all (house .nameLength) (omega (arith, lawful .names)) (read-names text f r) e
 
 -- ---- constants
 
@@ -69,11 +72,9 @@ exact-all k h (each-more {x = a} {xs = l} p ps) e =
     let m = ten-most k h in
     each-more {x = a} (omega arith) (exact-all k h ps (two .1))
 
-pub read-exact : (k : ℕ) (text : List ℕ) (f : Form) → formOf text ≡ some f → rightDigits k ≡ true → right12 k f ≡ true → Each Exact (formConstants f)
-unfolding right12 rightDigits
-read-exact k text f r d e =
-    let two = both-true (leb 1 k) (leb k (limits .digits)) d in
-    exact-all k (leb-true k (limits .digits) (two .1)) (read-constants text f r) e
+pub read-exact : {house : House} → Lawful house → (text : List ℕ) (f : Form) → formOf text ≡ some f → rightDigits house ≡ true → right12 house f ≡ true → Each Exact (formConstants f)
+unfolding right12
+read-exact {house} lawful text f r d e = exact-all (house .digits) (lawful .digits d .1) (read-constants text f r) e
 
 -- ---- statement numbers
 
@@ -103,13 +104,12 @@ number-exact n e =
     let l = leb-true (valueOf n) (limits .statementNumber) (two .1) in
     exact-capped n (omega arith)
 
-right-all : (ns : List Digits) → all (λ n. leb 1 (valueOf n) && leb (valueOf n) (limits .statementNumber)) ns ≡ all rightNumber (map capped ns)
+right-all : (ns : List Digits) → all (numberWithin false) ns ≡ all rightNumber (map capped ns)
 right-all [] = refl
 right-all (n ∷ ns) = rw (← number-right n, right-all ns)
 
-pub right13-capped : (f : Form) → right13 f ≡ all rightNumber (map capped (formExits f ++ formLast f))
-unfolding right13
-right13-capped f = right-all (formExits f ++ formLast f)
+pub right13-capped : {house : House} → Lawful house → (f : Form) → right13 house f ≡ all rightNumber (map capped (formExits f ++ formLast f))
+right13-capped lawful f = right13-all lawful f ∙ right-all (formExits f ++ formLast f)
 
 pub exact-numbers : (ns : List Digits) → all rightNumber (map capped ns) ≡ true → map capped ns ≡ map valueOf ns
 exact-numbers [] e = refl
@@ -117,5 +117,5 @@ exact-numbers (n ∷ ns) e =
     let two = both-true (rightNumber (capped n)) (all rightNumber (map capped ns)) e in
     rw (number-exact n (two .0), exact-numbers ns (two .1))
 
-pub numbers-exact : (f : Form) → right13 f ≡ true → map capped (formExits f ++ formLast f) ≡ jumpWords f
-numbers-exact f e = exact-numbers (formExits f ++ formLast f) (sym (right13-capped f) ∙ e)
+pub numbers-exact : {house : House} → Lawful house → (f : Form) → right13 house f ≡ true → map capped (formExits f ++ formLast f) ≡ jumpWords f
+numbers-exact lawful f e = exact-numbers (formExits f ++ formLast f) (sym (right13-capped lawful f) ∙ e)

@@ -4,6 +4,7 @@ use mathlib.Core.Path.{_≡_}
 use Prim.Native.Nat.{ℕ, _*_}
 use mathlib.Core.List.{List, map}
 use lib.ListN.{length, take}
+use Rattle.rules_shared.specs.House.{House}
 use Rattle.rules_object.specs.Bytes.{concat, elementWords, loopWords}
 use Rattle.rules_deck.specs.Trees.{Statement}
 use Rattle.rules_deck.specs.Deck.{dosOf}
@@ -13,15 +14,15 @@ use Rattle.draft.specs.declared.Counts.{Counts}
 use Rattle.draft.specs.Names.{heldWords}
 use Rattle.draft.specs.Sketch.{deckRows, deckJumps, loopsFrom, plainCode, openEntry}
 
-pub record KeptDeck (k : ℕ) (deck : List Statement) (names constants elements dos loops code rows jumps : List ℕ) (n : Counts) : Type 0 where
+pub record KeptDeck (house : House) (deck : List Statement) (names constants elements dos loops code rows jumps : List ℕ) (n : Counts) : Type 0 where
   pub names-are : take (4 * n .names) names ≡ heldWords 0 (heldOf deck)
   pub names-count : n .names ≡ nameCount (heldOf deck)
   pub cells-count : n .cells ≡ cellCount (heldOf deck)
-  pub constants-are : take (n .constants) constants ≡ translate k deck .constants
-  pub constants-count : n .constants ≡ length (translate k deck .constants)
-  pub elements-are : take (9 * n .elements) elements ≡ concat (map elementWords (translate k deck .elements))
-  pub elements-count : n .elements ≡ length (translate k deck .elements)
-  pub exits-count : n .exits ≡ length (translate k deck .exits)
+  pub constants-are : take (n .constants) constants ≡ translate house deck .constants
+  pub constants-count : n .constants ≡ length (translate house deck .constants)
+  pub elements-are : take (9 * n .elements) elements ≡ concat (map elementWords (translate house deck .elements))
+  pub elements-count : n .elements ≡ length (translate house deck .elements)
+  pub exits-count : n .exits ≡ length (translate house deck .exits)
   pub dos-are : take (4 * n .dos) dos ≡ concat (map loopWords (map (openEntry deck) (dosOf deck)))
   pub dos-count : n .dos ≡ length (dosOf deck)
   pub loops-are : take (2 * n .dos) loops ≡ loopsFrom 0 0 deck

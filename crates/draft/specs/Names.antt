@@ -27,9 +27,9 @@ heldWords at (hidden q ∷ held) = heldWords (at + 2) held
 abbrev pub dimsHeld : List Held → Name → Dims
 dimsHeld held v = dimsIn (arraysHeld held) v
 
--- of at most six characters, each a byte and none a blank: its eight bytes tell it
+-- shorter than its eight bytes, each a byte and none a blank: the eight bytes tell it
 pub record Told (v : Name) : Type 0 where
-  pub short : length v ≤ limits .nameLength
+  pub short : length v < 8
   pub solid : Each (λ (c : ℕ). c ≡ 32 → ⊥) v
   pub bytes : Each (λ (c : ℕ). c < 256) v
 

@@ -5,6 +5,7 @@ use Prim.Native.Nat.{ℕ, suc, _+_}
 use mathlib.Core.List.{List, [], _∷_, _++_}
 use native.Mathlib.Omega.{arith}
 use lib.ListN.{length, length-append}
+use Rattle.rules_shared.specs.House.{house1401}
 use Rattle.rules_shared.specs.Refusals.{Refusal, refusal}
 use Rattle.rules_deck.specs.Trees.{Statement}
 use Rattle.rules_deck.specs.Cards.{Punched, textOf}
@@ -44,7 +45,7 @@ taken-last q (d ∷ done) s t =
 
 pub record Going (k : ℕ) (deck : List ℕ) (ps : List Punched) (card : ℕ) (names constants elements dos loops code rows jumps : List ℕ) (n : Counts) : Type 0 where
   pub done : List Statement
-  pub rest : readFrom k 0 nothingTaken ps ≡ after done (readFrom k (n .statements) (takenFrom 0 done nothingTaken) (toCome deck card))
+  pub rest : readFrom (house1401 k) 0 nothingTaken ps ≡ after done (readFrom (house1401 k) (n .statements) (takenFrom 0 done nothingTaken) (toCome deck card))
   pub few : n .statements + length (toCome deck card) ≡ length ps
   pub counted : n .statements ≡ length done
   pub fit : Fit n
@@ -56,16 +57,16 @@ takenBy done = takenFrom 0 done nothingTaken
 
 module _ {k : ℕ} {deck : List ℕ} {ps : List Punched} {card : ℕ} {names constants elements dos loops code rows jumps : List ℕ} {n : Counts}
     (g : Going k deck ps card names constants elements dos loops code rows jumps n) where
-  pub going-ended : toCome deck card ≡ [] → readFrom k 0 nothingTaken ps ≡ read (g .done)
-  going-ended e = g .rest ∙ ap (λ (l : List Punched). after (g .done) (readFrom k (n .statements) (takenBy (g .done)) l)) e ∙ after-end (g .done)
+  pub going-ended : toCome deck card ≡ [] → readFrom (house1401 k) 0 nothingTaken ps ≡ read (g .done)
+  going-ended e = g .rest ∙ ap (λ (l : List Punched). after (g .done) (readFrom (house1401 k) (n .statements) (takenBy (g .done)) l)) e ∙ after-end (g .done)
 
   pub going-refused : (number : ℕ) (p : Punched) (more : List Punched) → toCome deck card ≡ p ∷ more
-      → ((rest : Taken → Read) → readText k (n .statements) (p .number) (takenBy (g .done)) rest (textOf (p .raw)) ≡ notRead (refusal number (suc (n .statements)) 0))
-      → readFrom k 0 nothingTaken ps ≡ notRead (refusal number (suc (n .statements)) 0)
+      → ((rest : Taken → Read) → readText (house1401 k) (n .statements) (p .number) (takenBy (g .done)) rest (textOf (p .raw)) ≡ notRead (refusal number (suc (n .statements)) 0))
+      → readFrom (house1401 k) 0 nothingTaken ps ≡ notRead (refusal number (suc (n .statements)) 0)
   going-refused number p more e h =
       g .rest
-      ∙ ap (λ (l : List Punched). after (g .done) (readFrom k (n .statements) (takenBy (g .done)) l)) e
-      ∙ ap (after (g .done)) (h (λ u. readFrom k (suc (n .statements)) u more))
+      ∙ ap (λ (l : List Punched). after (g .done) (readFrom (house1401 k) (n .statements) (takenBy (g .done)) l)) e
+      ∙ ap (after (g .done)) (h (λ u. readFrom (house1401 k) (suc (n .statements)) u more))
       ∙ after-refused (g .done) (refusal number (suc (n .statements)) 0)
 
   pub going-on : {names′ constants′ elements′ dos′ loops′ code′ rows′ jumps′ : List ℕ} {m : Counts} (p : Punched) (next : ℕ) → toCome deck card ≡ p ∷ toCome deck next
@@ -79,17 +80,17 @@ module _ {k : ℕ} {deck : List ℕ} {ps : List Punched} {card : ℕ} {names con
       ap (λ (i : ℕ). takes i (h .form) (takenBy (g .done))) l ∙ sym (taken-last 0 (g .done) s nothingTaken ∙ ap (λ (i : ℕ). takes i (h .form) (takenBy (g .done))) (omega arith)) in
       let D : drafts q s (draftOf (g .done)) ≡ draftOf (g .done ++ (s ∷ [])) =
       ap (λ (i : ℕ). drafts i s (draftOf (g .done))) l ∙ sym (draft-next (g .done) s) in
-      let r : readFrom k 0 nothingTaken ps ≡ after (g .done ++ (s ∷ [])) (readFrom k (suc q) (takenBy (g .done ++ (s ∷ []))) (toCome deck next)) =
+      let r : readFrom (house1401 k) 0 nothingTaken ps ≡ after (g .done ++ (s ∷ [])) (readFrom (house1401 k) (suc q) (takenBy (g .done ++ (s ∷ []))) (toCome deck next)) =
       g .rest
-      ∙ ap (λ (x : List Punched). after (g .done) (readFrom k q (takenBy (g .done)) x)) e
-      ∙ ap (after (g .done)) (h .reads (λ u. readFrom k (suc q) u (toCome deck next)))
-      ∙ sym (after-last (g .done) s (readFrom k (suc q) (takes q (h .form) (takenBy (g .done))) (toCome deck next)))
-      ∙ ap (λ (u : Taken). after (g .done ++ (s ∷ [])) (readFrom k (suc q) u (toCome deck next))) t in
+      ∙ ap (λ (x : List Punched). after (g .done) (readFrom (house1401 k) q (takenBy (g .done)) x)) e
+      ∙ ap (after (g .done)) (h .reads (λ u. readFrom (house1401 k) (suc q) u (toCome deck next)))
+      ∙ sym (after-last (g .done) s (readFrom (house1401 k) (suc q) (takes q (h .form) (takenBy (g .done))) (toCome deck next)))
+      ∙ ap (λ (u : Taken). after (g .done ++ (s ∷ [])) (readFrom (house1401 k) (suc q) u (toCome deck next))) t in
       let c = h .counted in
       let few = ap (length {A = Punched}) e in
       record {
         done = g .done ++ (s ∷ []);
-        rest = r ∙ ap (λ (i : ℕ). after (g .done ++ (s ∷ [])) (readFrom k i (takenBy (g .done ++ (s ∷ []))) (toCome deck next))) (sym c);
+        rest = r ∙ ap (λ (i : ℕ). after (g .done ++ (s ∷ [])) (readFrom (house1401 k) i (takenBy (g .done ++ (s ∷ []))) (toCome deck next))) (sym c);
         few = omega (arith, g .few);
         counted = c ∙ simp length-append (omega arith);
         fit = h .fit;

@@ -8,6 +8,7 @@ use native.Mathlib.Omega.{arith}
 use lib.Dec.{leb}
 use lib.ListN.{length}
 use borrow.Author.Tests.{leb-true}
+use Rattle.rules_shared.specs.House.{house1401}
 use Rattle.rules_shared.specs.Refusals.{refusal}
 use Rattle.rules_shared.specs.Lists.{each-none}
 use Rattle.rules_deck.specs.Cards.{Punched, cardsOf, textOf, rightDigits, counted, Carded, cardsRefused, statements, carded}
@@ -31,15 +32,15 @@ use Rattle.drafting.proofs.Going.{Going, takenBy, going-ended, going-re
 
 -- ---- k
 
-digits-right : (k : ℕ) (deck : List ℕ) (ps : List Punched) → carded k deck ≡ statements ps → rightDigits k ≡ true
+digits-right : (k : ℕ) (deck : List ℕ) (ps : List Punched) → carded (house1401 k) deck ≡ statements ps → rightDigits (house1401 k) ≡ true
 unfolding carded
-digits-right k deck ps = go (rightDigits k) _
+digits-right k deck ps = go (rightDigits (house1401 k)) _
   where
     go : (b : Bool) (c : Carded) → cond b c (cardsRefused 1 0) ≡ statements ps → b ≡ true
     go true c e = refl
     go false c e = let z : _≡_ {A = ℕ} 0 1 = cc in absurd (omega arith)
 
-digits-within : (k : ℕ) → rightDigits k ≡ true → (1 ≤ k) × (k ≤ 9)
+digits-within : (k : ℕ) → rightDigits (house1401 k) ≡ true → (1 ≤ k) × (k ≤ 9)
 unfolding rightDigits
 digits-within k = go (leb 1 k) (leb k 9) refl refl
   where
@@ -91,7 +92,7 @@ going-fresh g = subst (λ (q : ℕ). Fresh q (draftOf (g .done))) (sym (g .count
 -- ---- the loop; the tables are as long as at first
 
 pub record Round (k : ℕ) (deck : List ℕ) (items₀ names₀ constants₀ elements₀ dos₀ loops₀ code₀ rows₀ jumps₀ : List ℕ) (card : ℕ) (items names constants elements dos loops code rows jumps : List ℕ) (n : Counts) : Type 0 where
-  pub going : (ps : List Punched) → carded k deck ≡ statements ps → Going k deck ps card names constants elements dos loops code rows jumps n
+  pub going : (ps : List Punched) → carded (house1401 k) deck ≡ statements ps → Going k deck ps card names constants elements dos loops code rows jumps n
   pub items-same : length items ≡ length items₀
   pub names-same : length names ≡ length names₀
   pub constants-same : length constants ≡ length constants₀
@@ -109,7 +110,7 @@ round-start k deck items names constants elements dos loops code rows jumps =
       going = λ ps e.
           record {
             done = [];
-            rest = ap (readFrom k 0 nothingTaken) (from-start deck (record { digits = k; all = ps; is = e }));
+            rest = ap (readFrom (house1401 k) 0 nothingTaken) (from-start deck (record { digits = k; all = ps; is = e }));
             few = omega (arith, ap (length {A = Punched}) (from-start deck (record { digits = k; all = ps; is = e })));
             counted = refl;
             fit = fit-none;
@@ -148,7 +149,7 @@ round-ahead {k} {deck} {card = card} b r =
             jumps-long = r .jumps-same ∙ b .room .jumps-long;
           };
       fit = g .fit;
-      few = omega (arith, g .few, statements-few k deck (b .punched) (b .are));
+      few = omega (arith, g .few, statements-few (house1401 k) deck (b .punched) (b .are));
       draft = draftOf (g .done);
       kept = g .kept;
       fresh = going-fresh g;
@@ -160,7 +161,7 @@ pub record Refuses (k : ℕ) (deck : List ℕ) (card : ℕ) (t : Taken) (n : Cou
   pub punched : Punched
   pub more : List Punched
   pub others : toCome deck card ≡ punched ∷ more
-  pub says : (rest : Taken → Read) → readText k (n .statements) (punched .number) t rest (textOf (punched .raw)) ≡ notRead (refusal number (suc (n .statements)) 0)
+  pub says : (rest : Taken → Read) → readText (house1401 k) (n .statements) (punched .number) t rest (textOf (punched .raw)) ≡ notRead (refusal number (suc (n .statements)) 0)
 
 pub record Goes (k : ℕ) (deck : List ℕ) (card : ℕ) (t : Taken) (D : Draft) (n : Counts) (names constants elements dos loops code rows jumps : List ℕ) (next : ℕ) (m : Counts) : Type 0 where
   pub punched : Punched
@@ -184,12 +185,12 @@ module _ {k : ℕ} {deck : List ℕ} {ps : List Punched} {card : ℕ} {names con
   turn : Steps k deck card (takenBy (g .done)) (draftOf (g .done)) n names′ constants′ elements′ dos′ loops′ code′ rows′ jumps′ r
   turn = c (draftOf (g .done)) (takenBy (g .done)) (g .kept) (matches-deck (g .done)) (going-fresh g)
 
-  pub turn-ended : r ≡ step.End → Drafts (readFrom k 0 nothingTaken ps) names′ constants′ elements′ dos′ loops′ code′ rows′ jumps′ (drafted.Kept n)
+  pub turn-ended : r ≡ step.End → Drafts (readFrom (house1401 k) 0 nothingTaken ps) names′ constants′ elements′ dos′ loops′ code′ rows′ jumps′ (drafted.Kept n)
   turn-ended e =
       let x = steps-ended (subst (Steps k deck card (takenBy (g .done)) (draftOf (g .done)) n names′ constants′ elements′ dos′ loops′ code′ rows′ jumps′) e turn) in
       kept (g .done) n (going-ended g (x .0)) (g .counted) (g .fit) (x .1)
 
-  pub turn-refused : (number : ℕ) → r ≡ step.Refused number → Drafts (readFrom k 0 nothingTaken ps) names′ constants′ elements′ dos′ loops′ code′ rows′ jumps′ (drafted.Refused number (record { 0 = n .statements + 1 }))
+  pub turn-refused : (number : ℕ) → r ≡ step.Refused number → Drafts (readFrom (house1401 k) 0 nothingTaken ps) names′ constants′ elements′ dos′ loops′ code′ rows′ jumps′ (drafted.Refused number (record { 0 = n .statements + 1 }))
   turn-refused number e =
       let x = steps-refused (subst (Steps k deck card (takenBy (g .done)) (draftOf (g .done)) n names′ constants′ elements′ dos′ loops′ code′ rows′ jumps′) e turn) in
       let z : suc (n .statements) ≡ n .statements + 1 = omega arith in

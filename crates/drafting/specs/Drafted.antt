@@ -4,6 +4,7 @@ use mathlib.Core.Path.{_≡_}
 use Prim.Native.Nat.{ℕ, _≤_}
 use mathlib.Core.List.{List}
 use lib.ListN.{length}
+use Rattle.rules_shared.specs.House.{house1401}
 use Rattle.rules_shared.specs.Refusals.{refusal}
 use Rattle.rules_deck.specs.Trees.{Statement}
 use Rattle.rules_deck.specs.Cards.{Punched, statements, carded}
@@ -17,7 +18,7 @@ use Rattle.drafting.specs.declared.Drafted.the-variants as drafted
 -- what stands between the code and its limits before the first statement
 pub record Begins (k : ℕ) (deck items names constants elements dos loops code rows jumps : List ℕ) : Type 0 where
   pub punched : List Punched
-  pub are : carded k deck ≡ statements punched
+  pub are : carded (house1401 k) deck ≡ statements punched
   pub items-long : 2651 ≤ length items
   pub room : Room names constants elements dos loops code rows jumps
 

@@ -1,6 +1,7 @@
 // A deck's statements, one after the other, kept as a draft in the tables that are lent, or the first that is refused.
 ghost use mathlib.Core.Path.{_≡_};
 ghost use mathlib.Core.List.{List};
+ghost use Rattle.rules_shared.specs.House.{house1401};
 ghost use Rattle.rules_deck.specs.Cards.{Punched, statements, carded};
 ghost use Rattle.rules_deck.specs.Judge.{nothingTaken};
 ghost use Rattle.rules_deck.specs.Compile.{readFrom};
@@ -28,7 +29,7 @@ pub fn draft(
     jumps: &mut [u32],
 ) -> Drafted
     requires { ⌜ Begins k (now deck) (now items) (now names) (now constants) (now elements) (now dos) (now loops) (now code) (now rows) (now jumps) ⌝ }
-    ensures { λ r. ⌜ ((ps : List Punched) → carded k (now (deck .entry)) ≡ statements ps → Drafts (readFrom k 0 nothingTaken ps) (now (names .exit)) (now (constants .exit)) (now (elements .exit)) (now (dos .exit)) (now (loops .exit)) (now (code .exit)) (now (rows .exit)) (now (jumps .exit)) r) ⌝ }
+    ensures { λ r. ⌜ ((ps : List Punched) → carded (house1401 k) (now (deck .entry)) ≡ statements ps → Drafts (readFrom (house1401 k) 0 nothingTaken ps) (now (names .exit)) (now (constants .exit)) (now (elements .exit)) (now (dos .exit)) (now (loops .exit)) (now (code .exit)) (now (rows .exit)) (now (jumps .exit)) r) ⌝ }
 {
     let mut n = Counts {
         names: 0,

@@ -85,7 +85,7 @@ nothing-more T words constants elements n h t =
 module _ {p : Plan} {names elements words : List ℕ} {n : Counts} (h : Fit n) where
   pub ends-nothing : (p .kind ≡ 0 → ⊥) → (p .kind ≡ 1 → ⊥) → (p .kind ≡ 2 → ⊥) → (p .kind ≡ 3 → ⊥) → (p .kind ≡ 4 → ⊥) → (p .kind ≡ 6 → ⊥) → (p .kind ≡ 7 → ⊥)
       → EmitsEnding p names elements words elements words n (emitted.Counts n)
-  ends-nothing a b c d x y z f held T constants e l t r k =
+  ends-nothing a b c d x y z digits f held T constants e l t r k =
       let same : kindOf f ≡ p .kind = of-kind p f e (p .kind) refl in
       let w = quiet held (DOI (n .dos) noLoop) f (λ q. a (sym same ∙ q)) (λ q. b (sym same ∙ q)) (λ q. c (sym same ∙ q)) (λ q. d (sym same ∙ q)) (λ q. x (sym same ∙ q)) (λ q. y (sym same ∙ q)) (λ q. z (sym same ∙ q)) in
       subst (λ (m : ℕ). EmitsWith m T (formEnding held (dimsHeld held) (DOI (n .dos) noLoop) f) words constants elements words n (emitted.Counts n)) (sym (w .does))
@@ -106,7 +106,7 @@ lists-as {held} {names} {n} {m} b l =
 module _ {p : Plan} {items names constants elements words constants₁ elements₁ words₁ : List ℕ} {n : Counts} {a : Emitted}
     (s : EmitsItems (take (p .count - 0) (drop 0 items)) names constants elements words constants₁ elements₁ words₁ n a) where
   pub plan-full : (elements′ words′ : List ℕ) → a ≡ emitted.Full → EmitsPlan p items names constants elements words constants₁ elements′ words′ n emitted.Full
-  plan-full elements′ words′ e f held T q l t r k j =
+  plan-full elements′ words′ e digits f held T q l t r k j =
       subst (λ (is : List Instr). EmitsWith (length (formLast f)) T is words constants₁ elements′ words′ n emitted.Full)
       (sym (form-code held (dimsHeld held) (DOI (n .dos) noLoop) f))
       (full-then T (itemsCode held (dimsHeld held) (formItems f)) (formEnding held (dimsHeld held) (DOI (n .dos) noLoop) f)
@@ -114,9 +114,9 @@ module _ {p : Plan} {items names constants elements words constants₁ elements�
 
   pub plan-then : {m : Counts} {r : Emitted} {elements′ words′ : List ℕ} → a ≡ emitted.Counts m → EmitsEnding p names elements₁ words₁ elements′ words′ m r
       → EmitsPlan p items names constants elements words constants₁ elements′ words′ n r
-  plan-then {m} {r} {elements′} {words′} e g f held T q l t z k j =
+  plan-then {m} {r} {elements′} {words′} e g digits f held T q l t z k j =
       let wrote = s held (formItems f) T l t (part items (p .count) ∙ q .operands) j .wrote m e in
-      let ending = g f held _ constants₁ (q .plan) (lists-as (wrote .beside) l) (wrote .tables) z k in
+      let ending = g digits f held _ constants₁ (q .plan) (lists-as (wrote .beside) l) (wrote .tables) z k in
       subst (λ (is : List Instr). EmitsWith (length (formLast f)) T is words constants₁ elements′ words′ n r)
       (ap (λ (d : ℕ). itemsCode held (dimsHeld held) (formItems f) ++ formEnding held (dimsHeld held) (DOI d noLoop) f) (wrote .beside .dos) ∙ sym (form-code held (dimsHeld held) (DOI (n .dos) noLoop) f))
       (emits-both T (itemsCode held (dimsHeld held) (formItems f)) (formEnding held (dimsHeld held) (DOI (m .dos) noLoop) f) wrote ending)

@@ -6,6 +6,7 @@ use mathlib.Core.Bool.{true, cond}
 use mathlib.Core.List.{List}
 use lib.Dec.{eqb}
 use lib.ListN.{length, take}
+use Rattle.rules_shared.specs.House.{house1401}
 use Rattle.rules_object.specs.Operations.{DOI}
 use Rattle.rules_deck.specs.Trees.{Form, formLast}
 use Rattle.rules_deck.specs.Translation.{Held, Tables}
@@ -33,12 +34,12 @@ pub record Emitting (p : Plan) (items names constants elements code : List ℕ) 
 
 abbrev pub EmitsEnding : Plan → List ℕ → List ℕ → List ℕ → List ℕ → List ℕ → Counts → Emitted → Type 0
 EmitsEnding p names elements words elements′ words′ n r =
-    (f : Form) (held : List Held) (T : Tables) (constants : List ℕ) → p ≡ formPlan f → Lists held names (n .names) (n .cells) → Tabled T constants elements n
-    → right13 f ≡ true → Known held (formFirst f)
+    (digits : ℕ) (f : Form) (held : List Held) (T : Tables) (constants : List ℕ) → p ≡ formPlan f → Lists held names (n .names) (n .cells) → Tabled T constants elements n
+    → right13 (house1401 digits) f ≡ true → Known held (formFirst f)
     → EmitsWith (length (formLast f)) T (formEnding held (dimsHeld held) (DOI (n .dos) noLoop) f) words constants elements′ words′ n r
 
 abbrev pub EmitsPlan : Plan → List ℕ → List ℕ → List ℕ → List ℕ → List ℕ → List ℕ → List ℕ → List ℕ → Counts → Emitted → Type 0
 EmitsPlan p items names constants elements words constants′ elements′ words′ n r =
-    (f : Form) (held : List Held) (T : Tables) → Plans f items p → Lists held names (n .names) (n .cells) → Tabled T constants elements n
-    → right13 f ≡ true → Known held (formFirst f) → Known held (formItems f)
+    (digits : ℕ) (f : Form) (held : List Held) (T : Tables) → Plans f items p → Lists held names (n .names) (n .cells) → Tabled T constants elements n
+    → right13 (house1401 digits) f ≡ true → Known held (formFirst f) → Known held (formItems f)
     → EmitsWith (length (formLast f)) T (draftCode (n .dos) held f) words constants′ elements′ words′ n r

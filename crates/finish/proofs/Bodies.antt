@@ -5,6 +5,7 @@ use Prim.Native.Nat.{ℕ, _+_, _*_, _≤_, _<_, _^_}
 use mathlib.Core.List.{List, [], _∷_, map}
 use native.Mathlib.Omega.{arith}
 use lib.ListN.{length, take, length-take}
+use Rattle.rules_shared.specs.House.{house1401}
 use Rattle.rules_object.specs.Bytes.{bytesOf, concat, loopWords, lineWords, nameWords, bodies, objectBytes}
 use Rattle.rules_deck.specs.Trees.{Statement}
 use Rattle.rules_deck.specs.Deck.{dosOf}
@@ -34,34 +35,34 @@ holds-fits {table} {ws} {r} h = let e = ap (length {A = ℕ}) (h .words) in omeg
 
 module _ {k : ℕ} {deck : List Statement} {n : Counts} {names constants elements dos loops code rows jumps : List ℕ}
     (f : Finished k deck n names constants elements dos loops code rows jumps) where
-  pub bodies-are : {exits settled lines : List ℕ} {x c l : ℕ} (dos′ entries : List ℕ) → Holds exits x (translate k deck .exits) → Holds settled c (translate k deck .code)
+  pub bodies-are : {exits settled lines : List ℕ} {x c l : ℕ} (dos′ entries : List ℕ) → Holds exits x (translate (house1401 k) deck .exits) → Holds settled c (translate (house1401 k) deck .code)
       → take (4 * n .dos) dos′ ≡ concat (map loopWords (map (loopEntry deck) (dosOf deck))) → Holds lines l (concat (map lineWords (linesFrom deck 0 deck)))
-      → take (5 * n .names) entries ≡ concat (map nameWords (namesFrom 0 (heldOf deck)))
-      → firstWords (wordsIn n x c l) constants elements exits dos′ settled lines entries ≡ bodies (translate k deck)
+      → take (5 * n .names) entries ≡ concat (map nameWords (namesFrom (house1401 k) 0 (heldOf deck)))
+      → firstWords (wordsIn n x c l) constants elements exits dos′ settled lines entries ≡ bodies (translate (house1401 k) deck)
   unfolding translate
   bodies-are dos′ entries hx hc hd hl hn = seven (f .kept .constants-are) (f .kept .elements-are) (hx .words) hd (hc .words) (hl .words) hn
 
-  cells-are : n .cells ≡ translate k deck .cells
+  cells-are : n .cells ≡ translate (house1401 k) deck .cells
   unfolding translate
   cells-are = f .kept .cells-count
 
-  digits-are : bytesOf (wordsOfBodies k (translate k deck .cells) (bodies (translate k deck))) ≡ bytesOf (wordsOfBodies (translate k deck .digits) (translate k deck .cells) (bodies (translate k deck)))
+  digits-are : bytesOf (wordsOfBodies k (translate (house1401 k) deck .cells) (bodies (translate (house1401 k) deck))) ≡ bytesOf (wordsOfBodies (translate (house1401 k) deck .digits) (translate (house1401 k) deck .cells) (bodies (translate (house1401 k) deck)))
   unfolding translate
   digits-are = refl
 
-  pub bytes-are : {exits settled lines : List ℕ} {x c l : ℕ} (dos′ entries : List ℕ) → Holds exits x (translate k deck .exits) → Holds settled c (translate k deck .code)
+  pub bytes-are : {exits settled lines : List ℕ} {x c l : ℕ} (dos′ entries : List ℕ) → Holds exits x (translate (house1401 k) deck .exits) → Holds settled c (translate (house1401 k) deck .code)
       → take (4 * n .dos) dos′ ≡ concat (map loopWords (map (loopEntry deck) (dosOf deck))) → Holds lines l (concat (map lineWords (linesFrom deck 0 deck)))
-      → take (5 * n .names) entries ≡ concat (map nameWords (namesFrom 0 (heldOf deck)))
-      → bytesOf (wordsOfBodies k (n .cells) (firstWords (wordsIn n x c l) constants elements exits dos′ settled lines entries)) ≡ objectBytes (translate k deck)
+      → take (5 * n .names) entries ≡ concat (map nameWords (namesFrom (house1401 k) 0 (heldOf deck)))
+      → bytesOf (wordsOfBodies k (n .cells) (firstWords (wordsIn n x c l) constants elements exits dos′ settled lines entries)) ≡ objectBytes (translate (house1401 k) deck)
   bytes-are dos′ entries hx hc hd hl hn =
       ap (λ (b : List (List ℕ)). bytesOf (wordsOfBodies k (n .cells) b)) (bodies-are dos′ entries hx hc hd hl hn)
-      ∙ ap (λ (i : ℕ). bytesOf (wordsOfBodies k i (bodies (translate k deck)))) (cells-are)
+      ∙ ap (λ (i : ℕ). bytesOf (wordsOfBodies k i (bodies (translate (house1401 k) deck)))) (cells-are)
       ∙ digits-are
-      ∙ sym (object-bytes (translate k deck))
+      ∙ sym (object-bytes (translate (house1401 k) deck))
 
   -- ---- what the parts ask for
 
-  pub judged : Judged k deck rows (n .statements) loops (n .dos) jumps
+  pub judged : Judged (house1401 k) deck rows (n .statements) loops (n .dos) jumps
   judged =
       record {
         in-rows = record { accepted = f .accepted; counted = f .counted; rows-are = f .kept .rows-are };
@@ -69,14 +70,14 @@ module _ {k : ℕ} {deck : List Statement} {n : Counts} {names constants element
         jumps-are = ap (λ (i : ℕ). take i jumps) (sym (f .kept .jumps-count)) ∙ f .placed;
       }
 
-  pub settling : {starts : List ℕ} → Starts deck starts → Settling k deck rows (n .statements) loops (n .dos) jumps starts code
+  pub settling : {starts : List ℕ} → Starts deck starts → Settling (house1401 k) deck rows (n .statements) loops (n .dos) jumps starts code
   settling s =
       record { judged = judged; starts-are = s; drafted = ap (λ (i : ℕ). take i code) (sym (f .kept .code-count)) ∙ f .kept .code-is }
 
-  pub leading : {starts : List ℕ} → Starts deck starts → Leading k deck rows (n .statements) jumps starts
+  pub leading : {starts : List ℕ} → Starts deck starts → Leading (house1401 k) deck rows (n .statements) jumps starts
   leading s = record { in-rows = judged .in-rows; jumps-are = judged .jumps-are; starts-are = s }
 
-  pub listing : Names k deck names (n .names)
+  pub listing : Names (house1401 k) deck names (n .names)
   listing = record { accepted = f .accepted; counted = f .kept .names-count; words-are = f .kept .names-are }
 
   -- ---- room

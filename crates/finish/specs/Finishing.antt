@@ -4,6 +4,7 @@ use mathlib.Core.Path.{_≡_}
 use Prim.Native.Nat.{ℕ}
 use mathlib.Core.List.{List, map}
 use lib.ListN.{length, take}
+use Rattle.rules_shared.specs.House.{house1401}
 use Rattle.rules_deck.specs.Trees.{Statement}
 use Rattle.rules_deck.specs.Deck.{positionOf}
 use Rattle.rules_deck.specs.Accepted.{Accepted}
@@ -13,10 +14,10 @@ use Rattle.draft.specs.Kept.{Room, Fit}
 use Rattle.draft.specs.KeptDeck.{KeptDeck}
 
 pub record Finished (k : ℕ) (deck : List Statement) (n : Counts) (names constants elements dos loops code rows jumps : List ℕ) : Type 0 where
-  pub accepted : Accepted k deck
+  pub accepted : Accepted (house1401 k) deck
   -- the jumps before they had positions
   pub numbers : List ℕ
-  pub kept : KeptDeck k deck names constants elements dos loops code rows numbers n
+  pub kept : KeptDeck (house1401 k) deck names constants elements dos loops code rows numbers n
   pub placed : take (n .jumps) jumps ≡ map (positionOf deck) (deckJumps deck)
   pub counted : n .statements ≡ length deck
   pub room : Room names constants elements dos loops code rows jumps

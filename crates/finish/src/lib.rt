@@ -3,6 +3,7 @@ ghost use mathlib.Core.Path.{_≡_};
 ghost use mathlib.Core.List.{List};
 ghost use Rattle.rules_object.specs.Bytes.{objectBytes};
 ghost use Rattle.rules_shared.specs.Output.{write};
+ghost use Rattle.rules_shared.specs.House.{house1401};
 ghost use Rattle.rules_deck.specs.Trees.{Statement};
 ghost use Rattle.rules_deck.specs.Translation.{translate};
 ghost use Rattle.writer.specs.Answer.{answer, Low};
@@ -25,7 +26,7 @@ pub fn finish(
     output: &mut [u8],
 ) -> Wrote
     requires { ⌜ Finishes k n (now names) (now constants) (now elements) (now dos) (now loops) (now code) (now rows) (now jumps) ⌝ }
-    ensures { λ r. ⌜ ((deck : List Statement) → Finished k deck n (now (names .entry)) (now (constants .entry)) (now (elements .entry)) (now (dos .entry)) (now (loops .entry)) (now (code .entry)) (now (rows .entry)) (now (jumps .entry)) → answer r (now (output .exit)) ≡ write (objectBytes (translate k deck)) (now (output .entry))) × Low r ⌝ }
+    ensures { λ r. ⌜ ((deck : List Statement) → Finished k deck n (now (names .entry)) (now (constants .entry)) (now (elements .entry)) (now (dos .entry)) (now (loops .entry)) (now (code .entry)) (now (rows .entry)) (now (jumps .entry)) → answer r (now (output .exit)) ≡ write (objectBytes (translate (house1401 k) deck)) (now (output .entry))) × Low r ⌝ }
 {
     let mut starts = [0u32; 401];
     addresses::addresses(rows, n.statements, loops, n.dos, jumps, &mut starts);

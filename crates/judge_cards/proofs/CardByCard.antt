@@ -8,6 +8,7 @@ use native.Mathlib.Omega.{arith}
 use lib.Dec.{eqb}
 use lib.ListN.{length, drop, length-append}
 use borrow.Author.Tests.{ne-eqb}
+use Rattle.rules_shared.specs.House.{house1401}
 use Rattle.rules_object.specs.Check.{blanks}
 use Rattle.rules_deck.specs.Cards.{cardsOf, columnsRead, numberColumns, textColumns, comment, firstCard, characters, Punched, rightNumber, Reading, nothingRead, wrongFirst, wrongContinuation, wrongCard, started, extended, continued, afterCard, cardsRefused, cardByCard}
 use Rattle.rules_deck.proofs.CardsLaws.{Stands, as-comment, as-first, as-continuation, stands}
@@ -65,17 +66,17 @@ module _ (card : List ℕ) where
 
   -- ---- what is read after it
 
-  pub after-comment : (b : Begun) → comment card ≡ true → record { place = b .place + 1; statements = b .statements; room = b .room } ≡ afterOf b card
+  pub after-comment : (k : ℕ) (b : Begun) → comment card ≡ true → record { place = b .place + 1; statements = b .statements; room = b .room } ≡ afterOf (house1401 k) b card
   unfolding afterOf
-  after-comment b c = sym (simp c)
+  after-comment k b c = sym (simp c)
 
-  pub after-first : (b : Begun) → comment card ≡ false → firstCard card ≡ true → record { place = b .place + 1; statements = b .statements + 1; room = 9 } ≡ afterOf b card
+  pub after-first : (k : ℕ) (b : Begun) → comment card ≡ false → firstCard card ≡ true → record { place = b .place + 1; statements = b .statements + 1; room = 9 } ≡ afterOf (house1401 k) b card
   unfolding afterOf
-  after-first b c f = sym (simp (c, f))
+  after-first k b c f = sym (simp (c, f))
 
-  pub after-continuation : (b : Begun) → comment card ≡ false → firstCard card ≡ false → record { place = b .place + 1; statements = b .statements; room = b .room - 1 } ≡ afterOf b card
+  pub after-continuation : (k : ℕ) (b : Begun) → comment card ≡ false → firstCard card ≡ false → record { place = b .place + 1; statements = b .statements; room = b .room - 1 } ≡ afterOf (house1401 k) b card
   unfolding afterOf
-  after-continuation b c f = sym (simp (c, f))
+  after-continuation k b c f = sym (simp (c, f))
 
   pub has-room : (room : ℕ) → wrongCard room card ≡ 0 → comment card ≡ false → firstCard card ≡ false → 1 ≤ room
   has-room room w c f = go (stands room card w)
@@ -90,11 +91,11 @@ length-extended [] t = refl
 length-extended (p ∷ []) t = refl
 length-extended (p ∷ q ∷ ps) t = ap suc (length-extended (q ∷ ps) t)
 
-after-is : (place : ℕ) (r : Reading) (card : List ℕ) → begunOf (place + 1) (afterCard r card) ≡ afterOf (begunOf place r) card
+after-is : (k : ℕ) (place : ℕ) (r : Reading) (card : List ℕ) → begunOf (place + 1) (afterCard (house1401 k) r card) ≡ afterOf (house1401 k) (begunOf place r) card
 unfolding afterCard afterOf
-after-is place r card = go (comment card) (firstCard card)
+after-is k place r card = go (comment card) (firstCard card)
   where
-    go : (c f : Bool) → begunOf (place + 1) (cond c r (cond f (started r card) (continued r card))) ≡
+    go : (c f : Bool) → begunOf (place + 1) (cond c r (cond f (started (house1401 k) r card) (continued r card))) ≡
         cond c (record { place = place + 1; statements = length (r .begun); room = r .room })
         (cond f (record { place = place + 1; statements = length (r .begun) + 1; room = 9 }) (record { place = place + 1; statements = length (r .begun); room = r .room - 1 }))
     go true f = refl
@@ -106,59 +107,59 @@ one-of P true f x y z p q r = p
 one-of P false true x y z p q r = q
 one-of P false false x y z p q r = r
 
-one-more : (b : Begun) (card : List ℕ) → (afterOf b card .place ≡ b .place + 1) × (afterOf b card .statements ≤ b .statements + 1)
+one-more : (k : ℕ) (b : Begun) (card : List ℕ) → (afterOf (house1401 k) b card .place ≡ b .place + 1) × (afterOf (house1401 k) b card .statements ≤ b .statements + 1)
 unfolding afterOf
-one-more b card =
+one-more k b card =
     one-of (λ (x : Begun). (x .place ≡ b .place + 1) × (x .statements ≤ b .statements + 1)) (comment card) (firstCard card) _ _ _
     (refl, omega arith) (refl, omega arith) (refl, omega arith)
 
 -- ---- the loop
 
 -- the cards before i are read and none is refused
-pub record Going (deck : List ℕ) (b : Begun) (i : ℕ) : Type 0 where
+pub record Going (k : ℕ) (deck : List ℕ) (b : Begun) (i : ℕ) : Type 0 where
   pub reading : Reading
-  pub same : cardByCard 1 nothingRead (cardsOf deck) ≡ cardByCard (b .place) reading (drop i (cardsOf deck))
+  pub same : cardByCard (house1401 k) 1 nothingRead (cardsOf deck) ≡ cardByCard (house1401 k) (b .place) reading (drop i (cardsOf deck))
   pub told : begunOf (b .place) reading ≡ b
   pub placed : b .place ≡ i + 1
   pub few : b .statements ≤ i
   pub within : i ≤ length deck / 80
 
-pub going-start : (deck : List ℕ) → Going deck (record { place = 1; statements = 0; room = 0 }) 0
-going-start deck = record { reading = nothingRead; same = refl; told = refl; placed = omega arith; few = omega arith; within = omega arith }
+pub going-start : (k : ℕ) (deck : List ℕ) → Going k deck (record { place = 1; statements = 0; room = 0 }) 0
+going-start k deck = record { reading = nothingRead; same = refl; told = refl; placed = omega arith; few = omega arith; within = omega arith }
 
-module _ (deck card : List ℕ) (b : Begun) (i : ℕ) (g : Going deck b i) (a : CardAt deck i card) where
+module _ (k : ℕ) (deck card : List ℕ) (b : Begun) (i : ℕ) (g : Going k deck b i) (a : CardAt deck i card) where
   abbrev rest : List (List ℕ)
   rest = drop (i + 1) (cardsOf deck)
 
   room-is : g .reading .room ≡ b .room
   room-is = ap (λ (x : Begun). x .room) (g .told)
 
-  step : cardByCard 1 nothingRead (cardsOf deck) ≡ cond (eqb (wrongCard (b .room) card) 0) (cardByCard (suc (b .place)) (afterCard (g .reading) card) rest) (cardsRefused (wrongCard (b .room) card) (b .place))
+  step : cardByCard (house1401 k) 1 nothingRead (cardsOf deck) ≡ cond (eqb (wrongCard (b .room) card) 0) (cardByCard (house1401 k) (suc (b .place)) (afterCard (house1401 k) (g .reading) card) rest) (cardsRefused (wrongCard (b .room) card) (b .place))
   step =
-      g .same ∙ ap (cardByCard (b .place) (g .reading)) (a .here)
-      ∙ ap (λ (n : ℕ). cond (eqb (wrongCard n card) 0) (cardByCard (suc (b .place)) (afterCard (g .reading) card) rest) (cardsRefused (wrongCard n card) (b .place))) room-is
+      g .same ∙ ap (cardByCard (house1401 k) (b .place) (g .reading)) (a .here)
+      ∙ ap (λ (n : ℕ). cond (eqb (wrongCard n card) 0) (cardByCard (house1401 k) (suc (b .place)) (afterCard (house1401 k) (g .reading) card) rest) (cardsRefused (wrongCard n card) (b .place))) room-is
 
-  pub going-refused : (n : ℕ) → n ≡ wrongCard (b .room) card → (n ≡ 0 → ⊥) → Refused n (b .place) ≡ judgedOf (cardByCard 1 nothingRead (cardsOf deck))
+  pub going-refused : (n : ℕ) → n ≡ wrongCard (b .room) card → (n ≡ 0 → ⊥) → Refused n (b .place) ≡ judgedOf (cardByCard (house1401 k) 1 nothingRead (cardsOf deck))
   unfolding judgedOf
   going-refused n e z =
-      let r : cardByCard 1 nothingRead (cardsOf deck) ≡ cardsRefused n (b .place) = step ∙ simp (sym e, ne-eqb n 0 z) in
+      let r : cardByCard (house1401 k) 1 nothingRead (cardsOf deck) ≡ cardsRefused n (b .place) = step ∙ simp (sym e, ne-eqb n 0 z) in
       sym (ap judgedOf r)
 
-  pub going-on : (i < length deck / 80) → wrongCard (b .room) card ≡ 0 → Going deck (afterOf b card) (i + 1)
+  pub going-on : (i < length deck / 80) → wrongCard (b .room) card ≡ 0 → Going k deck (afterOf (house1401 k) b card) (i + 1)
   going-on h e =
-      let m = one-more b card in
-      let s : suc (b .place) ≡ afterOf b card .place = omega arith in
-      let r : cardByCard 1 nothingRead (cardsOf deck) ≡ cardByCard (suc (b .place)) (afterCard (g .reading) card) rest = step ∙ simp e in
+      let m = one-more k b card in
+      let s : suc (b .place) ≡ afterOf (house1401 k) b card .place = omega arith in
+      let r : cardByCard (house1401 k) 1 nothingRead (cardsOf deck) ≡ cardByCard (house1401 k) (suc (b .place)) (afterCard (house1401 k) (g .reading) card) rest = step ∙ simp e in
       record {
-        reading = afterCard (g .reading) card;
-        same = r ∙ ap (λ (n : ℕ). cardByCard n (afterCard (g .reading) card) rest) s;
-        told = ap (λ (n : ℕ). begunOf n (afterCard (g .reading) card)) (m .0) ∙ after-is (b .place) (g .reading) card ∙ ap (λ (x : Begun). afterOf x card) (g .told);
+        reading = afterCard (house1401 k) (g .reading) card;
+        same = r ∙ ap (λ (n : ℕ). cardByCard (house1401 k) n (afterCard (house1401 k) (g .reading) card) rest) s;
+        told = ap (λ (n : ℕ). begunOf n (afterCard (house1401 k) (g .reading) card)) (m .0) ∙ after-is k (b .place) (g .reading) card ∙ ap (λ (x : Begun). afterOf (house1401 k) x card) (g .told);
         placed = omega (arith, g .placed);
         few = omega (arith, g .few);
         within = omega arith;
       }
 
-pub going-end : (deck : List ℕ) (b : Begun) (i : ℕ) → Going deck b i → length deck / 80 ≤ i → Statements (record { 0 = b .statements }) ≡ judgedOf (cardByCard 1 nothingRead (cardsOf deck))
+pub going-end : (k : ℕ) (deck : List ℕ) (b : Begun) (i : ℕ) → Going k deck b i → length deck / 80 ≤ i → Statements (record { 0 = b .statements }) ≡ judgedOf (cardByCard (house1401 k) 1 nothingRead (cardsOf deck))
 unfolding judgedOf
-going-end deck b i g h =
-    sym (ap judgedOf (g .same ∙ ap (cardByCard (b .place) (g .reading)) (cards-end deck i h)) ∙ ap (λ (x : Begun). Statements (record { 0 = x .statements })) (g .told))
+going-end k deck b i g h =
+    sym (ap judgedOf (g .same ∙ ap (cardByCard (house1401 k) (b .place) (g .reading)) (cards-end deck i h)) ∙ ap (λ (x : Begun). Statements (record { 0 = x .statements })) (g .told))

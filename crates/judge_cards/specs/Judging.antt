@@ -4,7 +4,7 @@ use Prim.Native.Nat.{ℕ, _+_, _-_}
 use mathlib.Core.Bool.{cond}
 use mathlib.Core.List.{List}
 use lib.ListN.{length}
-use Rattle.rules_shared.specs.Limits.{limits}
+use Rattle.rules_shared.specs.House.{House}
 use Rattle.rules_deck.specs.Cards.{comment, firstCard, Reading, Carded, cardsRefused, statements}
 use Rattle.judge_cards.specs.declared.Judged.{Judged}
 use Rattle.judge_cards.specs.declared.Judged.the-variants.{Refused, Statements}
@@ -18,8 +18,8 @@ judgedOf (statements ps) = Statements (record { 0 = length ps })
 abbrev pub begunOf : ℕ → Reading → Begun
 begunOf place r = record { place = place; statements = length (r .begun); room = r .room }
 
-unfoldable pub afterOf : Begun → List ℕ → Begun
-afterOf b card =
+unfoldable pub afterOf : House → Begun → List ℕ → Begun
+afterOf house b card =
     cond (comment card) (record { place = b .place + 1; statements = b .statements; room = b .room })
-    (cond (firstCard card) (record { place = b .place + 1; statements = b .statements + 1; room = limits .continuations })
+    (cond (firstCard card) (record { place = b .place + 1; statements = b .statements + 1; room = house .continuations })
     (record { place = b .place + 1; statements = b .statements; room = b .room - 1 }))

@@ -1,11 +1,15 @@
 // A deck's cards judged: refused by 1 to 5 or 7, or how many statements they hold.
 ghost use mathlib.Core.Path.{_≡_};
-ghost use Prim.Native.Nat.{_<_, _≤_};
+ghost use Prim.Native.Nat.{ℕ, _<_, _≤_};
 ghost use lib.ListN.{length};
+ghost use Rattle.rules_shared.specs.House.{house1401};
 ghost use Rattle.rules_deck.specs.Cards.{cardsOf, nothingRead, wrongFirst, wrongContinuation, wrongCard, cardByCard, carded};
 ghost use Rattle.judge_cards.specs.Judging.{judgedOf, afterOf};
 use cards::Columns;
 use cards::Sequence;
+
+// Cards that may follow a statement's first.
+const CONTINUATIONS: u32 = 9;
 
 pub enum Judged {
     Refused { number: u32, place: u32 },
@@ -62,7 +66,7 @@ struct Begun {
 
 fn after_card(b: Begun, card: &[u8]) -> Begun
     requires { ⌜ (length (now card) ≡ 80) × ((wrongCard (b .room) (now card) ≡ 0) × ((b .place < 1000) × (b .statements < 1000))) ⌝ }
-    ensures { λ r. ⌜ r ≡ afterOf b (now (card .entry)) ⌝ }
+    ensures { λ r. ⌜ ((k : ℕ) → r ≡ afterOf (house1401 k) b (now (card .entry))) ⌝ }
 {
     if cards::is_comment(card) {
         let passed = b.place + 1;
@@ -76,7 +80,7 @@ fn after_card(b: Begun, card: &[u8]) -> Begun
         return Begun {
             place: b.place + 1,
             statements: b.statements + 1,
-            room: 9,
+            room: CONTINUATIONS,
         };
     }
     Begun {
@@ -88,7 +92,7 @@ fn after_card(b: Begun, card: &[u8]) -> Begun
 
 fn card_by_card(deck: &[u8]) -> Judged
     requires { ⌜ length (now deck) ≤ 40960 ⌝ }
-    ensures { λ r. ⌜ r ≡ judgedOf (cardByCard 1 nothingRead (cardsOf (now (deck .entry)))) ⌝ }
+    ensures { λ r. ⌜ ((k : ℕ) → r ≡ judgedOf (cardByCard (house1401 k) 1 nothingRead (cardsOf (now (deck .entry))))) ⌝ }
 {
     let cards = deck.len() / 80;
     let mut b = Begun {
@@ -113,7 +117,7 @@ fn card_by_card(deck: &[u8]) -> Judged
 }
 
 pub fn judge(k: u32, deck: &[u8]) -> Judged
-    ensures { λ r. ⌜ r ≡ judgedOf (carded k (now (deck .entry))) ⌝ }
+    ensures { λ r. ⌜ r ≡ judgedOf (carded (house1401 k) (now (deck .entry))) ⌝ }
 {
     if k < 1 || 9 < k {
         return Judged::Refused {

@@ -9,9 +9,11 @@ use native.Mathlib.Omega.{arith}
 use lib.Dec.{leb}
 use lib.ListN.{length, take, length-take, length-map}
 use borrow.Author.Tests.{leb-true, leb-false, le-leb, lt-leb}
+use Rattle.rules_shared.specs.House.{house1401}
 use Rattle.rules_shared.specs.Lists.{all}
 use Rattle.rules_deck.specs.Trees.{Name, Expr, Digits, valueOf, Form, assign, goTo, computed, ifs, loop, continue, stop, end, dimension, formNames, formConstants, formExits, formLast, formLevels}
 use Rattle.rules_deck.specs.Judge.{right11, right12, right13, right14}
+use Rattle.rules_deck.proofs.Houses.{lawful1401, right13-all}
 use Rattle.tokens.specs.Words.{capped}
 use Rattle.forms.specs.Statements.{formWords, formSizes, statementOf}
 use Rattle.reader.proofs.Limits.{sizes-11, sizes-12, sizes-14}
@@ -50,42 +52,42 @@ and-true false = refl
 
 -- ---- a form
 
-sizes-tell : (k : ℕ) (f : Form) (b : Bool) → b ≡ right13 f → ofSizes k (formSizes f) b ≡ lowest (right11 f) (right12 k f) (right13 f) (right14 f)
+sizes-tell : (k : ℕ) (f : Form) (b : Bool) → b ≡ right13 (house1401 k) f → ofSizes k (formSizes f) b ≡ lowest (right11 (house1401 k) f) (right12 (house1401 k) f) (right13 (house1401 k) f) (right14 f)
 unfolding ofSizes
-sizes-tell k f b e = rw (sizes-11 f, sizes-12 k f, sizes-14 f, e)
+sizes-tell k f b e = rw (sizes-11 (house1401 k) f, sizes-12 (house1401 k) f, sizes-14 f, e)
 
-number-tells : (n : Digits) → rightNumber (capped n) ≡ right13 (goTo n)
-unfolding right13 formExits formLast
-number-tells n = capped-right n ∙ sym (and-true (rightDigits n))
+number-tells : (k : ℕ) (n : Digits) → rightNumber (capped n) ≡ right13 (house1401 k) (goTo n)
+unfolding formExits formLast
+number-tells k n = capped-right n ∙ sym (and-true (rightDigits n)) ∙ sym (right13-all (lawful1401 k) (goTo n))
 
-last-tells : (n : Digits) (v : Name) (p q : Expr) (r : Option Expr) → rightNumber (capped n) ≡ right13 (loop n v p q r)
-unfolding right13 formExits formLast
-last-tells n v p q r = capped-right n ∙ sym (and-true (rightDigits n))
+last-tells : (k : ℕ) (n : Digits) (v : Name) (p q : Expr) (r : Option Expr) → rightNumber (capped n) ≡ right13 (house1401 k) (loop n v p q r)
+unfolding formExits formLast
+last-tells k n v p q r = capped-right n ∙ sym (and-true (rightDigits n)) ∙ sym (right13-all (lawful1401 k) (loop n v p q r))
 
-three-tell : (e : Expr) (a b c : Digits) → (rightNumber (capped a) && (rightNumber (capped b) && rightNumber (capped c))) ≡ right13 (ifs e a b c)
-unfolding right13 formExits formLast
-three-tell e a b c = rw (capped-right a, capped-right b, capped-right c, and-true (rightDigits c))
+three-tell : (k : ℕ) (e : Expr) (a b c : Digits) → (rightNumber (capped a) && (rightNumber (capped b) && rightNumber (capped c))) ≡ right13 (house1401 k) (ifs e a b c)
+unfolding formExits formLast
+three-tell k e a b c = rw (right13-all (lawful1401 k) (ifs e a b c), capped-right a, capped-right b, capped-right c, and-true (rightDigits c))
 
-list-tells : (ns : List Digits) (v : Name) → all rightNumber (map capped ns) ≡ right13 (computed ns v)
-unfolding right13 formExits formLast
-list-tells ns v = all-capped ns ∙ ap (all rightDigits) (sym (append-nil ns))
+list-tells : (k : ℕ) (ns : List Digits) (v : Name) → all rightNumber (map capped ns) ≡ right13 (house1401 k) (computed ns v)
+unfolding formExits formLast
+list-tells k ns v = all-capped ns ∙ ap (all rightDigits) (sym (append-nil ns)) ∙ sym (right13-all (lawful1401 k) (computed ns v))
 
-go-to-alone : (k : ℕ) (n : Digits) → ofNumber (rightNumber (capped n)) ≡ lowest (right11 (goTo n)) (right12 k (goTo n)) (right13 (goTo n)) (right14 (goTo n))
+go-to-alone : (k : ℕ) (n : Digits) → ofNumber (rightNumber (capped n)) ≡ lowest (right11 (house1401 k) (goTo n)) (right12 (house1401 k) (goTo n)) (right13 (house1401 k) (goTo n)) (right14 (goTo n))
 unfolding right11 right12 right14 formNames formConstants formLevels
-go-to-alone k n = ap ofNumber (number-tells n)
+go-to-alone k n = ap ofNumber (number-tells k n)
 
 computed-table : (ns : List Digits) (v : Name) (items : List ℕ) → take (length (formWords (computed ns v))) items ≡ formWords (computed ns v) → take (length ns) items ≡ map capped ns
 unfolding formWords
 computed-table ns v items h = subst (λ (n : ℕ). take n items ≡ map capped ns) (length-map ns capped) h
 
 pub of-form : (k : ℕ) (f : Form) (items : List ℕ) → take (length (formWords f)) items ≡ formWords f
-    → ofStatement k items (statementOf f) ≡ lowest (right11 f) (right12 k f) (right13 f) (right14 f)
+    → ofStatement k items (statementOf f) ≡ lowest (right11 (house1401 k) f) (right12 (house1401 k) f) (right13 (house1401 k) f) (right14 f)
 unfolding ofStatement statementOf right11 right12 right13 right14 formNames formConstants formLevels formExits formLast
 of-form k (assign t e) items h = sizes-tell k (assign t e) true refl
 of-form k (goTo n) items h = go-to-alone k n
-of-form k (computed ns v) items h = sizes-tell k (computed ns v) (all rightNumber (take (length ns) items)) (ap (all rightNumber) (computed-table ns v items h) ∙ list-tells ns v)
-of-form k (ifs e a b c) items h = sizes-tell k (ifs e a b c) _ (three-tell e a b c)
-of-form k (loop n v p q r) items h = sizes-tell k (loop n v p q r) _ (last-tells n v p q r)
+of-form k (computed ns v) items h = sizes-tell k (computed ns v) (all rightNumber (take (length ns) items)) (ap (all rightNumber) (computed-table ns v items h) ∙ list-tells k ns v)
+of-form k (ifs e a b c) items h = sizes-tell k (ifs e a b c) _ (three-tell k e a b c)
+of-form k (loop n v p q r) items h = sizes-tell k (loop n v p q r) _ (last-tells k n v p q r)
 of-form k continue items h = refl
 of-form k stop items h = refl
 of-form k end items h = refl

@@ -6,6 +6,7 @@ use mathlib.Core.List.{List}
 use lib.Dec.{leb}
 use lib.ListN.{take}
 use Rattle.rules_shared.specs.Limits.{limits}
+use Rattle.rules_shared.specs.House.{house1401}
 use Rattle.rules_shared.specs.Lists.{all}
 use Rattle.tokens.specs.declared.Sizes.{Sizes}
 use Rattle.forms.specs.declared.Statement.{Statement}
@@ -20,7 +21,7 @@ rightNumber n = leb 1 n && leb n (limits .statementNumber)
 
 unfoldable pub ofSizes : ℕ → Sizes → Bool → ℕ
 ofSizes k z numbers =
-    lowest (leb (z .name) (limits .nameLength) && leb (z .other) 0) (leb (z .constant) k) numbers (leb (z .levels) (limits .parentheses))
+    lowest (leb (z .name) (house1401 k .nameLength) && leb (z .other) 0) (leb (z .constant) k) numbers (leb (z .levels) (limits .parentheses))
 
 abbrev pub ofNumber : Bool → ℕ
 ofNumber right13 = cond right13 0 13

@@ -9,6 +9,9 @@ use cards::Number;
 use forms::Statement;
 use tokens::Sizes;
 
+// Characters of a name.
+const NAME_LENGTH: usize = 6;
+
 // A number that is a word in the table.
 fn right_word(word: u64) -> bool
     ensures { λ r. ⌜ r ≡ rightNumber word ⌝ }
@@ -42,7 +45,7 @@ fn right_numbers(items: &[u64], count: usize) -> bool
 fn of_sizes(k: u32, sizes: Sizes, numbers: bool) -> u32
     ensures { λ r. ⌜ r ≡ ofSizes k sizes numbers ⌝ }
 {
-    if 6 < sizes.name {
+    if NAME_LENGTH < sizes.name {
         return 11;
     }
     if 0 < sizes.other {

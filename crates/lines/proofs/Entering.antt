@@ -8,6 +8,7 @@ use mathlib.Core.List.{List, [], _∷_, _++_, map}
 use mathlib.Core.Option.{some}
 use lib.ListN.{length, take, getD, getElem?, set}
 use lib.Seq.{take-set-lt}
+use Rattle.rules_shared.specs.House.{House}
 use Rattle.rules_object.specs.Object.{Loop}
 use Rattle.rules_object.specs.Bytes.{concat, loopWords}
 use Rattle.rules_deck.specs.Trees.{Statement}
@@ -45,7 +46,7 @@ module _ (deck : List Statement) where
   entered-all (suc i) [] h = refl
   entered-all (suc i) (d ∷ ds) h = ap (λ (l : List Loop). loopEntry deck d ∷ l) (entered-all i ds (omega arith))
 
-module _ {k : ℕ} {deck : List Statement} {loops : List ℕ} {n : ℕ} (told : Loops k deck loops n) where
+module _ {house : House} {deck : List Statement} {loops : List ℕ} {n : ℕ} (told : Loops house deck loops n) where
   -- the body's position is that of a statement, or the one after the last
   pub body-small : (i : ℕ) → i < n → getD loops (2 * i) 0 < 400
   body-small i h =

@@ -11,6 +11,7 @@ use mathlib.Core.Option.{some}
 use lib.Dec.{eqb}
 use lib.ListN.{length, take, getD, getElem?}
 use lib.Seq.{length-take-le, take-length}
+use Rattle.rules_shared.specs.House.{House}
 use Rattle.rules_object.specs.Object.{Line}
 use Rattle.rules_object.specs.Bytes.{concat, lineWords}
 use Rattle.rules_deck.specs.Trees.{Form, assign, goTo, computed, ifs, loop, continue, stop, end, dimension, Statement}
@@ -53,13 +54,13 @@ lines-append deck q (s ∷ a) b =
 abbrev pub linesTo : List Statement → ℕ → List ℕ
 linesTo deck i = concat (map lineWords (linesFrom deck 0 (take i deck)))
 
-module _ {k : ℕ} {deck : List Statement} {rows : List ℕ} {count : ℕ} (told : Rows k deck rows count) where
+module _ {house : House} {deck : List Statement} {rows : List ℕ} {count : ℕ} (told : Rows house deck rows count) where
   pub number-small : (i : ℕ) → i < count → getD rows (5 * i) 0 < 2 ^ 32
   number-small i h =
       let s = at-some deck i (omega (arith, told .counted)) in
       omega (arith, row-number told i (s .0) (s .1), told .accepted .judged i (s .0) (s .1) .number)
 
-module _ {k : ℕ} {deck : List Statement} {rows : List ℕ} {count : ℕ} {starts : List ℕ} (told : Rows k deck rows count) (at : Starts deck starts) where
+module _ {house : House} {deck : List Statement} {rows : List ℕ} {count : ℕ} {starts : List ℕ} (told : Rows house deck rows count) (at : Starts deck starts) where
   lines-more : (i : ℕ) (s : Statement) → getElem? deck i ≡ some s
       → linesTo deck (i + 1) ≡ linesTo deck i ++ concat (map lineWords (linesFrom deck i (s ∷ [])))
   lines-more i s e =

@@ -8,12 +8,13 @@ use mathlib.Core.List.{List, [], _∷_, _++_, map, append-nil}
 use mathlib.Core.Option.{some}
 use lib.ListN.{length, take, getD, getElem?, List·getD-append}
 use lib.Seq.{take-length, getD-append-add}
+use Rattle.rules_shared.specs.House.{House}
 use Rattle.rules_object.specs.Object.{Named}
 use Rattle.rules_object.specs.Bytes.{concat, wordsOf, nameWords}
 use Rattle.rules_object.specs.Writable.{IsByte, WritableNamed}
 use Rattle.rules_shared.specs.Lists.{Each, each-none, each-more}
 use Rattle.rules_deck.specs.Trees.{Statement}
-use Rattle.rules_deck.specs.Translation.{Held, name, array, hidden, arraySize, heldOf, namesFrom, translate}
+use Rattle.rules_deck.specs.Translation.{Held, name, array, hidden, arraySize, heldOf, filled, namesFrom, translate}
 use Rattle.rules_deck.proofs.TestLaws.{clash, at-before}
 use Rattle.rules_deck.proofs.Addresses.{at-some}
 use Rattle.rules_deck.proofs.Emitted.{each-at}
@@ -33,12 +34,16 @@ use Rattle.line_words.specs.Turned.{turned}
 abbrev fourWords : Named → List ℕ
 fourWords e = bytesFrom 0 (e .name) ∷ e .first ∷ e .rows ∷ e .columns ∷ []
 
-held-words : (at : ℕ) (held : List Held) → heldWords at held ≡ concat (map fourWords (namesFrom at held))
+held-words : (house : House) → house .nameBytes ≡ 8 → (at : ℕ) (held : List Held) → heldWords at held ≡ concat (map fourWords (namesFrom house at held))
 unfolding nameWord
-held-words at [] = refl
-held-words at (name v ∷ held) = ap (λ (l : List ℕ). nameWord v ∷ at ∷ 0 ∷ 0 ∷ l) (held-words (suc at) held)
-held-words at (array a ∷ held) = ap (λ (l : List ℕ). nameWord (a .name) ∷ at ∷ a .dims .rows ∷ a .dims .columns ∷ l) (held-words (at + arraySize (a .dims)) held)
-held-words at (hidden q ∷ held) = held-words (at + 2) held
+held-words house e at [] = refl
+held-words house e at (name v ∷ held) =
+    ap (λ (n : ℕ). bytesFrom 0 (filled n v) ∷ at ∷ 0 ∷ 0 ∷ heldWords (suc at) held) (sym e)
+    ∙ ap (λ (l : List ℕ). bytesFrom 0 (filled (house .nameBytes) v) ∷ at ∷ 0 ∷ 0 ∷ l) (held-words house e (suc at) held)
+held-words house e at (array a ∷ held) =
+    ap (λ (n : ℕ). bytesFrom 0 (filled n (a .name)) ∷ at ∷ a .dims .rows ∷ a .dims .columns ∷ heldWords (at + arraySize (a .dims)) held) (sym e)
+    ∙ ap (λ (l : List ℕ). bytesFrom 0 (filled (house .nameBytes) (a .name)) ∷ at ∷ a .dims .rows ∷ a .dims .columns ∷ l) (held-words house e (at + arraySize (a .dims)) held)
+held-words house e at (hidden q ∷ held) = held-words house e (at + 2) held
 
 four-length : (es : List Named) → length (concat (map fourWords es)) ≡ 4 * length es
 four-length [] = refl
@@ -92,37 +97,37 @@ two-words (a ∷ b ∷ c ∷ d ∷ e ∷ f ∷ g ∷ h ∷ i ∷ s) l p = absurd
 
 -- ---- the deck's names
 
-module _ {k : ℕ} {deck : List Statement} {table : List ℕ} {n : ℕ} (told : Names k deck table n) where
-  pub table-is : take (4 * n) table ≡ concat (map fourWords (namesFrom 0 (heldOf deck)))
-  table-is = told .words-are ∙ held-words 0 (heldOf deck)
+module _ {house : House} {deck : List Statement} {table : List ℕ} {n : ℕ} (told : Names house deck table n) where
+  pub table-is : take (4 * n) table ≡ concat (map fourWords (namesFrom house 0 (heldOf deck)))
+  table-is = told .words-are ∙ held-words house (told .accepted .lawful .entries) 0 (heldOf deck)
 
-  pub entries-counted : n ≡ length (namesFrom 0 (heldOf deck))
-  entries-counted = told .counted ∙ sym (names-count 0 (heldOf deck))
+  pub entries-counted : n ≡ length (namesFrom house 0 (heldOf deck))
+  entries-counted = told .counted ∙ sym (names-count house 0 (heldOf deck))
 
   pub table-long : 4 * n ≤ length table
-  table-long = begins-long table (concat (map fourWords (namesFrom 0 (heldOf deck)))) (4 * n) table-is (omega (arith, four-length (namesFrom 0 (heldOf deck)), entries-counted))
+  table-long = begins-long table (concat (map fourWords (namesFrom house 0 (heldOf deck)))) (4 * n) table-is (omega (arith, four-length (namesFrom house 0 (heldOf deck)), entries-counted))
 
-  writable : (i : ℕ) (e : Named) → getElem? (namesFrom 0 (heldOf deck)) i ≡ some e → WritableNamed e
+  writable : (i : ℕ) (e : Named) → getElem? (namesFrom house 0 (heldOf deck)) i ≡ some e → WritableNamed e
   unfolding translate
-  writable i e h = each-at WritableNamed (namesFrom 0 (heldOf deck)) i e h (compiled-writable (told .accepted) .names)
+  writable i e h = each-at WritableNamed (namesFrom house 0 (heldOf deck)) i e h (compiled-writable (told .accepted) .names)
 
-  at-entry : (i : ℕ) (e : Named) → getElem? (namesFrom 0 (heldOf deck)) i ≡ some e → (r : ℕ) → r < 4 → getD table (4 * i + r) 0 ≡ getD (fourWords e) r 0
+  at-entry : (i : ℕ) (e : Named) → getElem? (namesFrom house 0 (heldOf deck)) i ≡ some e → (r : ℕ) → r < 4 → getD table (4 * i + r) 0 ≡ getD (fourWords e) r 0
   at-entry i e h r l =
-      let b = at-before (namesFrom 0 (heldOf deck)) i h in
-      begins-at table (concat (map fourWords (namesFrom 0 (heldOf deck)))) (4 * n) table-is (4 * i + r) (omega (arith, entries-counted)) ∙ four-get (namesFrom 0 (heldOf deck)) i e h r l
+      let b = at-before (namesFrom house 0 (heldOf deck)) i h in
+      begins-at table (concat (map fourWords (namesFrom house 0 (heldOf deck)))) (4 * n) table-is (4 * i + r) (omega (arith, entries-counted)) ∙ four-get (namesFrom house 0 (heldOf deck)) i e h r l
 
   pub small-words : (i : ℕ) → i < n → (getD table (4 * i + 1) 0 < 2 ^ 32) × (getD table (4 * i + 2) 0 < 2 ^ 32) × (getD table (4 * i + 3) 0 < 2 ^ 32)
   small-words i h =
-      let e = at-some (namesFrom 0 (heldOf deck)) i (omega (arith, entries-counted)) in
+      let e = at-some (namesFrom house 0 (heldOf deck)) i (omega (arith, entries-counted)) in
       let w = writable i (e .0) (e .1) in
       (omega (arith, at-entry i (e .0) (e .1) 1 (omega arith), w .first), omega (arith, at-entry i (e .0) (e .1) 2 (omega arith), w .rows), omega (arith, at-entry i (e .0) (e .1) 3 (omega arith), w .columns))
 
   pub names-more : {a b : List ℕ} {r first rows columns : ℕ} (i : ℕ) → i < n → first ≡ getD table (4 * i + 1) 0 → rows ≡ getD table (4 * i + 2) 0 → columns ≡ getD table (4 * i + 3) 0
       → Put a b (5 * i) (turned (getD table (4 * i) 0 / 4294967296) ∷ turned (getD table (4 * i) 0) ∷ first ∷ rows ∷ columns ∷ []) r
-      → take (5 * i) a ≡ concat (map nameWords (take i (namesFrom 0 (heldOf deck))))
-      → take (5 * (i + 1)) b ≡ concat (map nameWords (take (i + 1) (namesFrom 0 (heldOf deck))))
+      → take (5 * i) a ≡ concat (map nameWords (take i (namesFrom house 0 (heldOf deck))))
+      → take (5 * (i + 1)) b ≡ concat (map nameWords (take (i + 1) (namesFrom house 0 (heldOf deck))))
   names-more {a} {b} {r} {first} {rows} {columns} i h f g c p held =
-      let es = namesFrom 0 (heldOf deck) in
+      let es = namesFrom house 0 (heldOf deck) in
       let e = at-some es i (omega (arith, entries-counted)) in
       let w = writable i (e .0) (e .1) in
       let zero-more : 4 * i ≡ 4 * i + 0 = omega arith in
@@ -145,8 +150,8 @@ module _ {k : ℕ} {deck : List Statement} {table : List ℕ} {n : ℕ} (told : 
           ∙ concat-append (map nameWords (take i es)) (nameWords e ∷ [])
           ∙ ap (λ (l : List ℕ). concat (map nameWords (take i es)) ++ l) (append-nil (nameWords e))
 
-  pub names-all : (b : List ℕ) (i : ℕ) → i ≡ n → take (5 * i) b ≡ concat (map nameWords (take i (namesFrom 0 (heldOf deck)))) → take (5 * n) b ≡ concat (map nameWords (namesFrom 0 (heldOf deck)))
+  pub names-all : (b : List ℕ) (i : ℕ) → i ≡ n → take (5 * i) b ≡ concat (map nameWords (take i (namesFrom house 0 (heldOf deck)))) → take (5 * n) b ≡ concat (map nameWords (namesFrom house 0 (heldOf deck)))
   names-all b i e h =
       ap (λ (m : ℕ). take (5 * m) b) (sym e) ∙ h
-      ∙ ap (λ (m : ℕ). concat (map nameWords (take m (namesFrom 0 (heldOf deck))))) (e ∙ entries-counted)
-      ∙ ap (λ (l : List Named). concat (map nameWords l)) (take-length (namesFrom 0 (heldOf deck)))
+      ∙ ap (λ (m : ℕ). concat (map nameWords (take m (namesFrom house 0 (heldOf deck))))) (e ∙ entries-counted)
+      ∙ ap (λ (l : List Named). concat (map nameWords l)) (take-length (namesFrom house 0 (heldOf deck)))

@@ -3,9 +3,10 @@
 use mathlib.Core.Path.{_≡_, refl, sym, ap, _∙_}
 use Prim.Native.Nat.{ℕ, _*_, _-_, _≤_}
 use native.Mathlib.Omega.{arith}
-use mathlib.Core.Bool.{Bool, true}
+use mathlib.Core.Bool.{Bool, true, false}
 use mathlib.Core.List.{List}
 use lib.ListN.{length, take, drop, length-take}
+use Rattle.rules_shared.specs.House.{house1401}
 use Rattle.rules_shared.specs.Lists.{Each}
 use Rattle.rules_deck.specs.Trees.{Array, arrayNames, Form, assign, goTo, computed, ifs, loop, continue, stop, end, dimension, formNames}
 use Rattle.rules_deck.specs.Translation.{Held}
@@ -79,32 +80,32 @@ told-items f t = each-among (itemsNames (formItems f)) (λ v a. each-here t (ite
 
 -- ---- 15
 
-other-15 : (held : List Held) (f : Form) → (kindOf f ≡ 8 → ⊥) → true ≡ right15 held f
+other-15 : (digits : ℕ) (held : List Held) (f : Form) → (kindOf f ≡ 8 → ⊥) → true ≡ right15 (house1401 digits) held f
 unfolding right15
-other-15 held (assign t e) z = refl
-other-15 held (goTo n) z = refl
-other-15 held (computed ns v) z = refl
-other-15 held (ifs e a b c) z = refl
-other-15 held (loop n v p q r) z = refl
-other-15 held continue z = refl
-other-15 held stop z = refl
-other-15 held end z = refl
-other-15 held (dimension arrays) z = absurd (z refl)
+other-15 digits held (assign t e) z = refl
+other-15 digits held (goTo n) z = refl
+other-15 digits held (computed ns v) z = refl
+other-15 digits held (ifs e a b c) z = refl
+other-15 digits held (loop n v p q r) z = refl
+other-15 digits held continue z = refl
+other-15 digits held stop z = refl
+other-15 digits held end z = refl
+other-15 digits held (dimension arrays) z = absurd (z refl)
 
 pub no-arrays : {p : Plan} {items table : List ℕ} {n : ℕ} → (p .kind ≡ 8 → ⊥) → RightArrays p items table n true
-no-arrays z f held cells h l t = other-15 held f (λ e. z (sym (kind-of h) ∙ e))
+no-arrays z digits f held cells h l t = other-15 digits held f (λ e. z (sym (kind-of h) ∙ e))
 
-abbrev pub Arrays15 : List Held → List ℕ → Bool → Form → Type 0
-Arrays15 held words r f = ((arrays : List Array) → words ≡ allWords arrays → Each Told (arrayNames arrays) → r ≡ rightArrays held arrays) → words ≡ listedWords f → Each Told (formNames f) → r ≡ right15 held f
+abbrev pub Arrays15 : ℕ → List Held → List ℕ → Bool → Form → Type 0
+Arrays15 digits held words r f = ((arrays : List Array) → words ≡ allWords arrays → Each Told (arrayNames arrays) → r ≡ rightArrays false held arrays) → words ≡ listedWords f → Each Told (formNames f) → r ≡ right15 (house1401 digits) held f
 
-form-15 : (held : List Held) (words : List ℕ) (r : Bool) (f : Form) → kindOf f ≡ 8 → Arrays15 held words r f
+form-15 : (digits : ℕ) (held : List Held) (words : List ℕ) (r : Bool) (f : Form) → kindOf f ≡ 8 → Arrays15 digits held words r f
 unfolding right15 listedWords formNames
-form-15 held words r = at-dimension (Arrays15 held words r) (λ arrays g e t. g arrays e t)
+form-15 digits held words r = at-dimension (Arrays15 digits held words r) (λ arrays g e t. g arrays e t)
 
 pub some-arrays : {p : Plan} {items table : List ℕ} {n : ℕ} {r : Bool} → p .kind ≡ 8 → Dimensions (take (4 * p .listed - 0) (drop 0 items)) table n r → RightArrays p items table n r
-some-arrays {p} {items} {table} {n} {r} z d f held cells h l t =
+some-arrays {p} {items} {table} {n} {r} z d digits f held cells h l t =
     let k : kindOf f ≡ 8 = kind-of h ∙ z in
-    form-15 held (take (4 * p .listed - 0) (drop 0 items)) r f k (λ arrays e u. d held cells arrays l e u) (front-part items (4 * p .listed) ∙ arrays-in items p f k h) t
+    form-15 digits held (take (4 * p .listed - 0) (drop 0 items)) r f k (λ arrays e u. d held cells arrays l e u) (front-part items (4 * p .listed) ∙ arrays-in items p f k h) t
 
 -- ---- 16
 

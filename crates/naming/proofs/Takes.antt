@@ -2,9 +2,10 @@
 -- Assumes nothing.
 use mathlib.Core.Path.{_≡_, refl, sym, ap, _∙_, subst}
 use Prim.Native.Nat.{ℕ, _*_, _-_, _≤_}
-use mathlib.Core.Bool.{true}
+use mathlib.Core.Bool.{true, false}
 use mathlib.Core.List.{List, [], _∷_, _++_, map, append-nil}
 use lib.ListN.{take, drop}
+use Rattle.rules_shared.specs.House.{house1401}
 use Rattle.rules_shared.specs.Lists.{Each}
 use Rattle.rules_deck.specs.Trees.{Array, arrayNames, Form, assign, goTo, computed, ifs, loop, continue, stop, end, dimension, formNames}
 use Rattle.rules_deck.specs.Deck.{declare, arraysIn}
@@ -36,15 +37,15 @@ both-within h e = subst Within e (h .within)
 abbrev AsDo : List ℕ → List Held → ℕ → Grown → Form → Type 0
 AsDo b held q v f = Appeared (appear held (formPlain f) ++ (hidden q ∷ [])) b v → Appeared (brings q f held) b v
 
-abbrev AsArrays : List ℕ → ℕ → ℕ → List Held → List ℕ → Grown → ℕ → List ℕ → Form → Type 0
-AsArrays b x y held words v q c f =
-    ((arrays : List Array) → Lists held b x y → words ≡ allWords arrays → Each Told (arrayNames arrays) → rightArrays held arrays ≡ true
+abbrev AsArrays : ℕ → List ℕ → ℕ → ℕ → List Held → List ℕ → Grown → ℕ → List ℕ → Form → Type 0
+AsArrays digits b x y held words v q c f =
+    ((arrays : List Array) → Lists held b x y → words ≡ allWords arrays → Each Told (arrayNames arrays) → rightArrays false held arrays ≡ true
     → Appeared (held ++ map (λ a. array (declare a)) arrays) c v)
-    → Lists (appear held (formPlain f)) b x y → words ≡ listedWords f → Each Told (formNames f) → right15 held f ≡ true → Appeared (brings q f held) c v
+    → Lists (appear held (formPlain f)) b x y → words ≡ listedWords f → Each Told (formNames f) → right15 (house1401 digits) held f ≡ true → Appeared (brings q f held) c v
 
-as-arrays : (b : List ℕ) (x y : ℕ) (held : List Held) (words : List ℕ) (v : Grown) (q : ℕ) (c : List ℕ) (f : Form) → kindOf f ≡ 8 → AsArrays b x y held words v q c f
+as-arrays : (digits : ℕ) (b : List ℕ) (x y : ℕ) (held : List Held) (words : List ℕ) (v : Grown) (q : ℕ) (c : List ℕ) (f : Form) → kindOf f ≡ 8 → AsArrays digits b x y held words v q c f
 unfolding right15 listedWords formNames formPlain
-as-arrays b x y held words v q c = at-dimension (AsArrays b x y held words v q c) (λ arrays g l w t z. g arrays l w t z)
+as-arrays digits b x y held words v q c = at-dimension (AsArrays digits b x y held words v q c) (λ arrays g l w t z. g arrays l w t z)
 
 nothing-more : (q : ℕ) (f : Form) → (kindOf f ≡ 4 → ⊥) → (kindOf f ≡ 8 → ⊥) → more q f ≡ []
 nothing-more q (assign t e) i j = refl
@@ -69,7 +70,7 @@ module _ {p : Plan} {first items a b : List ℕ} {n cells : ℕ} {r : Grown} (h 
   plains-full c e =
       record {
         within = tt;
-        is = λ f held q s u l t z. over-more (appear held (formPlain f)) (more q f) (subst (Appeared (appear held (formPlain f)) b) e (plains f held s u l t));
+        is = λ digits f held q s u l t z. over-more (appear held (formPlain f)) (more q f) (subst (Appeared (appear held (formPlain f)) b) e (plains f held s u l t));
       }
 
   module _ {x y : ℕ} (e : r ≡ Names x y) where
@@ -81,15 +82,15 @@ module _ {p : Plan} {first items a b : List ℕ} {n cells : ℕ} {r : Grown} (h 
     then-hidden {v} k w =
         record {
           within = w .within;
-          is = λ f held q s u l t z. at-do (AsDo b held q v) (λ m i j o w′ g. g) f (kind-of s ∙ k) (w .is (appear held (formPlain f)) b q (listed f held s u l t));
+          is = λ digits f held q s u l t z. at-do (AsDo b held q v) (λ m i j o w′ g. g) f (kind-of s ∙ k) (w .is (appear held (formPlain f)) b q (listed f held s u l t));
         }
 
     pub then-arrays : {c : List ℕ} {v : Grown} → p .kind ≡ 8 → Declares (take (4 * p .listed - 0) (drop 0 items)) b c x y v → TakesCells p first items a c n cells v
     then-arrays {c} {v} k d =
         record {
           within = d .within;
-          is = λ f held q s u l t z.
-              as-arrays b x y held (take (4 * p .listed - 0) (drop 0 items)) v q c f (kind-of s ∙ k) (λ arrays. d .is held arrays) (listed f held s u l t)
+          is = λ digits f held q s u l t z.
+              as-arrays digits b x y held (take (4 * p .listed - 0) (drop 0 items)) v q c f (kind-of s ∙ k) (λ arrays. d .is held arrays) (listed f held s u l t)
               (front-part items (4 * p .listed) ∙ arrays-in items p f (kind-of s ∙ k) s) t z;
         }
 
@@ -97,7 +98,7 @@ module _ {p : Plan} {first items a b : List ℕ} {n cells : ℕ} {r : Grown} (h 
     then-no-more i j =
         record {
           within = both-within h e;
-          is = λ f held q s u l t z.
+          is = λ digits f held q s u l t z.
               subst (λ (w : List Held). Lists w b x y)
               (sym (append-nil (appear held (formPlain f))) ∙ ap (λ (w : List Held). appear held (formPlain f) ++ w) (sym (nothing-more q f (λ k. i (sym (kind-of s) ∙ k)) (λ k. j (sym (kind-of s) ∙ k)))))
               (listed f held s u l t);

@@ -4,6 +4,7 @@ use mathlib.Core.Path.{_≡_}
 use Prim.Native.Nat.{ℕ}
 use mathlib.Core.Bool.{Bool, true}
 use mathlib.Core.List.{List}
+use Rattle.rules_shared.specs.House.{house1401}
 use Rattle.rules_shared.specs.Lists.{Each}
 use Rattle.rules_deck.specs.Trees.{Form, formNames}
 use Rattle.rules_deck.specs.Translation.{Held, brings}
@@ -17,7 +18,7 @@ use Rattle.plans.specs.Plans.{Plans}
 
 abbrev pub RightArrays : Plan → List ℕ → List ℕ → ℕ → Bool → Type 0
 RightArrays p items table n r =
-    (f : Form) (held : List Held) (cells : ℕ) → Plans f items p → Lists held table n cells → Each Told (formNames f) → r ≡ right15 held f
+    (digits : ℕ) (f : Form) (held : List Held) (cells : ℕ) → Plans f items p → Lists held table n cells → Each Told (formNames f) → r ≡ right15 (house1401 digits) held f
 
 abbrev pub RightOperands : Plan → List ℕ → List ℕ → List ℕ → ℕ → Bool → Type 0
 RightOperands p first items table n r =
@@ -27,5 +28,5 @@ RightOperands p first items table n r =
 -- all that the statement at position q brings has its cells
 pub record TakesCells (p : Plan) (first items before after : List ℕ) (n cells : ℕ) (r : Grown) : Type 0 where
   pub within : Within r
-  pub is : (f : Form) (held : List Held) (q : ℕ) → Plans f items p → first ≡ itemsWords (formFirst f) → Lists held before n cells → Each Told (formNames f)
-      → right15 held f ≡ true → Appeared (brings q f held) after r
+  pub is : (digits : ℕ) (f : Form) (held : List Held) (q : ℕ) → Plans f items p → first ≡ itemsWords (formFirst f) → Lists held before n cells → Each Told (formNames f)
+      → right15 (house1401 digits) held f ≡ true → Appeared (brings q f held) after r

@@ -8,6 +8,7 @@ use mathlib.Core.Option.{Option, none, some}
 use native.Mathlib.Omega.{arith}
 use lib.ListN.{length, take, length-take}
 use lib.Seq.{length-sets}
+use Rattle.rules_shared.specs.House.{house1401}
 use Rattle.rules_shared.specs.Refusals.{refusal}
 use Rattle.rules_shared.specs.Lists.{Each}
 use Rattle.rules_shared.proofs.EachLaws.{each-head}
@@ -92,18 +93,18 @@ module _ (k : ℕ) {deck : List ℕ} {card : ℕ} {text text′ : List ℕ} {num
       → Steps k deck card t D n names constants elements dos loops code rows jumps (step.Refused 6)
   next-empty {t} {D} {n} e = refused 6 (o .taken) (toCome deck next) (o .others) (λ rest. go (textOf (o .taken .raw)) (sym (o .length-is) ∙ e) rest)
     where
-      go : (l : List ℕ) → length l ≡ 0 → (rest : Taken → Read) → readText k (n .statements) (o .taken .number) t rest l ≡ notRead (refusal 6 (suc (n .statements)) 0)
+      go : (l : List ℕ) → length l ≡ 0 → (rest : Taken → Read) → readText (house1401 k) (n .statements) (o .taken .number) t rest l ≡ notRead (refusal 6 (suc (n .statements)) 0)
       go [] e rest = refl
       go (c ∷ l) e rest = absurd (omega arith)
 
   -- with some text it goes by its form
   by-form : (q : ℕ) (t : Taken) (rest : Taken → Read) (l : List ℕ) → 1 ≤ length l → (f : Option Form) → formOf l ≡ f
-      → readText k q (o .taken .number) t rest l ≡ afterReading k q (o .taken .number) t rest f
+      → readText (house1401 k) q (o .taken .number) t rest l ≡ afterReading (house1401 k) q (o .taken .number) t rest f
   by-form q t rest [] some-text f e = absurd (omega arith)
-  by-form q t rest (c ∷ l) some-text f e = ap (afterReading k q (o .taken .number) t rest) e
+  by-form q t rest (c ∷ l) some-text f e = ap (afterReading (house1401 k) q (o .taken .number) t rest) e
 
   read-by : length text ≡ 660 → 1 ≤ len → (q : ℕ) (t : Taken) (rest : Taken → Read) (f : Option Form) → formOf (take (len - 0) text′) ≡ f
-      → readText k q (o .taken .number) t rest (textOf (o .taken .raw)) ≡ afterReading k q (o .taken .number) t rest f
+      → readText (house1401 k) q (o .taken .number) t rest (textOf (o .taken .raw)) ≡ afterReading (house1401 k) q (o .taken .number) t rest f
   read-by full some-text q t rest f e =
       let z : len ≡ len - 0 = omega arith in
       by-form q t rest (textOf (o .taken .raw)) (omega (arith, o .length-is)) f (ap formOf (sym (o .stands full) ∙ ap (λ (i : ℕ). take i text′) z) ∙ e)
@@ -116,7 +117,7 @@ module _ (k : ℕ) {deck : List ℕ} {card : ℕ} {text text′ : List ℕ} {num
 
   -- refused by 11 to 18, or kept
   pub next-judged : {D : Draft} {t : Taken} {n : Counts} {names constants elements dos loops code rows jumps : List ℕ} (f : Form) (m : ℕ) → length text ≡ 660 → 1 ≤ len
-      → formOf (take (len - 0) text′) ≡ some f → judgeForm k (n .statements) f t ≡ some m → Steps k deck card t D n names constants elements dos loops code rows jumps (step.Refused m)
+      → formOf (take (len - 0) text′) ≡ some f → judgeForm (house1401 k) (n .statements) f t ≡ some m → Steps k deck card t D n names constants elements dos loops code rows jumps (step.Refused m)
   next-judged {D} {t} {n} f m full some-text e j =
       refused m (o .taken) (toCome deck next) (o .others)
       (λ rest. read-by full some-text (n .statements) t rest (some f) e
@@ -161,7 +162,7 @@ module _ (k : ℕ) {deck : List ℕ} {card : ℕ} {text text′ : List ℕ} {num
       (subst (Judged k (n .statements) (record { number = number .0; form = f .0 }) t D names constants elements dos loops code rows jumps) e (comes (reading-of b (take (len - 0) text′) (f .0) (f .1) h part-short) t matches fresh)))
 
   pub small-number : Accepted deck → number .0 ≤ 99999
-  small-number a = omega (arith, each-head (subst (Each RightStatement) (o .others) (each-from card (cardsOf deck) (all-right deck a))) .number-small, o .number-is)
+  small-number a = omega (arith, each-head (subst (Each (RightStatement (house1401 (a .digits)))) (o .others) (each-from card (cardsOf deck) (all-right deck a))) .number-small, o .number-is)
 
   -- the text stays as long as it is
   pub text-long : length text ≡ 660 → length text′ ≡ 660

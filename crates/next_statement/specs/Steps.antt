@@ -4,6 +4,7 @@ use mathlib.Core.Path.{_≡_}
 use Prim.Native.Nat.{ℕ, suc, _+_, _≤_, _<_}
 use mathlib.Core.List.{List, [], _∷_}
 use lib.ListN.{length, drop}
+use Rattle.rules_shared.specs.House.{house1401}
 use Rattle.rules_shared.specs.Refusals.{refusal}
 use Rattle.rules_deck.specs.Trees.{Form, Statement}
 use Rattle.rules_deck.specs.Cards.{Punched, cardsOf, textOf, grouped}
@@ -40,7 +41,7 @@ pub record Ahead (k : ℕ) (deck : List ℕ) (card : ℕ) (items names constants
 -- the statement p at position q is right, and the tables hold it too
 pub record Keeps (k q : ℕ) (t : Taken) (D : Draft) (p : Punched) (names constants elements dos loops code rows jumps : List ℕ) (n : Counts) : Type 0 where
   pub form : Form
-  pub reads : (rest : Taken → Read) → readText k q (p .number) t rest (textOf (p .raw)) ≡ withStatement (punchedAs p form) (rest (takes q form t))
+  pub reads : (rest : Taken → Read) → readText (house1401 k) q (p .number) t rest (textOf (p .raw)) ≡ withStatement (punchedAs p form) (rest (takes q form t))
   pub kept : Kept (drafts q (punchedAs p form) D) names constants elements dos loops code rows jumps n
   pub fit : Fit n
   pub counted : n .statements ≡ suc q
@@ -49,7 +50,7 @@ pub record Keeps (k q : ℕ) (t : Taken) (D : Draft) (p : Punched) (names consta
 pub data Steps (k : ℕ) (deck : List ℕ) (card : ℕ) (t : Taken) (D : Draft) (n : Counts) (names constants elements dos loops code rows jumps : List ℕ) : Step → Type 0 where
   ended : toCome deck card ≡ [] → Kept D names constants elements dos loops code rows jumps n → Steps k deck card t D n names constants elements dos loops code rows jumps step.End
   refused : (number : ℕ) (p : Punched) (more : List Punched) → toCome deck card ≡ p ∷ more
-      → ((rest : Taken → Read) → readText k (n .statements) (p .number) t rest (textOf (p .raw)) ≡ notRead (refusal number (suc (n .statements)) 0))
+      → ((rest : Taken → Read) → readText (house1401 k) (n .statements) (p .number) t rest (textOf (p .raw)) ≡ notRead (refusal number (suc (n .statements)) 0))
       → Steps k deck card t D n names constants elements dos loops code rows jumps (step.Refused number)
   taken : (p : Punched) (next : ℕ) (m : Counts) → toCome deck card ≡ p ∷ toCome deck next → card < next → next ≤ length (cardsOf deck)
       → Keeps k (n .statements) t D p names constants elements dos loops code rows jumps m

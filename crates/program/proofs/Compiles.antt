@@ -9,12 +9,14 @@ use native.Mathlib.Omega.{arith}
 use lib.Dec.{leb}
 use lib.ListN.{length, take, drop, length-append, length-drop, replicate}
 use lib.Seq.{take-append-seam, take-all}
+use Rattle.rules_shared.specs.House.{house1401}
 use Rattle.rules_object.specs.Bytes.{objectBytes}
 use Rattle.rules_shared.specs.Output.{Written, writtenIf, write}
 use Rattle.rules_deck.specs.Translation.{translate}
 use Rattle.rules_deck.specs.Cards.{cardLength}
 use Rattle.rules_deck.specs.Seen.{objectIn}
 use Rattle.rules_deck.specs.Compile.{Read, notRead, read, deckOf, writeRead, compiling}
+use Rattle.rules_deck.proofs.Houses.{lawful1401}
 use Rattle.rules_deck.proofs.RefusedDeck.{ReadNumbered, refused-numbered}
 use Rattle.rules_program.specs.Text.{refusedLine}
 use Rattle.rules_program.specs.Program.{controlDigits, printedObject, mostBytes, writtenLines, compiledLines, deckLines, printed}
@@ -34,27 +36,27 @@ unfolding objectIn
 compiled-printed number place n object e = ap (λ (m : ℕ). writtenLines (writtenAs m place n object) m) e
 
 module _ (k : ℕ) (deck output : List ℕ) where
-  object-from : (r : Read) → deckOf k deck ≡ r → writeRead k output r .refusal .number ≡ 0 → Object (writeRead k output r .length) (writeRead k output r .output)
+  object-from : (r : Read) → deckOf (house1401 k) deck ≡ r → writeRead (house1401 k) output r .refusal .number ≡ 0 → Object (writeRead (house1401 k) output r .length) (writeRead (house1401 k) output r .output)
   unfolding write
-  object-from (notRead r) e z = absurd (let p : 0 < r .number = subst ReadNumbered e (refused-numbered k deck) .0 in omega (arith, p, z))
-  object-from (read statements) e z = wrote (leb (length (objectBytes (translate k statements))) (length output)) z
+  object-from (notRead r) e z = absurd (let p : 0 < r .number = subst ReadNumbered e (refused-numbered (house1401 k) deck) .0 in omega (arith, p, z))
+  object-from (read statements) e z = wrote (leb (length (objectBytes (translate (house1401 k) statements))) (length output)) z
     where
-      wrote : (b : Bool) → writtenIf b (objectBytes (translate k statements)) output .refusal .number ≡ 0
-          → Object (writtenIf b (objectBytes (translate k statements)) output .length) (writtenIf b (objectBytes (translate k statements)) output .output)
+      wrote : (b : Bool) → writtenIf b (objectBytes (translate (house1401 k) statements)) output .refusal .number ≡ 0
+          → Object (writtenIf b (objectBytes (translate (house1401 k) statements)) output .length) (writtenIf b (objectBytes (translate (house1401 k) statements)) output .output)
       wrote true q =
-          let object : List ℕ = objectBytes (translate k statements) in
+          let object : List ℕ = objectBytes (translate (house1401 k) statements) in
           record {
             within = omega (arith, length-append object (drop (length object) output));
-            tidy = subst TidyObject (sym (take-append-seam object (drop (length object) output))) (compiled-tidy k deck statements e);
+            tidy = subst TidyObject (sym (take-append-seam object (drop (length object) output))) (compiled-tidy (house1401 k) (lawful1401 k) deck statements e);
           }
       wrote false q = absurd (omega (arith, q))
 
   -- where compiling is not refused
-  pub object-written : (w : Written) → w ≡ compiling k deck output → w .refusal .number ≡ 0 → Object (w .length) (w .output)
+  pub object-written : (w : Written) → w ≡ compiling (house1401 k) deck output → w .refusal .number ≡ 0 → Object (w .length) (w .output)
   unfolding compiling
   object-written w e z =
       subst (λ (x : Written). Object (x .length) (x .output)) (sym e)
-      (object-from (deckOf k deck) refl (ap (λ (x : Written). x .refusal .number) (sym e) ∙ z))
+      (object-from (deckOf (house1401 k) deck) refl (ap (λ (x : Written). x .refusal .number) (sym e) ∙ z))
 
 -- ---- the whole
 
@@ -63,7 +65,7 @@ unfolding printed
 printed-refused input k e z = sym (ap (deckLines (drop cardLength input)) (e ∙ ap digitsOf z))
 
 pub printed-deck : (input : List ℕ) (k : ℕ) → controlDigits input ≡ digitsOf k → (k ≡ 0 → ⊥)
-    → compiledLines (compiling k (drop cardLength input) (replicate mostBytes 0)) ≡ printed input
+    → compiledLines (compiling (house1401 k) (drop cardLength input) (replicate mostBytes 0)) ≡ printed input
 unfolding printed
 printed-deck input k e n = sym (ap (deckLines (drop cardLength input)) (e ∙ some-of k n))
   where

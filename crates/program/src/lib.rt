@@ -3,6 +3,7 @@ ghost use mathlib.Core.Path.{_≡_};
 ghost use Prim.Native.Nat.{_≤_};
 ghost use lib.ListN.{length, replicate};
 ghost use Rattle.rules_program.specs.Program.{mostBytes, compiledLines, printed};
+ghost use Rattle.rules_shared.specs.House.{house1401};
 ghost use Rattle.rules_deck.specs.Compile.{compiling};
 ghost use Rattle.print_numbers.specs.Puts.{Puts};
 ghost use Rattle.print_run.specs.Printing.{mostPrinted};
@@ -26,7 +27,7 @@ pub fn print_compiled(number: u32, place: u32, n: usize, object: &[u8], out: &mu
 
 fn print_deck(k: u32, deck: &[u8], object: &mut [u8], out: &mut [u8]) -> usize
     requires { ⌜ Unwritten (now object) × (mostPrinted ≤ length (now out)) ⌝ }
-    ensures { λ r. ⌜ Puts (compiledLines (compiling k (now (deck .entry)) (replicate mostBytes 0))) 0 (now (out .entry)) (now (out .exit)) r × (r ≤ mostPrinted) ⌝ }
+    ensures { λ r. ⌜ Puts (compiledLines (compiling (house1401 k) (now (deck .entry)) (replicate mostBytes 0))) 0 (now (out .entry)) (now (out .exit)) r × (r ≤ mostPrinted) ⌝ }
 {
     let compiled = compiler::compile(k, deck, object);
     match compiled {

@@ -2,7 +2,7 @@
 -- Assumes nothing.
 use mathlib.Core.Path.{_≡_, refl, sym, ap, _∙_, subst}
 use mathlib.Core.Logic.{_⊎_, inl, inr}
-use Prim.Native.Nat.{ℕ, zero, suc, _+_, _*_, _≤_, _<_}
+use Prim.Native.Nat.{ℕ, zero, suc, _≤_, _<_}
 use native.Mathlib.Decide.{ℕ-discrete}
 use native.Mathlib.Omega.{arith}
 use mathlib.Core.Bool.{Bool, true, false, _||_, cond}
@@ -10,6 +10,7 @@ use mathlib.Core.List.{List, [], _∷_}
 use mathlib.Core.Option.{some}
 use lib.ListN.{length, getElem?}
 use lib.IntN.{ℤ}
+use Rattle.rules_shared.specs.House.{House}
 use Rattle.rules_shared.specs.Runs.{Outcome, go, halt, run, steps}
 use Rattle.rules_object.specs.Halts.{Out}
 use Rattle.rules_shared.specs.Choose.{positive}
@@ -54,9 +55,9 @@ some-same e = cc
 
 -- ---- a run of a compiled deck's object is the machine's
 
-module _ {k : ℕ} {deck object : List ℕ} (m : Made k deck object) (store : List ℤ) (stored : rightStore object store ≡ true) where
+module _ {house : House} {deck object : List ℕ} (m : Made house deck object) (store : List ℤ) (stored : rightStore object store ≡ true) where
   abbrev o : Object
-  o = translate k (m .statements)
+  o = translate house (m .statements)
 
   passes : Passed object o (checks m .0)
   passes = check-passed object o (checks m .0) (checks m .1)
@@ -89,16 +90,16 @@ module _ {k : ℕ} {deck object : List ℕ} (m : Made k deck object) (store : Li
   unfolding translate
   starting = holds-named m store (long-enough o store (rights .0))
 
-  means : (n : ℕ) → meaningOf k deck (namedValues object store) n ≡ some (meaning (record { digits = k }) (m .statements) (namedValues object store) n)
+  means : (n : ℕ) → meaningOf house deck (namedValues object store) n ≡ some (meaning (house .rule) (m .statements) (namedValues object store) n)
   unfolding meaningOf
-  means n = ap (λ r. meaningRead k r (namedValues object store) n) (m .reads)
+  means n = ap (λ r. meaningRead house r (namedValues object store) n) (m .reads)
 
-  meant-as : (n : ℕ) {x : Outcome Cause Standing} → meaningOf k deck (namedValues object store) n ≡ some x → meaning (record { digits = k }) (m .statements) (namedValues object store) n ≡ x
+  meant-as : (n : ℕ) {x : Outcome Cause Standing} → meaningOf house deck (namedValues object store) n ≡ some x → meaning (house .rule) (m .statements) (namedValues object store) n ≡ x
   meant-as n e = some-same (sym (means n) ∙ e)
 
-  steps-mean : (n : ℕ) → deckSteps k deck (namedValues object store) n ≡ meaningSteps (record { digits = k }) (m .statements) n (begin (namedValues object store))
+  steps-mean : (n : ℕ) → deckSteps house deck (namedValues object store) n ≡ meaningSteps (house .rule) (m .statements) n (begin (namedValues object store))
   unfolding deckSteps
-  steps-mean n = ap (λ r. meaningSteps (record { digits = k }) (statementsOf r) n (begin (namedValues object store))) (m .reads)
+  steps-mean n = ap (λ r. meaningSteps (house .rule) (statementsOf r) n (begin (namedValues object store))) (m .reads)
 
   answers : (a : ℕ) (x : Out State) → run (step o) a (fresh store) ≡ x → running object store freshLent a ≡ ran o (steps (step o) a (fresh store)) x
   answers a x e = runs a ∙ ap (ran o (steps (step o) a (fresh store))) e
@@ -111,7 +112,7 @@ module _ {k : ℕ} {deck object : List ℕ} (m : Made k deck object) (store : Li
       record {
         accepts = e;
         values = λ x c n. let h = named-has m x c n in ap (λ z. cell z c) f ∙ ap (cell (t .store)) (sym (h .1)) ∙ v .same x (h .0);
-        lost = g ∙ same-sequence (m .statements) (dimension-empty k (m .statements) (right m)) (s .lost) (t .mark) w;
+        lost = g ∙ same-sequence (m .statements) (dimension-empty house (m .statements) (right m)) (s .lost) (t .mark) w;
       }
 
   -- body 6 tells the statement of a word
@@ -119,10 +120,10 @@ module _ {k : ℕ} {deck object : List ℕ} (m : Made k deck object) (store : Li
   unfolding lineOf translate
   tells j i w =
       ap (λ x. lineInObject x i) (reads-back m)
-      ∙ same-sequence (m .statements) (dimension-empty k (m .statements) (right m)) (suc j) (suc i) (marked j refl (omega (arith, w .0)) (omega (arith, w .1)))
+      ∙ same-sequence (m .statements) (dimension-empty house (m .statements) (right m)) (suc j) (suc i) (marked j refl (omega (arith, w .0)) (omega (arith, w .1)))
 
   halted-alike : (a n : ℕ) (h : Cause) (t : State) (s : Standing) → run (step o) a (fresh store) ≡ halt (haltOf h) t → steps (step o) a (fresh store) ≡ n → InStatement (m .statements) (s .at) (t .index)
-      → Holds (heldOf (m .statements)) (s .values) (t .store) → SameMark (m .statements) (s .lost) (t .mark) → HaltedAlike k deck object h s n (running object store freshLent a)
+      → Holds (heldOf (m .statements)) (s .values) (t .store) → SameMark (m .statements) (s .lost) (t .mark) → HaltedAlike house deck object h s n (running object store freshLent a)
   unfolding given
   halted-alike a n h t s e f g v w =
       let q = answers a (halt (haltOf h) t) e in
@@ -139,26 +140,26 @@ module _ {k : ℕ} {deck object : List ℕ} (m : Made k deck object) (store : Li
   serial = series-run object store freshLent refl (not-refused 0)
 
 pub halts-kept : HaltsAlike
-halts-kept k deck object store c stored n h s e allowances =
+halts-kept house deck object store c stored n h s e allowances =
     let m = made c in
     let a = sum allowances in
-    let x = halts-alike k (m .statements) (sound (right m)) (namedValues object store) store (starting m store stored) n h s (meant-as m store stored n e) in
+    let x = halts-alike house (m .lawful) (m .statements) (sound (right m)) (namedValues object store) store (starting m store stored) n h s (meant-as m store stored n e) in
     let count = steps-mean m store stored n in (
-      λ enough. subst (λ r. HaltedAlike k deck object h s (deckSteps k deck (namedValues object store) n) r) (sym (serial m store stored allowances))
-          (let l : meaningSteps (record { digits = k }) (m .statements) n (begin (namedValues object store)) ≤ a = omega arith in
+      λ enough. subst (λ r. HaltedAlike house deck object h s (deckSteps house deck (namedValues object store) n) r) (sym (serial m store stored allowances))
+          (let l : meaningSteps (house .rule) (m .statements) n (begin (namedValues object store)) ≤ a = omega arith in
           halted-alike m store stored a _ h (x .at) s (x .halted a l) (x .took a l ∙ sym count) (x .among) (x .values) (x .mark)),
-      λ fewer. let l : a < meaningSteps (record { digits = k }) (m .statements) n (begin (namedValues object store)) = omega arith in
+      λ fewer. let l : a < meaningSteps (house .rule) (m .statements) n (begin (namedValues object store)) = omega arith in
           let (t, g) = x .before a l in
           ap (λ r. r .halt) (serial m store stored allowances ∙ answers m store stored a (go t) g),
     )
 
 pub goes-kept : GoesAlike
 unfolding given
-goes-kept k deck object store c stored n s e allowances just =
+goes-kept house deck object store c stored n s e allowances just =
     let m = made c in
     let count = steps-mean m store stored n in
-    let x = goes-alike k (m .statements) (sound (right m)) (namedValues object store) store (starting m store stored) n s (meant-as m store stored n e) in
-    let f = step (translate k (m .statements)) in
+    let x = goes-alike house (m .lawful) (m .statements) (sound (right m)) (namedValues object store) store (starting m store stored) n s (meant-as m store stored n e) in
+    let f = step (translate house (m .statements)) in
     let g : run f (sum allowances) (fresh store) ≡ go (x .at) = ap (λ a. run f a (fresh store)) (just ∙ count) ∙ x .goes in
     let q = serial m store stored allowances ∙ answers m store stored (sum allowances) (go (x .at)) g in
     record {
@@ -170,14 +171,14 @@ goes-kept k deck object store c stored n s e allowances just =
     }
 
 -- a run that halts other than by 2 is the machine's, halted
-module _ {k : ℕ} {deck object : List ℕ} (m : Made k deck object) (store : List ℤ) (stored : rightStore object store ≡ true) (a : ℕ) where
-  meant : (running object store freshLent a .halt ≡ 2 → ⊥) → Meant k deck object store (running object store freshLent a)
-  meant other = by (run (step (translate k (m .statements))) a (fresh store)) refl
+module _ {house : House} {deck object : List ℕ} (m : Made house deck object) (store : List ℤ) (stored : rightStore object store ≡ true) (a : ℕ) where
+  meant : (running object store freshLent a .halt ≡ 2 → ⊥) → Meant house deck object store (running object store freshLent a)
+  meant other = by (run (step (translate house (m .statements))) a (fresh store)) refl
     where
-      by : (x : Out State) → run (step (translate k (m .statements))) a (fresh store) ≡ x → Meant k deck object store (running object store freshLent a)
+      by : (x : Out State) → run (step (translate house (m .statements))) a (fresh store) ≡ x → Meant house deck object store (running object store freshLent a)
       by (go t) e = absurd (other (ap (λ r. r .halt) (answers m store stored a (go t) e)))
       by (halt h t) e =
-          let x = halts-meant k (m .statements) (sound (right m)) (namedValues object store) store (starting m store stored) a h t e in
+          let x = halts-meant house (m .lawful) (m .statements) (sound (right m)) (namedValues object store) store (starting m store stored) a h t e in
           record {
             count = x .count;
             how = x .how;
@@ -187,24 +188,24 @@ module _ {k : ℕ} {deck object : List ℕ} (m : Made k deck object) (store : Li
           }
 
 pub means-kept : MeansAlike
-means-kept k deck object store c stored allowances other =
+means-kept house deck object store c stored allowances other =
     let m = made c in
     let q = serial m store stored allowances in
-    subst (λ r. Meant k deck object store r) (sym q) (meant m store stored (sum allowances) (λ e. other (ap (λ r. r .halt) q ∙ e)))
+    subst (λ r. Meant house deck object store r) (sym q) (meant m store stored (sum allowances) (λ e. other (ap (λ r. r .halt) q ∙ e)))
 
 pub never-kept : NeverHalts
-never-kept k deck object store c stored never allowances = by (ℕ-discrete (series object store freshLent allowances .halt) 2)
+never-kept house deck object store c stored never allowances = by (ℕ-discrete (series object store freshLent allowances .halt) 2)
   where
     by : Dec (series object store freshLent allowances .halt ≡ 2) → series object store freshLent allowances .halt ≡ 2
     by (yes e) = e
-    by (no e) = let x = means-kept k deck object store c stored allowances e in absurd (never (x .count) (x .how) (x .end) (x .halts))
+    by (no e) = let x = means-kept house deck object store c stored allowances e in absurd (never (x .count) (x .how) (x .end) (x .halts))
 
 pub ends-kept : EndsAfterDo
-ends-kept k deck object store c stored n s e =
+ends-kept house deck object store c stored n s e =
     let m = made c in
     subst (λ r. (x : Statement) → getElem? (statementsOf r) (s .at) ≡ some x → (d : Do) → Among d (endings (statementsOf r) (x .number))
     → (limit : ℤ) × ((step : ℤ) × ((s .entered (d .position) ≡ bounds limit step) × (positive step ≡ true)))) (sym (m .reads))
-    (ends-entered k (m .statements) (sound (right m)) (namedValues object store) store (starting m store stored) n s (meant-as m store stored n e))
+    (ends-entered house (m .lawful) (m .statements) (sound (right m)) (namedValues object store) store (starting m store stored) n s (meant-as m store stored n e))
 
 -- ---- body 7
 
@@ -241,16 +242,16 @@ no-dims (array a ∷ held) v e = by (sameName (a .name) v) e (no-dims held v)
     by true e f = absurd (true-not-false e)
 no-dims (hidden q ∷ held) v e = no-dims held v e
 
-module _ {k : ℕ} {deck object : List ℕ} (m : Made k deck object) (o : Object) (r : readObject object ≡ some o) where
-  is : o ≡ translate k (m .statements)
+module _ {house : House} {deck object : List ℕ} (m : Made house deck object) (o : Object) (r : readObject object ≡ some o) where
+  is : o ≡ translate house (m .statements)
   is = some-same (sym r ∙ reads-back m)
 
-  names : o .names ≡ namesFrom 0 (heldOf (m .statements))
+  names : o .names ≡ namesFrom house 0 (heldOf (m .statements))
   unfolding translate
   names = ap (λ x. x .names) is
 
-module _ {k : ℕ} {deck object : List ℕ} (m : Made k deck object) (o : Object) (r : readObject object ≡ some o) (v : Name) where
-  dims : deckDims k deck v ≡ dimsOf (m .statements) v
+module _ {house : House} {deck object : List ℕ} (m : Made house deck object) (o : Object) (r : readObject object ≡ some o) (v : Name) where
+  dims : deckDims house deck v ≡ dimsOf (m .statements) v
   unfolding deckDims
   dims = ap (λ x. dimsOf (statementsOf x) v) (m .reads)
 
@@ -258,50 +259,50 @@ module _ {k : ℕ} {deck object : List ℕ} (m : Made k deck object) (o : Object
   unfolding dimsOf
   plain-dims h =
       ap (λ l. dimsIn l v) (sym (arrays-held (m .statements)))
-      ∙ no-dims (heldOf (m .statements)) v (not-true (holds (isArray v) (heldOf (m .statements))) (never-both k (m .statements) (right m) v h))
+      ∙ no-dims (heldOf (m .statements)) v (not-true (holds (isArray v) (heldOf (m .statements))) (never-both house (m .statements) (right m) v h))
 
-  once : (first : ℕ) (d : Dims) → deckDims k deck v ≡ d → Rattle.rules_deck.proofs.BodySeven.OneEntry (m .statements) v (entryOf v first d) → OneEntry k deck v (o .names)
+  once : (first : ℕ) (d : Dims) → deckDims house deck v ≡ d → Rattle.rules_deck.proofs.BodySeven.OneEntry house (m .statements) v (entryOf house v first d) → OneEntry house deck v (o .names)
   once first d e x =
-      subst (λ l. OneEntry k deck v l) (sym (names m o r))
-      (record { at = x .index; entry = entryOf v first d; there = x .is; is = record { named = refl; rows = ap (λ z. z .rows) (sym e); columns = ap (λ z. z .columns) (sym e) }; only = x .only })
+      subst (λ l. OneEntry house deck v l) (sym (names m o r))
+      (record { at = x .index; entry = entryOf house v first d; there = x .is; is = record { named = refl; rows = ap (λ z. z .rows) (sym e); columns = ap (λ z. z .columns) (sym e) }; only = x .only })
 
-  one : InDeck (m .statements) v → OneEntry k deck v (o .names)
-  one i = by (name-entry k (m .statements) (right m) v i)
+  one : InDeck (m .statements) v → OneEntry house deck v (o .names)
+  one i = by (name-entry house (m .statements) (right m) v i)
     where
-      by : (Has (heldOf (m .statements)) (key (plain v)) × Rattle.rules_deck.proofs.BodySeven.OneEntry (m .statements) v (entryOf v (cellOf (heldOf (m .statements)) v) noDims))
-          ⊎ ((holds (isArray v) (heldOf (m .statements)) ≡ true) × Rattle.rules_deck.proofs.BodySeven.OneEntry (m .statements) v (entryOf v (baseOf (heldOf (m .statements)) v) (dimsOf (m .statements) v)))
-          → OneEntry k deck v (o .names)
+      by : (Has (heldOf (m .statements)) (key (plain v)) × Rattle.rules_deck.proofs.BodySeven.OneEntry house (m .statements) v (entryOf house v (cellOf (heldOf (m .statements)) v) noDims))
+          ⊎ ((holds (isArray v) (heldOf (m .statements)) ≡ true) × Rattle.rules_deck.proofs.BodySeven.OneEntry house (m .statements) v (entryOf house v (baseOf (heldOf (m .statements)) v) (dimsOf (m .statements) v)))
+          → OneEntry house deck v (o .names)
       by (inl x) = once _ noDims (dims ∙ plain-dims (x .0)) (x .1)
       by (inr x) = once _ _ dims (x .1)
 
   -- an entry with the name's bytes is the name's
-  its : InDeck (m .statements) v → (i : ℕ) (e : Named) → getElem? (o .names) i ≡ some e → e .name ≡ filled v → EntryOf k deck v e
+  its : InDeck (m .statements) v → (i : ℕ) (e : Named) → getElem? (o .names) i ≡ some e → e .name ≡ filled (house .nameBytes) v → EntryOf house deck v e
   its d i e f n =
       let x = one d in
       let q : x .entry ≡ e = some-same (sym (x .there) ∙ ap (λ j. getElem? (o .names) j) (sym (x .only i e f n)) ∙ f) in
-      subst (λ (y : Named). EntryOf k deck v y) q (x .is)
+      subst (λ (y : Named). EntryOf house deck v y) q (x .is)
 
 pub names-kept : NamesOnce
 unfolding deckNames
-names-kept k deck object c o r =
+names-kept house deck object c o r =
     let m = made c in
     let l = names m o r in
     record {
       each = λ v a. one m o r v (among-in (m .statements) v (subst (λ x. Among v (namesIn (statementsOf x))) (m .reads) a));
       others = λ i e f.
-          let x = entry-name (m .statements) i e (ap (λ n. getElem? n i) (sym l) ∙ f) in
+          let x = entry-name house (m .statements) i e (ap (λ n. getElem? n i) (sym l) ∙ f) in
           (x .0, (subst (λ y. Among (x .0) (namesIn (statementsOf y))) (sym (m .reads)) (in-among (m .statements) (x .0) (x .1)), its m o r (x .0) (x .1) i e f (x .2)));
       order = λ i j e later h f g.
-          names-ordered k (m .statements) (right m) i j e later h (ap (λ n. getElem? n i) (sym l) ∙ f) (ap (λ n. getElem? n j) (sym l) ∙ g);
+          names-ordered house (m .statements) (right m) i j e later h (ap (λ n. getElem? n i) (sym l) ∙ f) (ap (λ n. getElem? n j) (sym l) ∙ g);
     }
 
 -- ---- everything compiled passes
 
 pub passes-kept : CompiledPasses
-passes-kept k deck object c = let m = made c in ap checking (m .bytes) ∙ compiled-passes k deck (m .statements) (m .reads)
+passes-kept house deck object c = let m = made c in ap checking (m .bytes) ∙ compiled-passes house (m .lawful) deck (m .statements) (m .reads)
 
 pub above-kept : NeverAbove
-above-kept k deck object store l c r a =
+above-kept house deck object store l c r a =
     let m = made c in
-    subst (λ x. running x store l a .refusal ≡ accepted → running x store l a .lent .height ≤ 2 * deckLevels k deck + 3) (sym (m .bytes)) (never-above k deck (m .statements) (m .reads) store l (r .forty) a)
+    subst (λ x. running x store l a .refusal ≡ accepted → running x store l a .lent .height ≤ house .height (deckLevels house deck)) (sym (m .bytes)) (never-above house (m .lawful) deck (m .statements) (m .reads) store l (r .forty) a)
     (runs-exactly object store l (r .forty) a .1 r)

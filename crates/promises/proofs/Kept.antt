@@ -6,6 +6,7 @@ use mathlib.Core.Bool.{Bool, true, false}
 use mathlib.Core.List.{List}
 use lib.Dec.{leb}
 use lib.ListN.{length}
+use Rattle.rules_shared.specs.House.{House}
 use Rattle.rules_object.specs.Bytes.{objectBytes}
 use Rattle.rules_shared.specs.Refusals.{accepted}
 use Rattle.rules_shared.specs.Output.{notWritten, writtenIf, write}
@@ -17,6 +18,7 @@ use Rattle.rules_object.proofs.Refusals.{run-keeps, bench-keeps, map-keeps, ben
 use Rattle.rules_object.proofs.RoundTrip.{reads-back, writes-back}
 use Rattle.rules_deck.specs.Translation.{translate}
 use Rattle.rules_deck.specs.Compile.{Read, notRead, read, deckOf, writeRead, compiling}
+use Rattle.rules_deck.proofs.Houses.{lawful1401}
 use Rattle.rules_deck.proofs.Spellings.{spell-read, own-text, read-exactly, one-spelled}
 use Rattle.rules_deck.proofs.NoForm.{ten-exactly}
 use Rattle.rules_deck.proofs.CompiledWritable.{compiled-writable}
@@ -28,27 +30,28 @@ use Rattle.promises.proofs.Machine.{goes-on-kept, steps-kept, heights-k
 use Rattle.promises.proofs.Program.{program-kept}
 use Rattle.promises.proofs.Decks.{halts-kept, means-kept, goes-kept, never-kept, ends-kept, names-kept, passes-kept, above-kept}
 
-compile-keeps : (k : ℕ) (deck output : List ℕ) → (compiling k deck output .refusal ≡ accepted → ⊥) → compiling k deck output ≡ notWritten (compiling k deck output .refusal) output
+compile-keeps : (house : House) (deck output : List ℕ) → (compiling house deck output .refusal ≡ accepted → ⊥) → compiling house deck output ≡ notWritten (compiling house deck output .refusal) output
 unfolding compiling write
-compile-keeps k deck output = by (deckOf k deck)
+compile-keeps house deck output = by (deckOf house deck)
   where
     wrote : (b : Bool) (bytes : List ℕ) → (writtenIf b bytes output .refusal ≡ accepted → ⊥) → writtenIf b bytes output ≡ notWritten (writtenIf b bytes output .refusal) output
     wrote true bytes f = absurd (f refl)
     wrote false bytes f = refl
 
-    by : (r : Read) → (writeRead k output r .refusal ≡ accepted → ⊥) → writeRead k output r ≡ notWritten (writeRead k output r .refusal) output
+    by : (r : Read) → (writeRead house output r .refusal ≡ accepted → ⊥) → writeRead house output r ≡ notWritten (writeRead house output r .refusal) output
     by (notRead r) f = refl
-    by (read statements) f = wrote (leb (length (objectBytes (translate k statements))) (length output)) (objectBytes (translate k statements)) f
+    by (read statements) f = wrote (leb (length (objectBytes (translate house statements))) (length output)) (objectBytes (translate house statements)) f
 
 keeps : RefusalKeeps
 keeps = (compile-keeps, run-keeps, bench-keeps, map-keeps)
 
 round : RoundTrip
-round = (reads-back, writes-back, λ k deck object c. let m = made c in (translate k (m .statements), (compiled-writable (right m), sym (m .bytes))))
+round = (reads-back, writes-back, λ house deck object c. let m = made c in (translate house (m .statements), (compiled-writable (right m), sym (m .bytes))))
 
 pub kept : Kept
 kept =
     record {
+      houseLawful = lawful1401;
       haltsAlike = halts-kept;
       meansAlike = means-kept;
       goesAlike = goes-kept;

@@ -10,6 +10,7 @@ use lib.Dec.{leb}
 use lib.ListN.{length, drop}
 use lib.Seq.{take-append-seam}
 use lib.IntN.{ℤ}
+use Rattle.rules_shared.specs.House.{House}
 use Rattle.rules_object.specs.Bytes.{objectBytes, readObject}
 use Rattle.rules_shared.specs.Refusals.{Refusal, refusal, accepted}
 use Rattle.rules_shared.specs.Output.{writtenIf, write}
@@ -18,6 +19,7 @@ use Rattle.rules_deck.specs.Trees.{Statement}
 use Rattle.rules_deck.specs.Meaning.{Key}
 use Rattle.rules_deck.specs.Translation.{heldOf, cellCount, namesFrom, translate}
 use Rattle.rules_deck.specs.Compile.{Read, notRead, read, deckOf, writeRead, compiling}
+use Rattle.rules_deck.specs.Lawful.{Lawful}
 use Rattle.rules_deck.specs.Accepted.{Accepted}
 use Rattle.rules_deck.specs.Cells.{key, slotCell, Has, Holds}
 use Rattle.rules_deck.specs.Seen.{objectIn, cellIn, cellInObject, namedCell, cellValue, namedValues}
@@ -27,10 +29,11 @@ use Rattle.rules_deck.proofs.RefusedDeck.{ReadNumbered, refused-numbered}
 use Rattle.rules_deck.proofs.SeenCells.{told, has-cell, cell-has}
 use Rattle.promises.specs.Promises.{Compiled}
 
-pub record Made (k : ℕ) (deck object : List ℕ) : Type 0 where
+pub record Made (house : House) (deck object : List ℕ) : Type 0 where
+  pub lawful : Lawful house
   pub statements : List Statement
-  pub reads : deckOf k deck ≡ read statements
-  pub bytes : object ≡ objectBytes (translate k statements)
+  pub reads : deckOf house deck ≡ read statements
+  pub bytes : object ≡ objectBytes (translate house statements)
 
 not-accepted : (r : Refusal) → 0 < r .number → r ≡ accepted → ⊥
 not-accepted r h e = let z : r .number ≡ 0 = ap (λ x. x .number) e in omega arith
@@ -40,33 +43,33 @@ unfolding objectIn
 wrote true bytes output e = take-append-seam bytes (drop (length bytes) output)
 wrote false bytes output e = absurd (not-accepted (refusal 30 0 0) (omega arith) e)
 
-pub made : {k : ℕ} {deck object : List ℕ} → Compiled k deck object → Made k deck object
+pub made : {house : House} {deck object : List ℕ} → Compiled house deck object → Made house deck object
 unfolding compiling write
-made {k} {deck} {object} c = go (deckOf k deck) refl (c .accepts) (c .writes)
+made {house} {deck} {object} c = go (deckOf house deck) refl (c .accepts) (c .writes)
   where
-    go : (r : Read) → deckOf k deck ≡ r → writeRead k (c .output) r .refusal ≡ accepted → objectIn (writeRead k (c .output) r) ≡ object → Made k deck object
-    go (notRead r) e a w = absurd (not-accepted r (subst ReadNumbered e (refused-numbered k deck) .0) a)
+    go : (r : Read) → deckOf house deck ≡ r → writeRead house (c .output) r .refusal ≡ accepted → objectIn (writeRead house (c .output) r) ≡ object → Made house deck object
+    go (notRead r) e a w = absurd (not-accepted r (subst ReadNumbered e (refused-numbered house deck) .0) a)
     go (read statements) e a w =
-        record { statements = statements; reads = e; bytes = sym w ∙ wrote (leb (length (objectBytes (translate k statements))) (length (c .output))) (objectBytes (translate k statements)) (c .output) a }
+        record { lawful = c .lawful; statements = statements; reads = e; bytes = sym w ∙ wrote (leb (length (objectBytes (translate house statements))) (length (c .output))) (objectBytes (translate house statements)) (c .output) a }
 
-module _ {k : ℕ} {deck object : List ℕ} (m : Made k deck object) where
-  pub right : Accepted k (m .statements)
-  right = accepted-deck k deck (m .statements) (m .reads)
+module _ {house : House} {deck object : List ℕ} (m : Made house deck object) where
+  pub right : Accepted house (m .statements)
+  right = accepted-deck house (m .lawful) deck (m .statements) (m .reads)
 
-  pub reads-back : readObject object ≡ some (translate k (m .statements))
+  pub reads-back : readObject object ≡ some (translate house (m .statements))
   reads-back = ap readObject (m .bytes) ∙ compiled-reads right
 
-  pub checks : (table : List ℕ) × (checked object ≡ passed (translate k (m .statements)) table)
-  checks = let c = compiled-checked k deck (m .statements) (m .reads) in (c .0, ap checked (m .bytes) ∙ c .1)
+  pub checks : (table : List ℕ) × (checked object ≡ passed (translate house (m .statements)) table)
+  checks = let c = compiled-checked house (m .lawful) deck (m .statements) (m .reads) in (c .0, ap checked (m .bytes) ∙ c .1)
 
   -- ---- named values
 
-  cells : (x : Key) → namedCell object x ≡ cellIn (namesFrom 0 (heldOf (m .statements))) x
+  cells : (x : Key) → namedCell object x ≡ cellIn (namesFrom house 0 (heldOf (m .statements))) x
   unfolding namedCell translate
   cells x = ap (λ o. cellInObject o x) reads-back
 
   pub named-has : (x : Key) (c : ℕ) → namedCell object x ≡ some c → Has (heldOf (m .statements)) (key x) × (slotCell (heldOf (m .statements)) (key x) ≡ c)
-  named-has x c e = cell-has (heldOf (m .statements)) (told k (m .statements) right) x c (sym (cells x) ∙ e)
+  named-has x c e = cell-has house (heldOf (m .statements)) (told house (m .statements) right) x c (sym (cells x) ∙ e)
 
   -- a store with room holds its own named values
   pub holds-named : (store : List ℤ) → cellCount (heldOf (m .statements)) ≤ length store → Holds (heldOf (m .statements)) (namedValues object store) store
@@ -74,5 +77,5 @@ module _ {k : ℕ} {deck object : List ℕ} (m : Made k deck object) where
   holds-named store room =
       record {
         room = room;
-        same = λ x h. sym (ap (cellValue store) (cells x ∙ has-cell (heldOf (m .statements)) (told k (m .statements) right) x h));
+        same = λ x h. sym (ap (cellValue store) (cells x ∙ has-cell house (heldOf (m .statements)) (told house (m .statements) right) x h));
       }

@@ -1,5 +1,5 @@
 -- Every promise, each under a sentence in plain words. Decks and objects are bytes here; `compiling`, `checking`, `running`, `benching` and `mapping` are the calls,
--- `meaningOf` is what a deck means, `printed` what the program prints. `Judged`, `Runnable`, `TouchesOnly` and `StepsOf` stand in `rules_object`, in `Promised.antt`. `proofs/Kept.antt` has the proof of each.
+-- `meaningOf` is what a deck means, `printed` what the program prints. A deck is compiled in a house: the calls have the 1401's with k digits, `house1401 k`. `Judged`, `Runnable`, `TouchesOnly` and `StepsOf` stand in `rules_object`, in `Promised.antt`. `proofs/Kept.antt` has the proof of each.
 -- Assumes nothing.
 use mathlib.Core.Path.{_≡_}
 use mathlib.Core.Logic.{_↔_}
@@ -10,6 +10,7 @@ use mathlib.Core.Option.{none, some}
 use lib.ListN.{length, getElem?, take, drop}
 use lib.IntN.{ℤ, pos}
 use Rattle.rules_shared.specs.Limits.{limits}
+use Rattle.rules_shared.specs.House.{House, house1401}
 use Rattle.rules_shared.specs.Runs.{go, halt, run}
 use Rattle.rules_object.specs.Halts.{haltNumber}
 use Rattle.rules_shared.specs.Choose.{positive, SubscriptParts, subscriptValue, place}
@@ -35,6 +36,7 @@ use Rattle.rules_deck.specs.Grammar.{formOf}
 use Rattle.rules_deck.specs.Meaning.{Cause, Key, bounds, Standing}
 use Rattle.rules_deck.specs.Translation.{addressAt, filled}
 use Rattle.rules_deck.specs.Compile.{deckOf, compiling}
+use Rattle.rules_deck.specs.Lawful.{Lawful}
 use Rattle.rules_deck.specs.Accepted.{Among}
 use Rattle.rules_deck.specs.Spelling.{spellForm, Spells, Spellable, withoutPluses, NoForm}
 use Rattle.rules_deck.specs.Seen.{statementsOf, meaningOf, haltOf, deckSteps, InStatement, deckNames, deckDims, deckLevels, objectIn, namedCell, namedValues, lineOf, series, sum}
@@ -42,11 +44,16 @@ use Rattle.rules_deck.specs.Worked.{decks, DecksRight}
 use Rattle.rules_program.specs.Text.{haltLine, refusedLine, nameLines}
 use Rattle.rules_program.specs.Program.{controlOf, zeroStore, printed}
 
--- compiling the deck with k digits gives the object
-pub record Compiled (k : ℕ) (deck object : List ℕ) : Type 0 where
+-- compiling the deck in a house that is lawful gives the object
+pub record Compiled (house : House) (deck object : List ℕ) : Type 0 where
+  pub lawful : Lawful house
   pub output : List ℕ
-  pub accepts : compiling k deck output .refusal ≡ accepted
-  pub writes : objectIn (compiling k deck output) ≡ object
+  pub accepts : compiling house deck output .refusal ≡ accepted
+  pub writes : objectIn (compiling house deck output) ≡ object
+
+-- The 1401's house is lawful, whatever k is: what is promised of any lawful house is promised of it.
+abbrev pub HouseLawful : Type 0
+HouseLawful = (k : ℕ) → Lawful (house1401 k)
 
 -- ---- 1, 2. A run does as the deck means
 
@@ -57,86 +64,86 @@ pub record Alike (object : List ℕ) (m : Standing) (r : Ran) : Type 0 where
   pub lost : r .sequence ≡ m .lost
 
 -- and the same halt, at a word of the statement at which the meaning halted, which body 6 tells, after n steps
-pub record HaltedAlike (k : ℕ) (deck object : List ℕ) (h : Cause) (m : Standing) (n : ℕ) (r : Ran) : Type 0 where
+pub record HaltedAlike (house : House) (deck object : List ℕ) (h : Cause) (m : Standing) (n : ℕ) (r : Ran) : Type 0 where
   pub alike : Alike object m r
   pub halts : r .halt ≡ haltNumber (haltOf h)
-  pub at : InStatement (statementsOf (deckOf k deck)) (m .at) (r .lent .index)
+  pub at : InStatement (statementsOf (deckOf house deck)) (m .at) (r .lent .index)
   pub line : lineOf object (r .lent .index) ≡ suc (m .at)
   pub steps : r .steps ≡ n
 
 -- If the meaning, which starts from the named values alone, halts, then runs one after the other halt alike, after just the steps that its statements take; allowed fewer, they halt by 2.
 abbrev pub HaltsAlike : Type 0
 HaltsAlike =
-    (k : ℕ) (deck object : List ℕ) (store : List ℤ) → Compiled k deck object → rightStore object store ≡ true → (n : ℕ) (h : Cause) (m : Standing) →
-    meaningOf k deck (namedValues object store) n ≡ some (halt h m) → (allowances : List ℕ) →
-    (deckSteps k deck (namedValues object store) n ≤ sum allowances →
-    HaltedAlike k deck object h m (deckSteps k deck (namedValues object store) n) (series object store freshLent allowances)) ×
-    (sum allowances < deckSteps k deck (namedValues object store) n → series object store freshLent allowances .halt ≡ 2)
+    (house : House) (deck object : List ℕ) (store : List ℤ) → Compiled house deck object → rightStore object store ≡ true → (n : ℕ) (h : Cause) (m : Standing) →
+    meaningOf house deck (namedValues object store) n ≡ some (halt h m) → (allowances : List ℕ) →
+    (deckSteps house deck (namedValues object store) n ≤ sum allowances →
+    HaltedAlike house deck object h m (deckSteps house deck (namedValues object store) n) (series object store freshLent allowances)) ×
+    (sum allowances < deckSteps house deck (namedValues object store) n → series object store freshLent allowances .halt ≡ 2)
 
 -- the meaning halts, and the run with it
-pub record Meant (k : ℕ) (deck object : List ℕ) (store : List ℤ) (r : Ran) : Type 0 where
+pub record Meant (house : House) (deck object : List ℕ) (store : List ℤ) (r : Ran) : Type 0 where
   pub count : ℕ
   pub how : Cause
   pub end : Standing
-  pub halts : meaningOf k deck (namedValues object store) count ≡ some (halt how end)
-  pub alike : HaltedAlike k deck object how end (deckSteps k deck (namedValues object store) count) r
+  pub halts : meaningOf house deck (namedValues object store) count ≡ some (halt how end)
+  pub alike : HaltedAlike house deck object how end (deckSteps house deck (namedValues object store) count) r
 
 -- If runs one after the other halt other than by 2, the meaning halts alike.
 abbrev pub MeansAlike : Type 0
 MeansAlike =
-    (k : ℕ) (deck object : List ℕ) (store : List ℤ) → Compiled k deck object → rightStore object store ≡ true → (allowances : List ℕ) →
-    (series object store freshLent allowances .halt ≡ 2 → ⊥) → Meant k deck object store (series object store freshLent allowances)
+    (house : House) (deck object : List ℕ) (store : List ℤ) → Compiled house deck object → rightStore object store ≡ true → (allowances : List ℕ) →
+    (series object store freshLent allowances .halt ≡ 2 → ⊥) → Meant house deck object store (series object store freshLent allowances)
 
 -- or the allowance is used, at the first word of the statement that comes next in the meaning, after n steps
-pub record StandsAlike (k : ℕ) (deck object : List ℕ) (m : Standing) (n : ℕ) (r : Ran) : Type 0 where
+pub record StandsAlike (house : House) (deck object : List ℕ) (m : Standing) (n : ℕ) (r : Ran) : Type 0 where
   pub alike : Alike object m r
   pub halts : r .halt ≡ 2
-  pub at : r .lent .index ≡ addressAt (statementsOf (deckOf k deck)) (m .at)
+  pub at : r .lent .index ≡ addressAt (statementsOf (deckOf house deck)) (m .at)
   pub height : r .lent .height ≡ 0
   pub steps : r .steps ≡ n
 
 -- While the meaning goes on, runs that are allowed just the steps that its statements take stand where it stands.
 abbrev pub GoesAlike : Type 0
 GoesAlike =
-    (k : ℕ) (deck object : List ℕ) (store : List ℤ) → Compiled k deck object → rightStore object store ≡ true → (n : ℕ) (m : Standing) →
-    meaningOf k deck (namedValues object store) n ≡ some (go m) → (allowances : List ℕ) → sum allowances ≡ deckSteps k deck (namedValues object store) n →
-    StandsAlike k deck object m (deckSteps k deck (namedValues object store) n) (series object store freshLent allowances)
+    (house : House) (deck object : List ℕ) (store : List ℤ) → Compiled house deck object → rightStore object store ≡ true → (n : ℕ) (m : Standing) →
+    meaningOf house deck (namedValues object store) n ≡ some (go m) → (allowances : List ℕ) → sum allowances ≡ deckSteps house deck (namedValues object store) n →
+    StandsAlike house deck object m (deckSteps house deck (namedValues object store) n) (series object store freshLent allowances)
 
 -- A deck that never halts is never made to halt.
 abbrev pub NeverHalts : Type 0
 NeverHalts =
-    (k : ℕ) (deck object : List ℕ) (store : List ℤ) → Compiled k deck object → rightStore object store ≡ true →
-    ((n : ℕ) (h : Cause) (m : Standing) → meaningOf k deck (namedValues object store) n ≡ some (halt h m) → ⊥) →
+    (house : House) (deck object : List ℕ) (store : List ℤ) → Compiled house deck object → rightStore object store ≡ true →
+    ((n : ℕ) (h : Cause) (m : Standing) → meaningOf house deck (namedValues object store) n ≡ some (halt h m) → ⊥) →
     (allowances : List ℕ) → series object store freshLent allowances .halt ≡ 2
 
 -- A DO's end is reached only after its DO, with a step above 0: so nothing depends on what hidden cells held at the start.
 abbrev pub EndsAfterDo : Type 0
 EndsAfterDo =
-    (k : ℕ) (deck object : List ℕ) (store : List ℤ) → Compiled k deck object → rightStore object store ≡ true → (n : ℕ) (m : Standing) →
-    meaningOf k deck (namedValues object store) n ≡ some (go m) → (s : Statement) → getElem? (statementsOf (deckOf k deck)) (m .at) ≡ some s →
-    (d : Do) → Among d (endings (statementsOf (deckOf k deck)) (s .number)) → (limit : ℤ) × ((step : ℤ) × ((m .entered (d .position) ≡ bounds limit step) × (positive step ≡ true)))
+    (house : House) (deck object : List ℕ) (store : List ℤ) → Compiled house deck object → rightStore object store ≡ true → (n : ℕ) (m : Standing) →
+    meaningOf house deck (namedValues object store) n ≡ some (go m) → (s : Statement) → getElem? (statementsOf (deckOf house deck)) (m .at) ≡ some s →
+    (d : Do) → Among d (endings (statementsOf (deckOf house deck)) (s .number)) → (limit : ℤ) × ((step : ℤ) × ((m .entered (d .position) ≡ bounds limit step) × (positive step ≡ true)))
 
 -- an entry of body 7 that is a name's, with what the deck says of the name
-pub record EntryOf (k : ℕ) (deck : List ℕ) (v : Name) (e : Named) : Type 0 where
-  pub named : e .name ≡ filled v
-  pub rows : e .rows ≡ deckDims k deck v .rows
-  pub columns : e .columns ≡ deckDims k deck v .columns
+pub record EntryOf (house : House) (deck : List ℕ) (v : Name) (e : Named) : Type 0 where
+  pub named : e .name ≡ filled (house .nameBytes) v
+  pub rows : e .rows ≡ deckDims house deck v .rows
+  pub columns : e .columns ≡ deckDims house deck v .columns
 
-pub record OneEntry (k : ℕ) (deck : List ℕ) (v : Name) (names : List Named) : Type 0 where
+pub record OneEntry (house : House) (deck : List ℕ) (v : Name) (names : List Named) : Type 0 where
   pub at : ℕ
   pub entry : Named
   pub there : getElem? names at ≡ some entry
-  pub is : EntryOf k deck v entry
-  pub only : (i : ℕ) (other : Named) → getElem? names i ≡ some other → other .name ≡ filled v → i ≡ at
+  pub is : EntryOf house deck v entry
+  pub only : (i : ℕ) (other : Named) → getElem? names i ≡ some other → other .name ≡ filled (house .nameBytes) v → i ≡ at
 
-pub record NamesOf (k : ℕ) (deck : List ℕ) (names : List Named) : Type 0 where
-  pub each : (v : Name) → Among v (deckNames k deck) → OneEntry k deck v names
-  pub others : (i : ℕ) (e : Named) → getElem? names i ≡ some e → (v : Name) × (Among v (deckNames k deck) × EntryOf k deck v e)
+pub record NamesOf (house : House) (deck : List ℕ) (names : List Named) : Type 0 where
+  pub each : (v : Name) → Among v (deckNames house deck) → OneEntry house deck v names
+  pub others : (i : ℕ) (e : Named) → getElem? names i ≡ some e → (v : Name) × (Among v (deckNames house deck) × EntryOf house deck v e)
   pub order : (i j : ℕ) (e later : Named) → i < j → getElem? names i ≡ some e → getElem? names j ≡ some later → e .first + span (e .rows) (e .columns) ≤ later .first
 
 -- Body 7 has one entry for each name of the deck, with its dimensions (0 and 0 for a plain one, columns 0 for one dimension), no other entry, and an entry's cells before those of the next.
 abbrev pub NamesOnce : Type 0
-NamesOnce = (k : ℕ) (deck object : List ℕ) → Compiled k deck object → (o : Object) → readObject object ≡ some o → NamesOf k deck (o .names)
+NamesOnce = (house : House) (deck object : List ℕ) → Compiled house deck object → (o : Object) → readObject object ≡ some o → NamesOf house deck (o .names)
 
 -- ---- 3. What may be run is run, and a run can be split
 
@@ -258,19 +265,19 @@ PlacesApart = (rows columns : ℕ) → Places rows columns
 -- ---- 7. Everything compiled passes
 
 abbrev pub CompiledPasses : Type 0
-CompiledPasses = (k : ℕ) (deck object : List ℕ) → Compiled k deck object → checking object ≡ accepted
+CompiledPasses = (house : House) (deck object : List ℕ) → Compiled house deck object → checking object ≡ accepted
 
--- a compiled deck with p levels of parentheses never stands above 2p+3, from whatever state it is run
+-- a compiled deck never stands higher than its house has for its levels of parentheses (2p+3 for p in the 1401's), from whatever state it is run
 abbrev pub NeverAbove : Type 0
 NeverAbove =
-    (k : ℕ) (deck object : List ℕ) (store : List ℤ) (l : Lent) → Compiled k deck object → Runnable object store l → (a : ℕ) →
-    running object store l a .lent .height ≤ 2 * deckLevels k deck + 3
+    (house : House) (deck object : List ℕ) (store : List ℤ) (l : Lent) → Compiled house deck object → Runnable object store l → (a : ℕ) →
+    running object store l a .lent .height ≤ house .height (deckLevels house deck)
 
 -- ---- 8. A refusal changes nothing; each call is a function, so that each input has one outcome
 
 abbrev pub RefusalKeeps : Type 0
 RefusalKeeps =
-    ((k : ℕ) (deck output : List ℕ) → (compiling k deck output .refusal ≡ accepted → ⊥) → compiling k deck output ≡ notWritten (compiling k deck output .refusal) output) ×
+    ((house : House) (deck output : List ℕ) → (compiling house deck output .refusal ≡ accepted → ⊥) → compiling house deck output ≡ notWritten (compiling house deck output .refusal) output) ×
     ((object : List ℕ) (store : List ℤ) (l : Lent) (a : ℕ) → (running object store l a .refusal ≡ accepted → ⊥) → running object store l a ≡ notRun (running object store l a .refusal) l store) ×
     ((object : List ℕ) (store : List ℤ) (l : Lent) (a : ℕ) → (benching object store l a .refusal ≡ accepted → ⊥) → benching object store l a ≡ notRun (benching object store l a .refusal) l store) ×
     ((object table : List ℕ) → (mapping object table .refusal ≡ accepted → ⊥) → mapping object table ≡ notWritten (mapping object table .refusal) table)
@@ -281,7 +288,7 @@ abbrev pub RoundTrip : Type 0
 RoundTrip =
     ((o : Object) → Writable o → readObject (objectBytes o) ≡ some o) ×
     ((object : List ℕ) (o : Object) → Each IsByte object → readObject object ≡ some o → objectBytes o ≡ object) ×
-    ((k : ℕ) (deck object : List ℕ) → Compiled k deck object → (o : Object) × (Writable o × (objectBytes o ≡ object)))
+    ((house : House) (deck object : List ℕ) → Compiled house deck object → (o : Object) × (Writable o × (objectBytes o ≡ object)))
 
 -- ---- 10. The grammar, both ways
 
@@ -301,7 +308,7 @@ NoTwoForms = (text : List ℕ) (f g : Form) → Spells text f → Spells text g 
 
 -- 10 is given exactly for a statement whose text spells no form, where the cards are right and the statements before it pass.
 abbrev pub TenExactly : Type 0
-TenExactly = (k : ℕ) (deck output : List ℕ) (q : ℕ) → (compiling k deck output .refusal ≡ refusal 10 (suc q) 0) ↔ NoForm k deck q
+TenExactly = (house : House) (deck output : List ℕ) (q : ℕ) → (compiling house deck output .refusal ≡ refusal 10 (suc q) 0) ↔ NoForm house deck q
 
 -- ---- 11. P1 to P12
 
@@ -320,10 +327,10 @@ pub data Prints (card deck : List ℕ) : List ℕ → Type 0 where
   -- the card is no control card: REFUSED 1 0
   noCard : controlOf card ≡ none → Prints card deck (refusedLine 1 0)
   -- the deck is refused whatever room its object has, by a number that only decks are refused by: never by 30, nor by 40 and above
-  noDeck : (k : ℕ) (r : Refusal) → controlOf card ≡ some k → ((output : List ℕ) → compiling k deck output .refusal ≡ r) → (1 ≤ r .number) × (r .number ≤ 25)
+  noDeck : (k : ℕ) (r : Refusal) → controlOf card ≡ some k → ((output : List ℕ) → compiling (house1401 k) deck output .refusal ≡ r) → (1 ≤ r .number) × (r .number ≤ 25)
       → Prints card deck (refusedLine (r .number) (r .place))
   -- its object is run with a zero store, and not refused: the halt, and the values of the names
-  ran : (k : ℕ) (object : List ℕ) (o : Object) (r : Ran) → controlOf card ≡ some k → Compiled k deck object → readObject object ≡ some o
+  ran : (k : ℕ) (object : List ℕ) (o : Object) (r : Ran) → controlOf card ≡ some k → Compiled (house1401 k) deck object → readObject object ≡ some o
       → running object zeroStore freshLent 1000000 ≡ r → r .refusal ≡ accepted → Prints card deck (haltLine (r .halt) (r .steps) (r .sequence) ++ nameLines (o .names) (r .store))
 
 -- Of every input one of these is printed, the first 80 bytes being the control card.
@@ -333,6 +340,7 @@ ProgramPrints = (input : List ℕ) → Prints (take cardLength input) (drop card
 -- ---- all of them
 
 pub record Kept : Type 0 where
+  pub houseLawful : HouseLawful
   pub haltsAlike : HaltsAlike
   pub meansAlike : MeansAlike
   pub goesAlike : GoesAlike

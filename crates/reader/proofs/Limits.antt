@@ -9,6 +9,7 @@ use lib.Dec.{leb}
 use lib.ListN.{length}
 use borrow.Author.Tests.{leb-true, leb-false, le-leb, lt-leb}
 use Rattle.rules_shared.specs.Limits.{limits}
+use Rattle.rules_shared.specs.House.{House}
 use Rattle.rules_shared.specs.Lists.{all}
 use Rattle.rules_deck.specs.Trees.{Name, Form, formNames, formConstants}
 use Rattle.rules_deck.specs.Judge.{startsInteger, right11, right12, right14}
@@ -32,9 +33,9 @@ largest-le g k [] = sym (le-leb 0 k (omega arith))
 largest-le g k (a ∷ l) = ap (λ (b : Bool). leb (g a) k && b) (largest-le g k l) ∙ sym (both-le (g a) (largest g l) k)
 
 -- 12
-pub sizes-12 : (k : ℕ) (f : Form) → right12 k f ≡ leb (formSizes f .constant) k
+pub sizes-12 : (house : House) (f : Form) → right12 house f ≡ leb (formSizes f .constant) (house .digits)
 unfolding right12 formSizes sizesOf
-sizes-12 k f = largest-le length k (formConstants f)
+sizes-12 house f = largest-le length (house .digits) (formConstants f)
 
 -- 14
 pub sizes-14 : (f : Form) → right14 f ≡ leb (formSizes f .levels) (limits .parentheses)
@@ -56,17 +57,17 @@ swap true false true d = refl
 swap true false false d = refl
 swap false b c d = refl
 
-both-all : (l : List Name) → all (λ v. leb (length v) 6 && startsInteger v) l ≡ all (λ v. leb (length v) 6) l && all (λ v. leb (otherLetter v) 0) l
-both-all [] = refl
-both-all (v ∷ l) =
-    ap (λ (b : Bool). (leb (length v) 6 && startsInteger v) && b) (both-all l)
-    ∙ ap (λ (b : Bool). (leb (length v) 6 && b) && (all (λ w. leb (length w) 6) l && all (λ w. leb (otherLetter w) 0) l)) (integer-letter v)
-    ∙ swap (leb (length v) 6) (leb (otherLetter v) 0) (all (λ w. leb (length w) 6) l) (all (λ w. leb (otherLetter w) 0) l)
+both-all : (n : ℕ) (l : List Name) → all (λ v. leb (length v) n && startsInteger v) l ≡ all (λ v. leb (length v) n) l && all (λ v. leb (otherLetter v) 0) l
+both-all n [] = refl
+both-all n (v ∷ l) =
+    ap (λ (b : Bool). (leb (length v) n && startsInteger v) && b) (both-all n l)
+    ∙ ap (λ (b : Bool). (leb (length v) n && b) && (all (λ w. leb (length w) n) l && all (λ w. leb (otherLetter w) 0) l)) (integer-letter v)
+    ∙ swap (leb (length v) n) (leb (otherLetter v) 0) (all (λ w. leb (length w) n) l) (all (λ w. leb (otherLetter w) 0) l)
 
 -- 11
-pub sizes-11 : (f : Form) → right11 f ≡ leb (formSizes f .name) (limits .nameLength) && leb (formSizes f .other) 0
+pub sizes-11 : (house : House) (f : Form) → right11 house f ≡ leb (formSizes f .name) (house .nameLength) && leb (formSizes f .other) 0
 unfolding right11 formSizes sizesOf
-sizes-11 f =
-    both-all (formNames f)
-    ∙ ap (λ (b : Bool). b && all (λ v. leb (otherLetter v) 0) (formNames f)) (largest-le length 6 (formNames f))
-    ∙ ap (λ (b : Bool). leb (largest length (formNames f)) 6 && b) (largest-le otherLetter 0 (formNames f))
+sizes-11 house f =
+    both-all (house .nameLength) (formNames f)
+    ∙ ap (λ (b : Bool). b && all (λ v. leb (otherLetter v) 0) (formNames f)) (largest-le length (house .nameLength) (formNames f))
+    ∙ ap (λ (b : Bool). leb (largest length (formNames f)) (house .nameLength) && b) (largest-le otherLetter 0 (formNames f))

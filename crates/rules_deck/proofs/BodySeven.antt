@@ -11,7 +11,7 @@ use native.Mathlib.Nat.{zero-add}
 use lib.Dec.{leb}
 use lib.ListN.{length, getElem?, take}
 use borrow.Author.Tests.{leb-true}
-use Rattle.rules_shared.specs.Limits.{limits}
+use Rattle.rules_shared.specs.House.{House}
 use Rattle.rules_shared.specs.Lists.{all, Each, each-more}
 use Rattle.rules_object.specs.Object.{Named}
 use Rattle.rules_object.specs.Check.{span, isLetter, isDigit}
@@ -25,6 +25,7 @@ use Rattle.rules_deck.specs.Judge.{startsInteger, right11, Reference, ri
 use Rattle.rules_deck.specs.Accepted.{Among, here, there, Accepted}
 use Rattle.rules_deck.specs.Cells.{key, Has, namesHeld}
 use Rattle.rules_deck.specs.Spelling.{IsName, is-name}
+use Rattle.rules_deck.proofs.Houses.{name-fits}
 use Rattle.rules_deck.proofs.CardsLaws.{cases}
 use Rattle.rules_deck.proofs.Readers.{both-true, digit-bounds, letter-bounds}
 use Rattle.rules_deck.proofs.ReadForms.{read-names}
@@ -77,10 +78,10 @@ reference-array (Held.array a ∷ held) r e = go (sameName (a .name) (r .name)) 
     go false i f = f i
 reference-array (hidden q ∷ held) r e = reference-array held r e
 
-pub reference-has : (k : ℕ) (deck : List Statement) → Accepted k deck → (j : ℕ) (s : Statement) (r : Reference) → getElem? deck j ≡ some s
+pub reference-has : (house : House) (deck : List Statement) → Accepted house deck → (j : ℕ) (s : Statement) (r : Reference) → getElem? deck j ≡ some s
     → Among r (formReferences (s .form)) → holds (isArray (r .name)) (heldOf deck) ≡ true
 unfolding heldOf right16
-reference-has k deck c j s r e a =
+reference-has house deck c j s r e a =
     let p = subst (λ (l : List Held). right16 l (s .form) ≡ true) (before-held deck j) (c .judged j s e .passes16) in
     let held = heldFrom 0 (take j deck) [] in
     grown-holds (grown-take 0 deck [] j) (isArray (r .name))
@@ -158,27 +159,27 @@ held-name deck v a = go (names-from 0 deck [] v a)
 -- ---- one entry
 
 -- e stands in body 7, and no other entry has the name's bytes
-pub record OneEntry (deck : List Statement) (v : Name) (e : Named) : Type 0 where
+pub record OneEntry (house : House) (deck : List Statement) (v : Name) (e : Named) : Type 0 where
   pub index : ℕ
-  pub is : getElem? (namesFrom 0 (heldOf deck)) index ≡ some e
-  pub only : (j : ℕ) (x : Named) → getElem? (namesFrom 0 (heldOf deck)) j ≡ some x → x .name ≡ filled v → j ≡ index
+  pub is : getElem? (namesFrom house 0 (heldOf deck)) index ≡ some e
+  pub only : (j : ℕ) (x : Named) → getElem? (namesFrom house 0 (heldOf deck)) j ≡ some x → x .name ≡ filled (house .nameBytes) v → j ≡ index
 
-pub name-length : (k : ℕ) (deck : List Statement) → Accepted k deck → (v : Name) → InDeck deck v → length v ≤ 6
+pub name-length : (house : House) (deck : List Statement) → Accepted house deck → (v : Name) → InDeck deck v → length v ≤ house .nameLength
 unfolding right11
-name-length k deck c v i =
+name-length house deck c v i =
     let p = c .judged (i .position) (i .statement) (i .at) .passes11 in
-    let q = all-among (λ v. leb (length v) (limits .nameLength) && startsInteger v) p (i .among) in
-    leb-true (length v) 6 (both-true (leb (length v) (limits .nameLength)) (startsInteger v) q .0)
+    let q = all-among (λ v. leb (length v) (house .nameLength) && startsInteger v) p (i .among) in
+    leb-true (length v) (house .nameLength) (both-true (leb (length v) (house .nameLength)) (startsInteger v) q .0)
 
 -- a name of a statement is a plain name or an array of the map
-pub name-kind : (k : ℕ) (deck : List Statement) → Accepted k deck → (v : Name) → InDeck deck v
+pub name-kind : (house : House) (deck : List Statement) → Accepted house deck → (v : Name) → InDeck deck v
     → Has (heldOf deck) (key (plain v)) ⊎ (holds (isArray v) (heldOf deck) ≡ true)
-name-kind k deck c v i = go (form-covered (i .statement .form) (i .among))
+name-kind house deck c v i = go (form-covered (i .statement .form) (i .among))
   where
     covered : Covered (formPlain (i .statement .form)) (formReferences (i .statement .form)) v → Has (heldOf deck) (key (plain v)) ⊎ (holds (isArray v) (heldOf deck) ≡ true)
     covered (plainly a) = inl (plain-has deck (i .position) (i .statement) v (i .at) a)
     covered (of-element r e a) =
-        inr (subst (λ (x : Name). holds (isArray x) (heldOf deck) ≡ true) e (reference-has k deck c (i .position) (i .statement) r (i .at) a))
+        inr (subst (λ (x : Name). holds (isArray x) (heldOf deck) ≡ true) e (reference-has house deck c (i .position) (i .statement) r (i .at) a))
 
     go : Covered (formPlain (i .statement .form)) (formReferences (i .statement .form)) v ⊎ Among v (arrayNames (arraysIn (i .statement .form)))
         → Has (heldOf deck) (key (plain v)) ⊎ (holds (isArray v) (heldOf deck) ≡ true)
@@ -200,61 +201,62 @@ letter-or-digit c e z = go (isLetter c) refl e
 name-solid : {v : Name} → IsName v → NoBlank v
 name-solid (is-name {c} p ps) = each-more (λ (z : c ≡ 32). omega (arith, letter-bounds c p)) (each-map letter-or-digit ps)
 
-pub solid : (k : ℕ) (deck : List Statement) → Accepted k deck → (v : Name) → InDeck deck v → NoBlank v
-solid k deck c v i =
+pub solid : (house : House) (deck : List Statement) → Accepted house deck → (v : Name) → InDeck deck v → NoBlank v
+solid house deck c v i =
     let j = c .judged (i .position) (i .statement) (i .at) in
     name-solid (each-here (read-names (j .text) (i .statement .form) (j .form)) (i .among))
 
-module _ (k : ℕ) (deck : List Statement) (c : Accepted k deck) where
-  one-entry : (v : Name) (at : ℕ) (d : Dims) → Among v (namesHeld (heldOf deck)) → Listed (namesFrom 0 (heldOf deck)) (entryOf v at d) → OneEntry deck v (entryOf v at d)
+module _ (house : House) (deck : List Statement) (c : Accepted house deck) where
+  one-entry : (v : Name) (at : ℕ) (d : Dims) → Among v (namesHeld (heldOf deck)) → Listed (namesFrom house 0 (heldOf deck)) (entryOf house v at d) → OneEntry house deck v (entryOf house v at d)
   one-entry v at d a l = record { index = l .index; is = l .is; only = only }
     where
       -- the name at an index whose entry has the bytes of v is v
-      told : (j : ℕ) (x : Named) → getElem? (namesFrom 0 (heldOf deck)) j ≡ some x → x .name ≡ filled v → getElem? (namesHeld (heldOf deck)) j ≡ some v
+      told : (j : ℕ) (x : Named) → getElem? (namesFrom house 0 (heldOf deck)) j ≡ some x → x .name ≡ filled (house .nameBytes) v → getElem? (namesHeld (heldOf deck)) j ≡ some v
       told j x e f =
-          let n = name-at (heldOf deck) 0 j x e in
+          let n = name-at house (heldOf deck) 0 j x e in
           let i = held-name deck (n .of) (at-among (namesHeld (heldOf deck)) j (n .of) (n .is)) in
           let m = held-name deck v a in
-          n .is ∙ ap some (filled-inj (n .of) v (name-length k deck c (n .of) i) (name-length k deck c v m) (solid k deck c (n .of) i) (solid k deck c v m) (sym (n .named) ∙ f))
+          let fits = name-fits (c .lawful) in
+          n .is ∙ ap some (filled-inj (house .nameBytes) (n .of) v (omega (arith, fits, name-length house deck c (n .of) i)) (omega (arith, fits, name-length house deck c v m)) (solid house deck c (n .of) i) (solid house deck c v m) (sym (n .named) ∙ f))
 
-      only : (j : ℕ) (x : Named) → getElem? (namesFrom 0 (heldOf deck)) j ≡ some x → x .name ≡ filled v → j ≡ l .index
-      only j x e f = distinct-index (once-held k deck c .distinct) j (l .index) v (told j x e f) (told (l .index) (entryOf v at d) (l .is) refl)
+      only : (j : ℕ) (x : Named) → getElem? (namesFrom house 0 (heldOf deck)) j ≡ some x → x .name ≡ filled (house .nameBytes) v → j ≡ l .index
+      only j x e f = distinct-index (once-held house deck c .distinct) j (l .index) v (told j x e f) (told (l .index) (entryOf house v at d) (l .is) refl)
 
   -- a plain name's
-  pub plain-entry : (v : Name) → Has (heldOf deck) (key (plain v)) → OneEntry deck v (entryOf v (cellOf (heldOf deck) v) noDims)
+  pub plain-entry : (v : Name) → Has (heldOf deck) (key (plain v)) → OneEntry house deck v (entryOf house v (cellOf (heldOf deck) v) noDims)
   unfolding cellOf
   plain-entry v h = one-entry v (cellOf (heldOf deck) v) noDims (name-among (heldOf deck) v h)
-      (subst (λ (n : ℕ). Listed (namesFrom 0 (heldOf deck)) (entryOf v n noDims)) (zero-add (cellOf (heldOf deck) v)) (plain-listed (heldOf deck) 0 v h))
+      (subst (λ (n : ℕ). Listed (namesFrom house 0 (heldOf deck)) (entryOf house v n noDims)) (zero-add (cellOf (heldOf deck) v)) (plain-listed house (heldOf deck) 0 v h))
 
   -- an array's
-  pub array-entry : (v : Name) → holds (isArray v) (heldOf deck) ≡ true → OneEntry deck v (entryOf v (baseOf (heldOf deck) v) (dimsOf deck v))
+  pub array-entry : (v : Name) → holds (isArray v) (heldOf deck) ≡ true → OneEntry house deck v (entryOf house v (baseOf (heldOf deck) v) (dimsOf deck v))
   unfolding baseOf dimsOf
   array-entry v h =
       one-entry v (baseOf (heldOf deck) v) (dimsOf deck v) (array-among (heldOf deck) v h)
-      (subst (λ (n : ℕ). Listed (namesFrom 0 (heldOf deck)) (entryOf v n (dimsOf deck v))) (zero-add (baseOf (heldOf deck) v))
-      (subst (λ (d : Dims). Listed (namesFrom 0 (heldOf deck)) (entryOf v (0 + baseOf (heldOf deck) v) d)) (ap (λ (l : List Declared). dimsIn l v) (arrays-held deck)) (array-listed (heldOf deck) 0 v h)))
+      (subst (λ (n : ℕ). Listed (namesFrom house 0 (heldOf deck)) (entryOf house v n (dimsOf deck v))) (zero-add (baseOf (heldOf deck) v))
+      (subst (λ (d : Dims). Listed (namesFrom house 0 (heldOf deck)) (entryOf house v (0 + baseOf (heldOf deck) v) d)) (ap (λ (l : List Declared). dimsIn l v) (arrays-held deck)) (array-listed house (heldOf deck) 0 v h)))
 
   -- every name's
-  pub name-entry : (v : Name) → InDeck deck v → (Has (heldOf deck) (key (plain v)) × OneEntry deck v (entryOf v (cellOf (heldOf deck) v) noDims))
-      ⊎ ((holds (isArray v) (heldOf deck) ≡ true) × OneEntry deck v (entryOf v (baseOf (heldOf deck) v) (dimsOf deck v)))
-  name-entry v i = go (name-kind k deck c v i)
+  pub name-entry : (v : Name) → InDeck deck v → (Has (heldOf deck) (key (plain v)) × OneEntry house deck v (entryOf house v (cellOf (heldOf deck) v) noDims))
+      ⊎ ((holds (isArray v) (heldOf deck) ≡ true) × OneEntry house deck v (entryOf house v (baseOf (heldOf deck) v) (dimsOf deck v)))
+  name-entry v i = go (name-kind house deck c v i)
     where
-      go : Has (heldOf deck) (key (plain v)) ⊎ (holds (isArray v) (heldOf deck) ≡ true) → (Has (heldOf deck) (key (plain v)) × OneEntry deck v (entryOf v (cellOf (heldOf deck) v) noDims))
-          ⊎ ((holds (isArray v) (heldOf deck) ≡ true) × OneEntry deck v (entryOf v (baseOf (heldOf deck) v) (dimsOf deck v)))
+      go : Has (heldOf deck) (key (plain v)) ⊎ (holds (isArray v) (heldOf deck) ≡ true) → (Has (heldOf deck) (key (plain v)) × OneEntry house deck v (entryOf house v (cellOf (heldOf deck) v) noDims))
+          ⊎ ((holds (isArray v) (heldOf deck) ≡ true) × OneEntry house deck v (entryOf house v (baseOf (heldOf deck) v) (dimsOf deck v)))
       go (inl h) = inl (h, plain-entry v h)
       go (inr h) = inr (h, array-entry v h)
 
 -- every entry is of a name of the deck
-pub entry-name : (deck : List Statement) (i : ℕ) (e : Named) → getElem? (namesFrom 0 (heldOf deck)) i ≡ some e → (v : Name) × InDeck deck v × (e .name ≡ filled v)
-entry-name deck i e f =
-    let n = name-at (heldOf deck) 0 i e f in
+pub entry-name : (house : House) (deck : List Statement) (i : ℕ) (e : Named) → getElem? (namesFrom house 0 (heldOf deck)) i ≡ some e → (v : Name) × InDeck deck v × (e .name ≡ filled (house .nameBytes) v)
+entry-name house deck i e f =
+    let n = name-at house (heldOf deck) 0 i e f in
     (n .of, held-name deck (n .of) (at-among (namesHeld (heldOf deck)) i (n .of) (n .is)), n .named)
 
 -- every entry lies inside the cells
-pub names-inside : (k : ℕ) (deck : List Statement) → Accepted k deck → (i : ℕ) (e : Named) → getElem? (namesFrom 0 (heldOf deck)) i ≡ some e → Inside (cellCount (heldOf deck)) e
-names-inside k deck c i e f = subst (λ (n : ℕ). Inside n e) (zero-add (cellCount (heldOf deck))) (entry-inside (heldOf deck) 0 i e (once-held k deck c .full) f)
+pub names-inside : (house : House) (deck : List Statement) → Accepted house deck → (i : ℕ) (e : Named) → getElem? (namesFrom house 0 (heldOf deck)) i ≡ some e → Inside (cellCount (heldOf deck)) e
+names-inside house deck c i e f = subst (λ (n : ℕ). Inside n e) (zero-add (cellCount (heldOf deck))) (entry-inside house (heldOf deck) 0 i e (once-held house deck c .full) f)
 
 -- and before those after it
-pub names-ordered : (k : ℕ) (deck : List Statement) → Accepted k deck → (i j : ℕ) (e l : Named) → i < j → getElem? (namesFrom 0 (heldOf deck)) i ≡ some e
-    → getElem? (namesFrom 0 (heldOf deck)) j ≡ some l → e .first + span (e .rows) (e .columns) ≤ l .first
-names-ordered k deck c i j e l h f g = entries-ordered (heldOf deck) 0 i j e l (once-held k deck c .full) h f g
+pub names-ordered : (house : House) (deck : List Statement) → Accepted house deck → (i j : ℕ) (e l : Named) → i < j → getElem? (namesFrom house 0 (heldOf deck)) i ≡ some e
+    → getElem? (namesFrom house 0 (heldOf deck)) j ≡ some l → e .first + span (e .rows) (e .columns) ≤ l .first
+names-ordered house deck c i j e l h f g = entries-ordered house (heldOf deck) 0 i j e l (once-held house deck c .full) h f g

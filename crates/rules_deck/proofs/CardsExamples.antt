@@ -5,6 +5,7 @@ use Prim.Native.String.{String}
 use mathlib.Core.Path.{_≡_, refl}
 use mathlib.Core.List.{List, [], _∷_, _++_}
 use lib.ListN.{take, replicate}
+use Rattle.rules_shared.specs.House.{house1401}
 use Rattle.rules_deck.specs.Trees.{valueOf}
 use Rattle.rules_deck.specs.Punch.{bytes, card, deck}
 use Rattle.rules_deck.specs.Cards.{cardsOf, comment, firstCard, character, textOf, Punched, numberOf, rightNumber, wrongCard, afterCard, Carded, cardsRefused, statements, rightDigits, rightLength, carded}
@@ -90,7 +91,7 @@ table =
 
 abbrev pub All : List Example → Type 0
 All [] = Unit {0}
-All (x ∷ xs) = (shown (carded 5 (deck (x .cards))) ≡ x .answer) × All xs
+All (x ∷ xs) = (shown (carded (house1401 5) (deck (x .cards))) ≡ x .answer) × All xs
 
 pub examples : All table
 unfolding cardsOf comment firstCard character textOf numberOf rightNumber wrongCard afterCard rightDigits rightLength carded valueOf
@@ -99,34 +100,34 @@ examples = (refl, (refl, (refl, (refl, (refl, (refl, (refl, (refl, (refl, (refl,
 -- ---- 1 and 2
 
 -- k from 1 to 9, judged first
-pub no-digits : carded 0 [] ≡ cardsRefused 1 0
+pub no-digits : carded (house1401 0) [] ≡ cardsRefused 1 0
 unfolding carded rightDigits
 no-digits = refl
 
-pub ten-digits : carded 10 (card "      END") ≡ cardsRefused 1 0
+pub ten-digits : carded (house1401 10) (card "      END") ≡ cardsRefused 1 0
 unfolding carded rightDigits
 ten-digits = refl
 
 -- no card; a card and a line end; 513 cards
-pub no-card : carded 5 [] ≡ cardsRefused 2 0
+pub no-card : carded (house1401 5) [] ≡ cardsRefused 2 0
 unfolding carded rightDigits rightLength
 no-card = refl
 
-pub line-end : carded 5 (card "      END" ++ (10 ∷ [])) ≡ cardsRefused 2 0
+pub line-end : carded (house1401 5) (card "      END" ++ (10 ∷ [])) ≡ cardsRefused 2 0
 unfolding carded rightDigits rightLength
 line-end = refl
 
-pub too-many-cards : carded 9 (replicate (513 * 80) 67) ≡ cardsRefused 2 0
+pub too-many-cards : carded (house1401 9) (replicate (513 * 80) 67) ≡ cardsRefused 2 0
 unfolding carded rightDigits rightLength
 too-many-cards = refl
 
 -- 512 comments
-pub most-cards : carded 9 (replicate (512 * 80) 67) ≡ statements []
+pub most-cards : carded (house1401 9) (replicate (512 * 80) 67) ≡ statements []
 unfolding cardsOf comment wrongCard afterCard rightDigits rightLength carded
 most-cards = refl
 
 -- ---- columns 7-72 are kept as punched
 
-pub kept : carded 5 (deck ("    7 I = J$2" ∷ "     1+ K" ∷ [])) ≡ statements (record { number = 7; raw = take 66 (bytes "I = J$2" ++ replicate 66 32) ++ take 66 (bytes "+ K" ++ replicate 66 32) } ∷ [])
+pub kept : carded (house1401 5) (deck ("    7 I = J$2" ∷ "     1+ K" ∷ [])) ≡ statements (record { number = 7; raw = take 66 (bytes "I = J$2" ++ replicate 66 32) ++ take 66 (bytes "+ K" ++ replicate 66 32) } ∷ [])
 unfolding cardsOf comment firstCard character numberOf rightNumber wrongCard afterCard rightDigits rightLength carded valueOf
 kept = refl

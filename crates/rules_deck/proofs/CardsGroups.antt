@@ -9,6 +9,7 @@ use lib.ListN.{length}
 use lib.Seq.{append-snoc}
 use borrow.Author.Tests.{eqb-true}
 use Rattle.rules_shared.specs.Limits.{limits}
+use Rattle.rules_shared.specs.House.{House}
 use Rattle.rules_deck.specs.Cards.{cardsOf, textColumns, Punched, numberOf, Reading, nothingRead, wrongCard, started, extended, afterCard, Carded, cardsRefused, statements, cardByCard, rightDigits, rightLength, counted, carded, following, grouped}
 use Rattle.rules_deck.proofs.CardsLaws.{Stands, as-comment, as-first, as-continuation, stands, cases}
 
@@ -36,29 +37,29 @@ extended-twice (p ∷ q ∷ r ∷ ps) t u = ap (λ (l : List Punched). p ∷ l) 
 abbrev made : Reading → List (List ℕ) → List Punched
 made r cards = extended (r .begun) (following cards) ++ grouped cards
 
-made-first : (r : Reading) (card : List ℕ) (cards : List (List ℕ)) → made (started r card) cards ≡ extended (r .begun) [] ++ (record { number = numberOf card; raw = textColumns card ++ following cards } ∷ grouped cards)
-made-first r card cards =
+made-first : (house : House) (r : Reading) (card : List ℕ) (cards : List (List ℕ)) → made (started house r card) cards ≡ extended (r .begun) [] ++ (record { number = numberOf card; raw = textColumns card ++ following cards } ∷ grouped cards)
+made-first house r card cards =
     let p : Punched = record { number = numberOf card; raw = textColumns card } in
     let q : Punched = record { number = numberOf card; raw = textColumns card ++ following cards } in
     ap (λ (l : List Punched). l ++ grouped cards) (extended-last (r .begun) p (following cards))
     ∙ append-snoc (r .begun) q (grouped cards) ∙ ap (λ (l : List Punched). l ++ (q ∷ grouped cards)) (sym (extended-nil (r .begun)))
 
-made-after : (r : Reading) (card : List ℕ) (cards : List (List ℕ)) → Stands (r .room) card → made (afterCard r card) cards ≡ made r (card ∷ cards)
+made-after : (house : House) (r : Reading) (card : List ℕ) (cards : List (List ℕ)) → Stands (r .room) card → made (afterCard house r card) cards ≡ made r (card ∷ cards)
 unfolding afterCard
-made-after r card cards (as-comment c) = simp c
-made-after r card cards (as-first c f a n) = simp (c, f, made-first r card cards)
-made-after r card cards (as-continuation c f a b z) = simp (c, f, extended-twice (r .begun) (textColumns card) (following cards))
+made-after house r card cards (as-comment c) = simp c
+made-after house r card cards (as-first c f a n) = simp (c, f, made-first house r card cards)
+made-after house r card cards (as-continuation c f a b z) = simp (c, f, extended-twice (r .begun) (textColumns card) (following cards))
 
 data Makes (ps : List Punched) : Carded → Type 0 where
   refused : {number place : ℕ} → Makes ps (cardsRefused number place)
   same : {qs : List Punched} → qs ≡ ps → Makes ps (statements qs)
 
-makes : (place : ℕ) (r : Reading) (cards : List (List ℕ)) → Makes (made r cards) (cardByCard place r cards)
-makes place r [] = same (sym (append-nil (extended (r .begun) []) ∙ extended-nil (r .begun)))
-makes place r (card ∷ cards) =
-    cases (Makes (made r (card ∷ cards))) (eqb (wrongCard (r .room) card) 0) (cardByCard (suc place) (afterCard r card) cards) (cardsRefused (wrongCard (r .room) card) place)
-    (λ e. subst (λ (ps : List Punched). Makes ps (cardByCard (suc place) (afterCard r card) cards)) (made-after r card cards (stands (r .room) card (eqb-true (wrongCard (r .room) card) 0 e)))
-    (makes (suc place) (afterCard r card) cards))
+makes : (house : House) (place : ℕ) (r : Reading) (cards : List (List ℕ)) → Makes (made r cards) (cardByCard house place r cards)
+makes house place r [] = same (sym (append-nil (extended (r .begun) []) ∙ extended-nil (r .begun)))
+makes house place r (card ∷ cards) =
+    cases (Makes (made r (card ∷ cards))) (eqb (wrongCard (r .room) card) 0) (cardByCard house (suc place) (afterCard house r card) cards) (cardsRefused (wrongCard (r .room) card) place)
+    (λ e. subst (λ (ps : List Punched). Makes ps (cardByCard house (suc place) (afterCard house r card) cards)) (made-after house r card cards (stands (r .room) card (eqb-true (wrongCard (r .room) card) 0 e)))
+    (makes house (suc place) (afterCard house r card) cards))
     (λ e. refused)
 
 -- ---- the whole deck
@@ -67,17 +68,17 @@ makes-counted : {ps : List Punched} {o : Carded} → Makes ps o → Makes ps (co
 makes-counted refused = refused
 makes-counted (same {qs = qs} e) = cases (Makes _) (leb (length qs) (limits .statements)) (statements qs) (cardsRefused 7 0) (λ l. same e) (λ l. refused)
 
-makes-deck : (k : ℕ) (deck : List ℕ) → Makes (grouped (cardsOf deck)) (carded k deck)
+makes-deck : (house : House) (deck : List ℕ) → Makes (grouped (cardsOf deck)) (carded house deck)
 unfolding carded
-makes-deck k deck =
-    cases (Makes (grouped (cardsOf deck))) (rightDigits k) (cond (rightLength deck) (counted (cardByCard 1 nothingRead (cardsOf deck))) (cardsRefused 2 0)) (cardsRefused 1 0)
-    (λ d. cases (Makes (grouped (cardsOf deck))) (rightLength deck) (counted (cardByCard 1 nothingRead (cardsOf deck))) (cardsRefused 2 0)
-    (λ l. makes-counted (makes 1 nothingRead (cardsOf deck))) (λ l. refused))
+makes-deck house deck =
+    cases (Makes (grouped (cardsOf deck))) (rightDigits house) (cond (rightLength deck) (counted (cardByCard house 1 nothingRead (cardsOf deck))) (cardsRefused 2 0)) (cardsRefused 1 0)
+    (λ d. cases (Makes (grouped (cardsOf deck))) (rightLength deck) (counted (cardByCard house 1 nothingRead (cardsOf deck))) (cardsRefused 2 0)
+    (λ l. makes-counted (makes house 1 nothingRead (cardsOf deck))) (λ l. refused))
     (λ d. refused)
 
 made-same : {ps qs : List Punched} → Makes ps (statements qs) → qs ≡ ps
 made-same (same e) = e
 
 -- Of a deck that is not refused, the statements are its cards grouped.
-pub statements-grouped : (k : ℕ) (deck : List ℕ) (ps : List Punched) → carded k deck ≡ statements ps → ps ≡ grouped (cardsOf deck)
-statements-grouped k deck ps e = made-same (subst (Makes (grouped (cardsOf deck))) e (makes-deck k deck))
+pub statements-grouped : (house : House) (deck : List ℕ) (ps : List Punched) → carded house deck ≡ statements ps → ps ≡ grouped (cardsOf deck)
+statements-grouped house deck ps e = made-same (subst (Makes (grouped (cardsOf deck))) e (makes-deck house deck))

@@ -11,6 +11,7 @@ use native.Mathlib.Nat.{zero-add, suc-add}
 use lib.Seq.{take-nil, take-add, take-take, getD-take}
 use borrow.Author.Tests.{leb-true, eqb-true, eqb-false}
 use Rattle.rules_shared.specs.Limits.{limits}
+use Rattle.rules_shared.specs.House.{House}
 use Rattle.rules_object.specs.Check.{blanks}
 use Rattle.rules_shared.specs.Lists.{Each, each-none, each-more}
 use Rattle.rules_shared.proofs.EachLaws.{each-append, each-right}
@@ -132,18 +133,18 @@ number-small card e = go (blanks (numberColumns card)) refl e
 -- ---- the statements
 
 -- the bytes of a first card and its continuations
-abbrev pub textLimit : ℕ
-textLimit = (1 + limits .continuations) * textLength
+abbrev pub textLimit : House → ℕ
+textLimit house = (1 + house .continuations) * textLength
 
-pub record RightStatement (p : Punched) : Type 0 where
+pub record RightStatement (house : House) (p : Punched) : Type 0 where
   pub number-small : p .number ≤ limits .statementNumber
-  pub raw-short : length (p .raw) ≤ textLimit
+  pub raw-short : length (p .raw) ≤ textLimit house
   pub raw-characters : Each Character (p .raw)
-  pub text-short : length (textOf (p .raw)) ≤ textLimit
+  pub text-short : length (textOf (p .raw)) ≤ textLimit house
   pub text-characters : Each TextCharacter (textOf (p .raw))
 
-right : (p : Punched) → p .number ≤ limits .statementNumber → length (p .raw) ≤ textLimit → Each Character (p .raw) → RightStatement p
-right p n s c =
+right : (house : House) (p : Punched) → p .number ≤ limits .statementNumber → length (p .raw) ≤ textLimit house → Each Character (p .raw) → RightStatement house p
+right house p n s c =
     record {
       number-small = n;
       raw-short = s;
@@ -153,94 +154,94 @@ right p n s c =
     }
 
 -- the last statement leaves place for as many continuations as there is room for
-data Begun (room : ℕ) : List Punched → Type 0 where
-  nothing : Begun room []
-  last : {p : Punched} → RightStatement p → length (p .raw) + room * textLength ≤ textLimit → Begun room (p ∷ [])
-  before : {p q : Punched} {ps : List Punched} → RightStatement p → Begun room (q ∷ ps) → Begun room (p ∷ q ∷ ps)
+data Begun (house : House) (room : ℕ) : List Punched → Type 0 where
+  nothing : Begun house room []
+  last : {p : Punched} → RightStatement house p → length (p .raw) + room * textLength ≤ textLimit house → Begun house room (p ∷ [])
+  before : {p q : Punched} {ps : List Punched} → RightStatement house p → Begun house room (q ∷ ps) → Begun house room (p ∷ q ∷ ps)
 
-each-begun : {room : ℕ} {ps : List Punched} → Begun room ps → Each RightStatement ps
+each-begun : {house : House} {room : ℕ} {ps : List Punched} → Begun house room ps → Each (RightStatement house) ps
 each-begun nothing = each-none
 each-begun (last f h) = each-more f each-none
 each-begun (before f b) = each-more f (each-begun b)
 
-one-more : {room more : ℕ} {p : Punched} {ps : List Punched} → Begun room ps → RightStatement p → length (p .raw) + more * textLength ≤ textLimit → Begun more (ps ++ (p ∷ []))
+one-more : {house : House} {room more : ℕ} {p : Punched} {ps : List Punched} → Begun house room ps → RightStatement house p → length (p .raw) + more * textLength ≤ textLimit house → Begun house more (ps ++ (p ∷ []))
 one-more nothing f h = last f h
 one-more (last g i) f h = before g (last f h)
 one-more (before g b) f h = before g (one-more b f h)
 
-longer : {room : ℕ} {ps : List Punched} (text : List ℕ) → length text ≤ textLength → Each Character text → zero < room → Begun room ps → Begun (room - 1) (extended ps text)
+longer : {house : House} {room : ℕ} {ps : List Punched} (text : List ℕ) → length text ≤ textLength → Each Character text → zero < room → Begun house room ps → Begun house (room - 1) (extended ps text)
 longer text l c z nothing = nothing
-longer {room = room} text l c z (last {p = p} f h) =
+longer {house} {room} text l c z (last {p = p} f h) =
     let n = length-append (p .raw) text in
-    last (right (record { number = p .number; raw = p .raw ++ text }) (f .number-small) (omega arith) (each-append (f .raw-characters) c)) (omega arith)
+    last (right house (record { number = p .number; raw = p .raw ++ text }) (f .number-small) (omega arith) (each-append (f .raw-characters) c)) (omega arith)
 longer text l c z (before {ps = []} g b) = before g (longer text l c z b)
 longer text l c z (before {ps = r ∷ ps} g b) = before g (longer text l c z b)
 
 -- ---- card by card
 
-record On (r : Reading) : Type 0 where
-  is : Begun (r .room) (r .begun)
+record On (house : House) (r : Reading) : Type 0 where
+  is : Begun house (r .room) (r .begun)
 
-on-start : (r : Reading) (card : List ℕ) → On r → characters (columnsRead card) ≡ true → rightNumber card ≡ true → On (started r card)
-on-start r card o c n =
+on-start : (house : House) (r : Reading) (card : List ℕ) → On house r → characters (columnsRead card) ≡ true → rightNumber card ≡ true → On house (started house r card)
+on-start house r card o c n =
     let l = text-columns-length card in
-    record { is = one-more (o .is) (right _ (number-small card n) (omega arith) (text-columns card c)) (omega arith) }
+    record { is = one-more (o .is) (right house _ (number-small card n) (omega arith) (text-columns card c)) (omega arith) }
 
-on-continue : (r : Reading) (card : List ℕ) → On r → characters (columnsRead card) ≡ true → zero < r .room → On (continued r card)
-on-continue r card o c z = record { is = longer (textColumns card) (text-columns-length card) (text-columns card c) z (o .is) }
+on-continue : (house : House) (r : Reading) (card : List ℕ) → On house r → characters (columnsRead card) ≡ true → zero < r .room → On house (continued r card)
+on-continue house r card o c z = record { is = longer (textColumns card) (text-columns-length card) (text-columns card c) z (o .is) }
 
-on-after : (r : Reading) (card : List ℕ) → On r → Stands (r .room) card → On (afterCard r card)
+on-after : (house : House) (r : Reading) (card : List ℕ) → On house r → Stands (r .room) card → On house (afterCard house r card)
 unfolding afterCard
-on-after r card o (as-comment c) = subst On (sym (ap (λ (b : Bool). cond b r (cond (firstCard card) (started r card) (continued r card))) c)) o
-on-after r card o (as-first c f a n) =
-    subst On (sym (ap (λ (b : Bool). cond b r (cond (firstCard card) (started r card) (continued r card))) c ∙ ap (λ (b : Bool). cond b (started r card) (continued r card)) f))
-    (on-start r card o a n)
-on-after r card o (as-continuation c f a b z) =
-    subst On (sym (ap (λ (b : Bool). cond b r (cond (firstCard card) (started r card) (continued r card))) c ∙ ap (λ (b : Bool). cond b (started r card) (continued r card)) f))
-    (on-continue r card o a z)
+on-after house r card o (as-comment c) = subst (On house) (sym (ap (λ (b : Bool). cond b r (cond (firstCard card) (started house r card) (continued r card))) c)) o
+on-after house r card o (as-first c f a n) =
+    subst (On house) (sym (ap (λ (b : Bool). cond b r (cond (firstCard card) (started house r card) (continued r card))) c ∙ ap (λ (b : Bool). cond b (started house r card) (continued r card)) f))
+    (on-start house r card o a n)
+on-after house r card o (as-continuation c f a b z) =
+    subst (On house) (sym (ap (λ (b : Bool). cond b r (cond (firstCard card) (started house r card) (continued r card))) c ∙ ap (λ (b : Bool). cond b (started house r card) (continued r card)) f))
+    (on-continue house r card o a z)
 
-data Good : Carded → Type 0 where
-  refused : {number place : ℕ} → Good (cardsRefused number place)
-  good : {ps : List Punched} → Each RightStatement ps → Good (statements ps)
+data Good (house : House) : Carded → Type 0 where
+  refused : {number place : ℕ} → Good house (cardsRefused number place)
+  good : {ps : List Punched} → Each (RightStatement house) ps → Good house (statements ps)
 
-good-cards : (place : ℕ) (r : Reading) (cards : List (List ℕ)) → On r → Good (cardByCard place r cards)
-good-cards place r [] o = good (each-begun (o .is))
-good-cards place r (card ∷ cards) o =
-    cases Good (eqb (wrongCard (r .room) card) 0) (cardByCard (suc place) (afterCard r card) cards) (cardsRefused (wrongCard (r .room) card) place)
-    (λ e. good-cards (suc place) (afterCard r card) cards (on-after r card o (stands (r .room) card (eqb-true (wrongCard (r .room) card) 0 e)))) (λ e. refused)
+good-cards : (house : House) (place : ℕ) (r : Reading) (cards : List (List ℕ)) → On house r → Good house (cardByCard house place r cards)
+good-cards house place r [] o = good (each-begun (o .is))
+good-cards house place r (card ∷ cards) o =
+    cases (Good house) (eqb (wrongCard (r .room) card) 0) (cardByCard house (suc place) (afterCard house r card) cards) (cardsRefused (wrongCard (r .room) card) place)
+    (λ e. good-cards house (suc place) (afterCard house r card) cards (on-after house r card o (stands (r .room) card (eqb-true (wrongCard (r .room) card) 0 e)))) (λ e. refused)
 
 -- ---- the whole deck
 
-data Whole : Carded → Type 0 where
-  refused : {number place : ℕ} → Whole (cardsRefused number place)
-  whole : {ps : List Punched} → Each RightStatement ps → length ps ≤ limits .statements → Whole (statements ps)
+data Whole (house : House) : Carded → Type 0 where
+  refused : {number place : ℕ} → Whole house (cardsRefused number place)
+  whole : {ps : List Punched} → Each (RightStatement house) ps → length ps ≤ limits .statements → Whole house (statements ps)
 
-whole-counted : {o : Carded} → Good o → Whole (counted o)
+whole-counted : {house : House} {o : Carded} → Good house o → Whole house (counted o)
 whole-counted refused = refused
-whole-counted (good {ps = ps} h) =
-    cases Whole (leb (length ps) (limits .statements)) (statements ps) (cardsRefused 7 0) (λ e. whole h (leb-true (length ps) (limits .statements) e)) (λ e. refused)
+whole-counted {house} (good {ps = ps} h) =
+    cases (Whole house) (leb (length ps) (limits .statements)) (statements ps) (cardsRefused 7 0) (λ e. whole h (leb-true (length ps) (limits .statements) e)) (λ e. refused)
 
-whole-carded : (k : ℕ) (deck : List ℕ) → Whole (carded k deck)
+whole-carded : (house : House) (deck : List ℕ) → Whole house (carded house deck)
 unfolding carded
-whole-carded k deck =
-    cases Whole (rightDigits k) (cond (rightLength deck) (counted (cardByCard 1 nothingRead (cardsOf deck))) (cardsRefused 2 0)) (cardsRefused 1 0)
-    (λ d. cases Whole (rightLength deck) (counted (cardByCard 1 nothingRead (cardsOf deck))) (cardsRefused 2 0)
-    (λ l. whole-counted (good-cards 1 nothingRead (cardsOf deck) (record { is = nothing }))) (λ l. refused))
+whole-carded house deck =
+    cases (Whole house) (rightDigits house) (cond (rightLength deck) (counted (cardByCard house 1 nothingRead (cardsOf deck))) (cardsRefused 2 0)) (cardsRefused 1 0)
+    (λ d. cases (Whole house) (rightLength deck) (counted (cardByCard house 1 nothingRead (cardsOf deck))) (cardsRefused 2 0)
+    (λ l. whole-counted (good-cards house 1 nothingRead (cardsOf deck) (record { is = nothing }))) (λ l. refused))
     (λ d. refused)
 
-whole-each : {ps : List Punched} → Whole (statements ps) → Each RightStatement ps
+whole-each : {house : House} {ps : List Punched} → Whole house (statements ps) → Each (RightStatement house) ps
 whole-each (whole h n) = h
 
-whole-few : {ps : List Punched} → Whole (statements ps) → length ps ≤ limits .statements
+whole-few : {house : House} {ps : List Punched} → Whole house (statements ps) → length ps ≤ limits .statements
 whole-few (whole h n) = n
 
 -- Of a deck that is not refused: every statement's number is small, its text short and of 01's characters without blank and `$`.
-pub statements-right : (k : ℕ) (deck : List ℕ) (ps : List Punched) → carded k deck ≡ statements ps → Each RightStatement ps
-statements-right k deck ps e = whole-each (subst Whole e (whole-carded k deck))
+pub statements-right : (house : House) (deck : List ℕ) (ps : List Punched) → carded house deck ≡ statements ps → Each (RightStatement house) ps
+statements-right house deck ps e = whole-each (subst (Whole house) e (whole-carded house deck))
 
 -- There are at most 400 of them.
-pub statements-few : (k : ℕ) (deck : List ℕ) (ps : List Punched) → carded k deck ≡ statements ps → length ps ≤ limits .statements
-statements-few k deck ps e = whole-few (subst Whole e (whole-carded k deck))
+pub statements-few : (house : House) (deck : List ℕ) (ps : List Punched) → carded house deck ≡ statements ps → length ps ≤ limits .statements
+statements-few house deck ps e = whole-few (subst (Whole house) e (whole-carded house deck))
 
 -- ---- columns 73-80 are never read
 
@@ -278,20 +279,20 @@ wrong-read : (room : ℕ) (card : List ℕ) → wrongCard room (columnsRead card
 unfolding wrongCard
 wrong-read room card = simp (comment-read card, first-read card, numbers-read card, all-read card, right-read card)
 
-after-read : (r : Reading) (card : List ℕ) → afterCard r (columnsRead card) ≡ afterCard r card
+after-read : (house : House) (r : Reading) (card : List ℕ) → afterCard house r (columnsRead card) ≡ afterCard house r card
 unfolding afterCard
-after-read r card = simp (comment-read card, first-read card, text-read card, number-read card)
+after-read house r card = simp (comment-read card, first-read card, text-read card, number-read card)
 
 -- The outcome is that of the cards with columns 1-72 alone.
-pub never-read : (place : ℕ) (r : Reading) (cards : List (List ℕ)) → cardByCard place r (map columnsRead cards) ≡ cardByCard place r cards
-never-read place r [] = refl
-never-read place r (card ∷ cards) =
-    simp (wrong-read (r .room) card, after-read r card, never-read (suc place) (afterCard r card) cards)
+pub never-read : (house : House) (place : ℕ) (r : Reading) (cards : List (List ℕ)) → cardByCard house place r (map columnsRead cards) ≡ cardByCard house place r cards
+never-read house place r [] = refl
+never-read house place r (card ∷ cards) =
+    simp (wrong-read (r .room) card, after-read house r card, never-read house (suc place) (afterCard house r card) cards)
 
 -- Decks of one length that agree in columns 1-72 of every card have one outcome.
-pub columns-73-80 : (k : ℕ) (deck deck′ : List ℕ) → length deck ≡ length deck′ → map columnsRead (cardsOf deck) ≡ map columnsRead (cardsOf deck′) → carded k deck ≡ carded k deck′
+pub columns-73-80 : (house : House) (deck deck′ : List ℕ) → length deck ≡ length deck′ → map columnsRead (cardsOf deck) ≡ map columnsRead (cardsOf deck′) → carded house deck ≡ carded house deck′
 unfolding carded rightLength
-columns-73-80 k deck deck′ l e =
-    let c : cardByCard 1 nothingRead (cardsOf deck) ≡ cardByCard 1 nothingRead (cardsOf deck′) =
-    sym (never-read 1 nothingRead (cardsOf deck)) ∙ ap (cardByCard 1 nothingRead) e ∙ never-read 1 nothingRead (cardsOf deck′) in
+columns-73-80 house deck deck′ l e =
+    let c : cardByCard house 1 nothingRead (cardsOf deck) ≡ cardByCard house 1 nothingRead (cardsOf deck′) =
+    sym (never-read house 1 nothingRead (cardsOf deck)) ∙ ap (cardByCard house 1 nothingRead) e ∙ never-read house 1 nothingRead (cardsOf deck′) in
     simp (l, c)

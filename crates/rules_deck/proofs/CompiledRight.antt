@@ -2,7 +2,7 @@
 -- Assumes nothing.
 use mathlib.Core.Path.{_≡_, refl, sym, ap, _∙_, subst}
 use mathlib.Core.Logic.{_⊎_, inl, inr}
-use Prim.Native.Nat.{ℕ, zero, suc, _+_, _*_, _^_, _≤_, _<_}
+use Prim.Native.Nat.{ℕ, zero, suc, _+_, _*_, _≤_, _<_}
 use native.Mathlib.Omega.{arith}
 use mathlib.Core.Bool.{Bool, true, _||_}
 use mathlib.Core.List.{List, [], _∷_, _++_}
@@ -13,6 +13,7 @@ use lib.IntN.{ℤ, pos, natAbs}
 use borrow.Author.Tests.{le-leb, lt-ltb, eq-eqb}
 use Rattle.number.specs.Number.{add, sub, mul, div, ceiling, fits}
 use Rattle.rules_shared.specs.Limits.{limits}
+use Rattle.rules_shared.specs.House.{House}
 use Rattle.rules_object.specs.Object.{SubscriptEntry, Element, Loop, Line, Named, Object, ruleOf}
 use Rattle.rules_object.specs.Check.{right41, rightConstant, rightSubscript, rightElement, rightLoop, rightLine, blanks, nameTail, rightName, span, rightNamed}
 use Rattle.rules_object.specs.Operations.{Instr, HLT, CON, LOD, STO, LDE, STE, OP, NEG, JMP, BR3, BRC, DOI, DOE, operationOf, operandOf, targets, exitAt, operationAt, right43, operationNumber}
@@ -24,6 +25,7 @@ use Rattle.rules_deck.specs.Trees.{Name, Statement}
 use Rattle.rules_deck.specs.Tokens.{isLetterOrDigit}
 use Rattle.rules_deck.specs.Judge.{startsInteger}
 use Rattle.rules_deck.specs.Translation.{heldOf, cellCount, codeOf, filled, translate}
+use Rattle.rules_deck.specs.Lawful.{Lawful}
 use Rattle.rules_deck.specs.Accepted.{Accepted}
 use Rattle.rules_deck.specs.Spelling.{Passes, IsName, is-name}
 use Rattle.rules_deck.proofs.CardsLaws.{and-both}
@@ -31,7 +33,7 @@ use Rattle.rules_deck.proofs.TestLaws.{both, or-either, at-before}
 use Rattle.rules_deck.proofs.Addresses.{at-head, at-tail, at-fits, at-some}
 use Rattle.rules_deck.proofs.Tables.{getD-at, slice-at, InTables}
 use Rattle.rules_deck.proofs.Emitted.{each-at, code-length, sized, emitted}
-use Rattle.rules_deck.proofs.FittingDeck.{fitting}
+use Rattle.rules_deck.proofs.FittingDeck.{names-count, fitting}
 use Rattle.rules_deck.proofs.RightCode.{RightSubscript, RightElement, Right}
 use Rattle.rules_deck.proofs.RightDeck.{each-place, LoopWithin, LineWithin, ProperName, NameWithin, lines-few, digits-right, right-code, right-tables, right-loops, right-lines, right-names}
 
@@ -64,25 +66,25 @@ tail-right zero t b (c ∷ s) l h = absurd (omega arith)
 tail-right (suc i) zero b (c ∷ s) l h = refl
 tail-right (suc i) (suc t) b (c ∷ s) l (each-more p ps) = rw p (tail-right i t b s (omega arith) ps)
 
-name-right : (v : Name) → ProperName v → rightName (filled v) ≡ true
-name-right v p = go v (p .name) (p .short) (p .integer)
+name-right : {house : House} → Lawful house → (v : Name) → ProperName house v → rightName (filled (house .nameBytes) v) ≡ true
+name-right {house} lawful v p = rw (lawful .entries) (go v (p .name) (omega (arith, p .short, lawful .names)) (p .integer))
   where
-    go : (v : Name) → IsName v → length v ≤ limits .nameLength → startsInteger v ≡ true → rightName (filled v) ≡ true
+    go : (v : Name) → IsName v → length v ≤ 6 → startsInteger v ≡ true → rightName (filled 8 v) ≡ true
     go (c ∷ s) (is-name q qs) l h =
         let t = and-both (leb 73 c) (leb c 78) h in
         both (leb 73 c) _ (t .0) (both (leb c 78) _ (t .1) (tail-right 5 7 8 s (omega arith) qs))
 
--- ---- entries and operands of an object of k digits, n words of code and so many cells
+-- ---- entries and operands of an object whose numbers stay below m, with n words of code and c cells
 
 record Sizes (o : Object) (m n c : ℕ) : Type 0 where
-  digits : m ≡ 10 ^ o .digits
+  rule : m ≡ ceiling (ruleOf o)
   code : length (o .code) ≡ n
   cells : o .cells ≡ c
 
 module _ {o : Object} {m n c : ℕ} (sizes : Sizes o m n c) where
   fits-right : (z : ℤ) → natAbs z < m → fits (ruleOf o) z ≡ true
-  unfolding fits ceiling
-  fits-right z h = lt-ltb (natAbs z) (10 ^ o .digits) (omega (arith, sizes .digits))
+  unfolding fits
+  fits-right z h = lt-ltb (natAbs z) (ceiling (ruleOf o)) (omega (arith, sizes .rule))
 
   in-cells : (a : ℕ) → a < c → ltb a (o .cells) ≡ true
   in-cells a h = lt-ltb a (o .cells) (omega (arith, sizes .cells))
@@ -115,10 +117,10 @@ module _ {o : Object} {m n c : ℕ} (sizes : Sizes o m n c) where
   unfolding rightLine
   line-right l h = in-code (l .address) (h .2)
 
-  named-right : (e : Named) → NameWithin c e → rightNamed o e ≡ true
+  named-right : {house : House} → Lawful house → (e : Named) → NameWithin house c e → rightNamed o e ≡ true
   unfolding rightNamed
-  named-right e h =
-      let r : rightName (e .name) ≡ true = rw (h .named) (name-right (h .of) (h .proper)) in
+  named-right lawful e h =
+      let r : rightName (e .name) ≡ true = rw (h .named) (name-right lawful (h .of) (h .proper)) in
       both (rightName (e .name)) _ r
       (both (leb 1 (e .rows) || eqb (e .columns) 0) _ (or-either (leb 1 (e .rows)) (eqb (e .columns) 0) (shape (h .inside .either)))
       (le-leb (e .first + span (e .rows) (e .columns)) (o .cells) (omega (arith, h .inside .within, sizes .cells))))
@@ -159,18 +161,18 @@ module _ {o : Object} {m n c : ℕ} (sizes : Sizes o m n c) where
 
 -- ---- the deck's object
 
-module _ {k : ℕ} {deck : List Statement} (accepted : Accepted k deck) where
-  sizes : Sizes (translate k deck) (10 ^ k) (length (codeOf deck)) (cellCount (heldOf deck))
+module _ {house : House} {deck : List Statement} (accepted : Accepted house deck) where
+  sizes : Sizes (translate house deck) (ceiling (house .rule)) (length (codeOf deck)) (cellCount (heldOf deck))
   unfolding translate
-  sizes = record { digits = refl; code = code-length k deck; cells = refl }
+  sizes = record { rule = sym (ap ceiling (accepted .lawful .rule (translate house deck) refl)); code = code-length house deck; cells = refl }
 
-  pub passes-41 : right41 (translate k deck) ≡ true
+  pub passes-41 : right41 (translate house deck) ≡ true
   unfolding right41 translate
   passes-41 =
-      let o : Object = translate k deck in
-      let s = sized k deck (fitting accepted) in
+      let o : Object = translate house deck in
+      let s = sized house deck (fitting accepted) in
       let d = digits-right accepted in
-      both (leb 1 k) _ (le-leb 1 k (d .0)) (both (leb k (limits .digits)) _ (le-leb k (limits .digits) (d .1))
+      both (leb 1 (o .digits)) _ (le-leb 1 (o .digits) (d .0)) (both (leb (o .digits) (limits .digits)) _ (le-leb (o .digits) (limits .digits) (d .1))
       (both (leb (o .cells) (limits .cells)) _ (le-leb (o .cells) (limits .cells) (s .cells))
       (both (leb (length (o .constants)) (limits .constants)) _ (le-leb (length (o .constants)) (limits .constants) (s .constants))
       (both (leb (length (o .elements)) (limits .elements)) _ (le-leb (length (o .elements)) (limits .elements) (s .elements))
@@ -178,29 +180,29 @@ module _ {k : ℕ} {deck : List Statement} (accepted : Accepted k deck) where
       (both (leb (length (o .dos)) (limits .dos)) _ (le-leb (length (o .dos)) (limits .dos) (s .dos))
       (both (leb (length (o .code)) (limits .code)) _ (le-leb (length (o .code)) (limits .code) (s .code))
       (both (leb (length (o .lines)) (limits .statements)) _ (le-leb (length (o .lines)) (limits .statements) (omega (arith, lines-few deck 0 deck, accepted .count)))
-      (le-leb (length (o .names)) (limits .names) (fitting accepted .names))))))))))
+      (le-leb (length (o .names)) (limits .names) (omega (arith, fitting accepted .names, names-count house 0 (heldOf deck))))))))))))
 
-  pub passes-42 : refused42 (translate k deck) ≡ none
+  pub passes-42 : refused42 (translate house deck) ≡ none
   unfolding refused42 translate
   passes-42 =
-      let o : Object = translate k deck in
+      let o : Object = translate house deck in
       let t = right-tables accepted in
       let c = none-of _ (rightConstant o) (o .constants) (constant-right sizes) (t .constants) in
       let e = none-of _ (rightElement o) (o .elements) (element-right sizes) (t .elements) in
       let d = none-of _ (rightLoop o) (o .dos) (loop-right sizes) (right-loops accepted) in
       let l = none-of _ (rightLine o) (o .lines) (line-right sizes) (right-lines accepted) in
-      let n = none-of _ (rightNamed o) (o .names) (named-right sizes) (right-names accepted) in
+      let n = none-of _ (rightNamed o) (o .names) (named-right sizes (accepted .lawful)) (right-names accepted) in
       rw (c, e, d, l, n)
 
   -- each word of the code, and the instruction that it is
-  pub coded : (a w : ℕ) → getElem? (translate k deck .code) a ≡ some w
-      → (i : Instr) × Right (10 ^ k) (length (codeOf deck)) (cellCount (heldOf deck)) i × (operationOf w ≡ operationNumber i) × InTables (translate k deck) i (operandOf w)
+  pub coded : (a w : ℕ) → getElem? (translate house deck .code) a ≡ some w
+      → (i : Instr) × Right (ceiling (house .rule)) (length (codeOf deck)) (cellCount (heldOf deck)) i × (operationOf w ≡ operationNumber i) × InTables (translate house deck) i (operandOf w)
   coded a w e =
-      let x = at-some (codeOf deck) a (omega (arith, at-before (translate k deck .code) a e, code-length k deck)) in
-      let m = emitted k deck (fitting accepted) a (x .0) (x .1) in
+      let x = at-some (codeOf deck) a (omega (arith, at-before (translate house deck .code) a e, code-length house deck)) in
+      let m = emitted house deck (fitting accepted) a (x .0) (x .1) in
       let same : m .word ≡ w = is-some (sym (m .stands) ∙ e) in (
         x .0,
-        each-at (Right (10 ^ k) (length (codeOf deck)) (cellCount (heldOf deck))) (codeOf deck) a (x .0) (x .1) (right-code accepted),
+        each-at (Right (ceiling (house .rule)) (length (codeOf deck)) (cellCount (heldOf deck))) (codeOf deck) a (x .0) (x .1) (right-code accepted),
         rw same at (m .operation),
         rw same at (m .inTables),
       )
@@ -208,9 +210,9 @@ module _ {k : ℕ} {deck : List Statement} (accepted : Accepted k deck) where
       is-some : {u v : ℕ} → some u ≡ some v → u ≡ v
       is-some h = cc
 
-  pub passes-43 : refused43 (translate k deck) ≡ none
+  pub passes-43 : refused43 (translate house deck) ≡ none
   unfolding refused43 right43
   passes-43 =
-      ap (atEntry 43 5) (none-bad (right43 (translate k deck)) (translate k deck .code) 0 (each-place (translate k deck .code) (λ a w e.
+      ap (atEntry 43 5) (none-bad (right43 (translate house deck)) (translate house deck .code) 0 (each-place (translate house deck .code) (λ a w e.
       let x = coded a w e in
-      subst (λ n. operationAt n .operandRight (translate k deck) (operandOf w) ≡ true) (sym (x .2)) (operand-right sizes (x .0) (operandOf w) (x .1) (x .3)))))
+      subst (λ n. operationAt n .operandRight (translate house deck) (operandOf w) ≡ true) (sym (x .2)) (operand-right sizes (x .0) (operandOf w) (x .1) (x .3)))))

@@ -11,6 +11,7 @@ use lib.ListN.{length, replicate, length-append, length-take}
 use lib.IntN.{ℤ, pos, negsuc, natAbs}
 use Rattle.number.specs.Number.{add, sub, mul, div}
 use Rattle.rules_shared.specs.Limits.{limits}
+use Rattle.rules_shared.specs.House.{House}
 use Rattle.rules_object.specs.Object.{SubscriptEntry, Element, Loop, Line, Named, Object}
 use Rattle.rules_object.specs.Check.{span, isLetter, isDigit}
 use Rattle.rules_object.specs.Operations.{Instr, HLT, CON, LOD, STO, LDE, STE, OP, NEG, JMP, BR3, BRC, DOI, DOE, operationOf, operationNumber, flowOf}
@@ -23,25 +24,25 @@ use Rattle.rules_shared.proofs.EachLaws.{each-map, each-append, each-take}
 use Rattle.rules_object.proofs.RoundTrip.{reads-back}
 use Rattle.rules_deck.specs.Trees.{Name, Statement}
 use Rattle.rules_deck.specs.Tokens.{isLetterOrDigit}
-use Rattle.rules_deck.specs.Translation.{filled, translate}
+use Rattle.rules_deck.specs.Translation.{heldOf, filled, translate}
 use Rattle.rules_deck.specs.Compile.{read, deckOf}
 use Rattle.rules_deck.specs.Seen.{levelsIn}
+use Rattle.rules_deck.specs.Lawful.{Lawful}
 use Rattle.rules_deck.specs.Accepted.{Accepted}
 use Rattle.rules_deck.specs.Spelling.{Passes, IsName, is-name}
 use Rattle.rules_deck.proofs.Readers.{digit-bounds, letter-bounds}
 use Rattle.rules_deck.proofs.TestLaws.{or-one}
-use Rattle.rules_deck.proofs.FittingDeck.{fitting}
+use Rattle.rules_deck.proofs.FittingDeck.{names-count, fitting}
 use Rattle.rules_deck.proofs.Emitted.{code-length, sized}
-use Rattle.rules_deck.proofs.Values.{ten-most}
 use Rattle.rules_deck.proofs.HeightsCompiled.{below}
 use Rattle.rules_deck.proofs.TableCompiled.{stands, levels-most, compiled-table, compiled-height}
 use Rattle.rules_deck.proofs.RightCode.{RightSubscript, RightElement}
-use Rattle.rules_deck.proofs.RightDeck.{each-place, LoopWithin, LineWithin, NameWithin, lines-few, digits-right, right-tables, right-loops, right-lines, right-names}
+use Rattle.rules_deck.proofs.RightDeck.{each-place, LoopWithin, LineWithin, NameWithin, lines-few, digits-right, most, right-tables, right-loops, right-lines, right-names}
 use Rattle.rules_deck.proofs.CompiledRight.{passes-41, passes-42, passes-43, coded}
 
 -- ---- names of eight bytes
 
-filled-eight : (v : Name) → length (filled v) ≡ 8
+filled-eight : (v : Name) → length (filled 8 v) ≡ 8
 filled-eight v =
     let t = length-take 8 (v ++ replicate 8 32) in
     let a = length-append v (replicate 8 32) in
@@ -105,11 +106,11 @@ module _ {m n cells : ℕ} (digits : m ≤ 1000000000) (code : n ≤ limits .cod
   line-writable : (l : Line) → LineWithin n l → WritableLine l
   line-writable l h = record { sequence = omega (arith, h .0); number = omega (arith, h .1); address = omega (arith, h .2) }
 
-  named-writable : (e : Named) → NameWithin cells e → WritableNamed e
-  named-writable e h =
+  named-writable : {house : House} → Lawful house → (e : Named) → NameWithin house cells e → WritableNamed e
+  named-writable lawful e h =
       record {
-        eight = rw (h .named) (filled-eight (h .of));
-        bytes = rw (h .named) (each-take 8 (h .of ++ replicate 8 32) (each-append (name-bytes (h .of) (h .proper .name)) (blank-bytes 8)));
+        eight = rw (h .named, lawful .entries) (filled-eight (h .of));
+        bytes = rw (h .named, lawful .entries) (each-take 8 (h .of ++ replicate 8 32) (each-append (name-bytes (h .of) (h .proper .name)) (blank-bytes 8)));
         first = omega (arith, h .inside .within);
         rows = omega (arith, h .inside .within, span-rows (e .rows) (e .columns));
         columns = go (h .inside .either);
@@ -143,13 +144,13 @@ word-small w h = omega arith
 
 -- ---- the deck's object
 
-module _ {k : ℕ} {deck : List Statement} (accepted : Accepted k deck) where
-  pub compiled-writable : Writable (translate k deck)
+module _ {house : House} {deck : List Statement} (accepted : Accepted house deck) where
+  pub compiled-writable : Writable (translate house deck)
   unfolding translate
   compiled-writable =
-      let o : Object = translate k deck in
-      let s = sized k deck (fitting accepted) in
-      let d = ten-most k (digits-right accepted .1) in
+      let o : Object = translate house deck in
+      let s = sized house deck (fitting accepted) in
+      let d = most accepted in
       let n = fitting accepted .code in
       let c = fitting accepted .cells in
       let t = right-tables accepted in
@@ -162,34 +163,34 @@ module _ {k : ℕ} {deck : List Statement} (accepted : Accepted k deck) where
         dos = each-map (loop-writable d n c) (right-loops accepted);
         code = each-place (o .code) (λ a w e. let x = coded accepted a w e in word-small w (omega (arith, x .2, operation-few (x .0))));
         lines = each-map (line-writable d n c) (right-lines accepted);
-        names = each-map (named-writable d n c) (right-names accepted);
-        someCode = omega (arith, code-length k deck, below deck (stands accepted) 0 (stands accepted .some));
-        small = omega (arith, s .constants, s .elements, s .exits, s .dos, s .code, lines-few deck 0 deck, accepted .count, fitting accepted .names);
+        names = each-map (named-writable d n c (accepted .lawful)) (right-names accepted);
+        someCode = omega (arith, code-length house deck, below deck (stands accepted) 0 (stands accepted .some));
+        small = omega (arith, s .constants, s .elements, s .exits, s .dos, s .code, lines-few deck 0 deck, accepted .count, fitting accepted .names, names-count house 0 (heldOf deck));
       }
 
   -- an accepted deck's bytes read back as its object
-  pub compiled-reads : readObject (objectBytes (translate k deck)) ≡ some (translate k deck)
-  compiled-reads = reads-back (translate k deck) compiled-writable
+  pub compiled-reads : readObject (objectBytes (translate house deck)) ≡ some (translate house deck)
+  compiled-reads = reads-back (translate house deck) compiled-writable
 
   low : 2 * levelsIn deck + 3 ≤ limits .stack
   low = omega (arith, levels-most accepted)
 
-  pub accepted-passes : (table : List ℕ) × (checked (objectBytes (translate k deck)) ≡ passed (translate k deck) table)
+  pub accepted-passes : (table : List ℕ) × (checked (objectBytes (translate house deck)) ≡ passed (translate house deck) table)
   unfolding checked
   accepted-passes =
-      let h = compiled-table k (stands accepted) (fitting accepted) low in
+      let h = compiled-table house (stands accepted) (fitting accepted) low in
       (h .0, rw (compiled-reads, passes-41 accepted, passes-42 accepted, passes-43 accepted, h .1))
 
   -- a deck with p levels of parentheses never stands above 2p+3
-  pub accepted-height : (a h : ℕ) → Reached (flowOf (translate k deck)) a h → h ≤ 2 * levelsIn deck + 3
-  accepted-height = compiled-height k (stands accepted) (fitting accepted) low
+  pub accepted-height : (a h : ℕ) → Reached (flowOf (translate house deck)) a h → h ≤ 2 * levelsIn deck + 3
+  accepted-height = compiled-height house (stands accepted) (fitting accepted) low
 
 -- ---- everything compiled
 
-pub compiled-checked : (k : ℕ) (bytes : List ℕ) (deck : List Statement) → deckOf k bytes ≡ read deck
-    → (table : List ℕ) × (checked (objectBytes (translate k deck)) ≡ passed (translate k deck) table)
-compiled-checked k bytes deck e = accepted-passes (Rattle.rules_deck.proofs.AcceptedDeck.accepted k bytes deck e)
+pub compiled-checked : (house : House) → Lawful house → (bytes : List ℕ) (deck : List Statement) → deckOf house bytes ≡ read deck
+    → (table : List ℕ) × (checked (objectBytes (translate house deck)) ≡ passed (translate house deck) table)
+compiled-checked house lawful bytes deck e = accepted-passes (Rattle.rules_deck.proofs.AcceptedDeck.accepted house lawful bytes deck e)
 
-pub compiled-passes : (k : ℕ) (bytes : List ℕ) (deck : List Statement) → deckOf k bytes ≡ read deck → checking (objectBytes (translate k deck)) ≡ Rattle.rules_shared.specs.Refusals.accepted
+pub compiled-passes : (house : House) → Lawful house → (bytes : List ℕ) (deck : List Statement) → deckOf house bytes ≡ read deck → checking (objectBytes (translate house deck)) ≡ Rattle.rules_shared.specs.Refusals.accepted
 unfolding checking
-compiled-passes k bytes deck e = ap verdict (compiled-checked k bytes deck e .1)
+compiled-passes house lawful bytes deck e = ap verdict (compiled-checked house lawful bytes deck e .1)

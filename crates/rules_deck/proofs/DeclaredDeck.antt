@@ -5,12 +5,13 @@ use mathlib.Core.Path.{_≡_, refl, sym, ap, _∙_, subst}
 use Prim.Native.Nat.{ℕ, suc, _≤_}
 use native.Mathlib.Omega.{arith}
 use mathlib.Core.Logic.{_⊎_, inl, inr}
-use mathlib.Core.Bool.{Bool, true, false, not, false≢true}
+use mathlib.Core.Bool.{Bool, true, false, _||_, not, false≢true}
 use mathlib.Core.List.{List, [], _∷_, _++_, map, append-nil, append-assoc}
 use mathlib.Core.Option.{none, some}
 use lib.Dec.{leb}
 use lib.ListN.{length, getElem?}
 use borrow.Author.Tests.{leb-true, eqb-true, not-true}
+use Rattle.rules_shared.specs.House.{House}
 use Rattle.rules_shared.specs.Lists.{all}
 use Rattle.rules_deck.specs.Trees.{Name, valueOf, Subscripts, one, two, Array, array, Form, assign, computed, ifs, loop, Statement}
 use Rattle.rules_deck.specs.Deck.{sameName, Dims, Declared, declare, arraysIn, arraysOf, dimsOf}
@@ -29,12 +30,12 @@ some-rows : (a : Array) → someCells a ≡ true → 1 ≤ declare a .dims .rows
 some-rows (array v r none) e = leb-true 1 (valueOf r) e
 some-rows (array v r (some c)) e = leb-true 1 (valueOf r) (and-both (leb 1 (valueOf r)) (leb 1 (valueOf c)) e .0)
 
-rows-in : (held : List Held) (arrays : List Array) → rightArrays held arrays ≡ true → {a : Array} → Among a arrays → 1 ≤ declare a .dims .rows
-rows-in held (x ∷ arrays) e here = some-rows x (and-both (someCells x) _ e .0)
-rows-in held (x ∷ arrays) e (there h) =
+rows-in : (inF : Bool) (held : List Held) (arrays : List Array) → rightArrays inF held arrays ≡ true → {a : Array} → Among a arrays → 1 ≤ declare a .dims .rows
+rows-in inF held (x ∷ arrays) e here = some-rows x (and-both (someCells x) _ e .0)
+rows-in inF held (x ∷ arrays) e (there h) =
     let f = and-both (someCells x) _ e .1 in
     let g = and-both (not (seen held (declare x .name))) _ f .1 in
-    rows-in (held ++ (Held.array (declare x) ∷ [])) arrays (and-both (not (endsInF (declare x .name))) _ g .1) h
+    rows-in inF (held ++ (Held.array (declare x) ∷ [])) arrays (and-both (inF || not (endsInF (declare x .name))) _ g .1) h
 
 not-held : (held : List Held) (w v : Name) → holds (isName w) held ≡ false → holds (isName v) held ≡ true → (t : Bool) → sameName w v ≡ t → t ≡ false
 not-held held w v e h true s =
@@ -43,16 +44,16 @@ not-held held w v e h true s =
 not-held held w v e h false s = refl
 
 -- no array takes a name that is held
-new-in : (held : List Held) (arrays : List Array) → rightArrays held arrays ≡ true → {a : Array} → Among a arrays → (v : Name) → holds (isName v) held ≡ true →
+new-in : (inF : Bool) (held : List Held) (arrays : List Array) → rightArrays inF held arrays ≡ true → {a : Array} → Among a arrays → (v : Name) → holds (isName v) held ≡ true →
     sameName (declare a .name) v ≡ false
-new-in held (x ∷ arrays) e here v h =
+new-in inF held (x ∷ arrays) e here v h =
     let f = and-both (someCells x) _ e .1 in
     let g = not-true (seen held (declare x .name)) (and-both (not (seen held (declare x .name))) _ f .0) in
     not-held held (declare x .name) v (or-neither (holds (isName (declare x .name)) held) _ g .0) h (sameName (declare x .name) v) refl
-new-in held (x ∷ arrays) e (there b) v h =
+new-in inF held (x ∷ arrays) e (there b) v h =
     let f = and-both (someCells x) _ e .1 in
     let g = and-both (not (seen held (declare x .name))) _ f .1 in
-    new-in (held ++ (Held.array (declare x) ∷ [])) arrays (and-both (not (endsInF (declare x .name))) _ g .1) b v (holds-left (isName v) held _ h)
+    new-in inF (held ++ (Held.array (declare x) ∷ [])) arrays (and-both (inF || not (endsInF (declare x .name))) _ g .1) b v (holds-left (isName v) held _ h)
 
 -- ---- 16, for one reference
 
@@ -73,7 +74,7 @@ plain-declares (computed ns w) v a = refl
 plain-declares (ifs e x y z) v a = refl
 plain-declares (loop n w p₁ p₂ p₃) v a = refl
 
-module _ {k : ℕ} {deck : List Statement} (accepted : Accepted k deck) where
+module _ {house : House} {deck : List Statement} (accepted : Accepted house deck) where
   -- the arrays before a position are the first of the deck's
   first-arrays : (j : ℕ) → j ≤ length deck → (more : List Declared) × (arraysOf deck ≡ arraysHeld (takenBefore deck j .held) ++ more)
   unfolding takes
@@ -123,7 +124,7 @@ module _ {k : ℕ} {deck : List Statement} (accepted : Accepted k deck) where
           go (inl b) = m a b
           go (inr b) =
               let c = among-map declare (arraysIn (s .form)) b in
-              subst (λ (d : Declared). 1 ≤ d .dims .rows) (sym (c .2)) (rows-in held (arraysIn (s .form)) (accepted .judged i s e .passes15) (c .1))
+              subst (λ (d : Declared). 1 ≤ d .dims .rows) (sym (c .2)) (rows-in (house .arrayMayEndInF) held (arraysIn (s .form)) (accepted .judged i s e .passes15) (c .1))
 
   pub array-rows : (a : Declared) → Among a (arraysOf deck) → 1 ≤ a .dims .rows
   array-rows a h = held-rows a (subst (Among a) (sym (ap arraysHeld (held-all deck) ∙ arrays-held deck)) h)
@@ -174,7 +175,7 @@ module _ {k : ℕ} {deck : List Statement} (accepted : Accepted k deck) where
           go b (inl g) = m .1 b g
           go b (inr g) =
               let c = among-map declare (arraysIn (x .form)) g in
-              subst (λ (d : Declared). sameName (d .name) v ≡ false) (sym (c .2)) (new-in held (arraysIn (x .form)) (accepted .judged i x e .passes15) (c .1) v (m .0))
+              subst (λ (d : Declared). sameName (d .name) v ≡ false) (sym (c .2)) (new-in (house .arrayMayEndInF) held (arraysIn (x .form)) (accepted .judged i x e .passes15) (c .1) v (m .0))
 
       first : Plain (takenBefore deck (suc j))
       first =

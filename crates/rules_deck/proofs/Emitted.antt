@@ -7,6 +7,7 @@ use mathlib.Core.Bool.{Bool, true, false, cond}
 use mathlib.Core.List.{List, [], _∷_, map}
 use mathlib.Core.Option.{some}
 use lib.ListN.{length, getElem?, getD, length-map}
+use Rattle.rules_shared.specs.House.{House}
 use Rattle.rules_object.specs.Object.{Object}
 use Rattle.rules_object.specs.Operations.{Instr, DOE, decode}
 use Rattle.rules_shared.specs.Lists.{Each, each-none, each-more}
@@ -72,50 +73,50 @@ module _ (o : Object) (held : List Held) (dims : Name → Dims) (cells : (v : Na
 
 -- ---- the deck's object
 
-module _ (k : ℕ) (deck : List Statement) where
-  pub code-length : length (translate k deck .code) ≡ length (codeOf deck)
+module _ (house : House) (deck : List Statement) where
+  pub code-length : length (translate house deck .code) ≡ length (codeOf deck)
   unfolding translate
   code-length = emit-length noTables (codeOf deck)
 
-  entry-bounded : (q : ℕ) (f : Form) → ((d : Do) → Among d (doOf q f) → Among d (dosOf deck)) → Bounded (translate k deck) (enterCode deck q f)
+  entry-bounded : (q : ℕ) (f : Form) → ((d : Do) → Among d (doOf q f) → Among d (dosOf deck)) → Bounded (translate house deck) (enterCode deck q f)
   unfolding translate
   entry-bounded q f g = go (partsOf f .opens) g
     where
-      go : (ds : List Range) → ((d : Do) → Among d (map (doAt q) ds) → Among d (dosOf deck)) → Bounded (translate k deck) (doiFor deck q ds)
+      go : (ds : List Range) → ((d : Do) → Among d (map (doAt q) ds) → Among d (dosOf deck)) → Bounded (translate house deck) (doiFor deck q ds)
       go [] = λ g. tt
       go (d ∷ ds) = λ g. do-row deck _ (g _ here)
 
-  ends-bounded : (ds : List Do) → ((d : Do) → Among d ds → Among d (dosOf deck)) → Each (Bounded (translate k deck)) (map (doInstr deck DOE) ds)
+  ends-bounded : (ds : List Do) → ((d : Do) → Among d ds → Among d (dosOf deck)) → Each (Bounded (translate house deck)) (map (doInstr deck DOE) ds)
   unfolding translate
   ends-bounded [] g = each-none
   ends-bounded (d ∷ ds) g = each-more (do-row deck d (g d here)) (ends-bounded ds (λ c h. g c (there h)))
 
-  cells-most : (v : Name) → cellOf (heldOf deck) v ≤ translate k deck .cells
+  cells-most : (v : Name) → cellOf (heldOf deck) v ≤ translate house deck .cells
   unfolding translate
   cells-most v = cell-most (heldOf deck) v
 
-  statement-bounded : (q : ℕ) (s : Statement) → ((d : Do) → Among d (doOf q (s .form)) → Among d (dosOf deck)) → Each (Bounded (translate k deck)) (statementCode deck q s)
+  statement-bounded : (q : ℕ) (s : Statement) → ((d : Do) → Among d (doOf q (s .form)) → Among d (dosOf deck)) → Each (Bounded (translate house deck)) (statementCode deck q s)
   statement-bounded q s g =
       let entry : Instr = enterCode deck q (s .form) in
       each-append
-      (form-bounded (translate k deck) (heldOf deck) (dimsOf deck) cells-most (addressOf deck) entry (s .form)
+      (form-bounded (translate house deck) (heldOf deck) (dimsOf deck) cells-most (addressOf deck) entry (s .form)
       (λ n. omega (arith, code-length, address-most deck (positionOf deck n))) (entry-bounded q (s .form) g))
       (ends-bounded (endings deck (s .number)) (λ d h. among-endings deck (s .number) d h .0))
 
-  from-bounded : (q : ℕ) (more : List Statement) → ((d : Do) → Among d (dosFrom q more) → Among d (dosOf deck)) → Each (Bounded (translate k deck)) (codeFrom deck q more)
+  from-bounded : (q : ℕ) (more : List Statement) → ((d : Do) → Among d (dosFrom q more) → Among d (dosOf deck)) → Each (Bounded (translate house deck)) (codeFrom deck q more)
   from-bounded q [] g = each-none
   from-bounded q (s ∷ more) g =
       each-append (statement-bounded q s (λ d h. g d (among-left (dosFrom (suc q) more) h)))
       (from-bounded (suc q) more (λ d h. g d (among-right (doOf q (s .form)) h)))
 
-  code-bounded : Each (Bounded (translate k deck)) (codeOf deck)
+  code-bounded : Each (Bounded (translate house deck)) (codeOf deck)
   unfolding codeOf dosOf
   code-bounded = from-bounded 0 deck (λ d h. h)
 
-  pub bounded : (a : ℕ) (i : Instr) → getElem? (codeOf deck) a ≡ some i → Bounded (translate k deck) i
-  bounded a i e = each-at (Bounded (translate k deck)) (codeOf deck) a i e code-bounded
+  pub bounded : (a : ℕ) (i : Instr) → getElem? (codeOf deck) a ≡ some i → Bounded (translate house deck) i
+  bounded a i e = each-at (Bounded (translate house deck)) (codeOf deck) a i e code-bounded
 
-  pub sized : Fitting deck → Sized (translate k deck)
+  pub sized : Fitting deck → Sized (translate house deck)
   unfolding translate
   sized f =
       record {
@@ -127,9 +128,9 @@ module _ (k : ℕ) (deck : List Statement) where
         dos = omega (arith, f .dos, length-map (dosOf deck) (loopEntry deck));
       }
 
-  pub emitted : Fitting deck → (a : ℕ) (i : Instr) → getElem? (codeOf deck) a ≡ some i → Emitted (translate k deck) a i
+  pub emitted : Fitting deck → (a : ℕ) (i : Instr) → getElem? (codeOf deck) a ≡ some i → Emitted (translate house deck) a i
   unfolding translate
-  emitted f a i e = emitted-at (translate k deck) noTables (codeOf deck) refl (within-self (translate k deck)) (sized f) a i e (bounded a i e)
+  emitted f a i e = emitted-at (translate house deck) noTables (codeOf deck) refl (within-self (translate house deck)) (sized f) a i e (bounded a i e)
 
-  pub fetched : Fitting deck → (a : ℕ) (i : Instr) → getElem? (codeOf deck) a ≡ some i → decode (translate k deck) (getD (translate k deck .code) a 0) ≡ i
-  fetched f a i e = decoded (translate k deck) a i (emitted f a i e)
+  pub fetched : Fitting deck → (a : ℕ) (i : Instr) → getElem? (codeOf deck) a ≡ some i → decode (translate house deck) (getD (translate house deck .code) a 0) ≡ i
+  fetched f a i e = decoded (translate house deck) a i (emitted f a i e)

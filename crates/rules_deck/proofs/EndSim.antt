@@ -8,6 +8,7 @@ use mathlib.Core.List.{List, [], _∷_, map}
 use mathlib.Core.Option.{some}
 use lib.ListN.{length, getElem?}
 use lib.IntN.{ℤ}
+use Rattle.rules_shared.specs.House.{House}
 use Rattle.rules_shared.specs.Runs.{Outcome, go, halt}
 use Rattle.rules_shared.specs.Choose.{positive, Turn, again, over, turn}
 use Rattle.rules_object.specs.Operations.{DOE}
@@ -32,14 +33,14 @@ use Rattle.rules_deck.proofs.MachineRuns.{ruled, Runs, stay, and-then, 
 use Rattle.rules_deck.proofs.Standings.{standing, Bound, Inside, Stands, inside-put, inside-body}
 
 -- From machine state t, inside the statement at j₀, the machine comes to what the meaning comes to, in n steps, which are no more than the statement has words from there; a halt is at that statement and at the last word reached.
-pub data Sim (k : ℕ) (deck : List Statement) (j₀ : ℕ) (t : State) (n : ℕ) : Outcome Cause Standing → Type 0 where
-  goes : {j lost m : ℕ} {env : Values} {inside : ℕ → Bounds} {c : List ℤ} → Runs k deck n t (go (state (addressAt deck j) [] c m)) → t .index + n ≤ addressAt deck (suc j₀)
-      → Stands deck j env inside lost c m → (zero < n) ⊎ (j ≡ suc j₀) → Sim k deck j₀ t n (go (standing j env inside lost))
-  halts : {h : Cause} {lost p m : ℕ} {env : Values} {inside : ℕ → Bounds} {s c : List ℤ} → Runs k deck n t (halt (haltOf h) (state p s c m)) → t .index + n ≤ addressAt deck (suc j₀)
-      → suc p ≡ t .index + n → Holds (heldOf deck) env c → SameMark deck lost m → Sim k deck j₀ t n (halt h (standing j₀ env inside lost))
+pub data Sim (house : House) (deck : List Statement) (j₀ : ℕ) (t : State) (n : ℕ) : Outcome Cause Standing → Type 0 where
+  goes : {j lost m : ℕ} {env : Values} {inside : ℕ → Bounds} {c : List ℤ} → Runs house deck n t (go (state (addressAt deck j) [] c m)) → t .index + n ≤ addressAt deck (suc j₀)
+      → Stands deck j env inside lost c m → (zero < n) ⊎ (j ≡ suc j₀) → Sim house deck j₀ t n (go (standing j env inside lost))
+  halts : {h : Cause} {lost p m : ℕ} {env : Values} {inside : ℕ → Bounds} {s c : List ℤ} → Runs house deck n t (halt (haltOf h) (state p s c m)) → t .index + n ≤ addressAt deck (suc j₀)
+      → suc p ≡ t .index + n → Holds (heldOf deck) env c → SameMark deck lost m → Sim house deck j₀ t n (halt h (standing j₀ env inside lost))
 
 -- some steps first
-pub first : {k : ℕ} {deck : List Statement} {j n n₂ : ℕ} {s t : State} {o : Outcome Cause Standing} → Runs k deck n s (go t) → s .index + n ≡ t .index → Sim k deck j t n₂ o → Sim k deck j s (n + n₂) o
+pub first : {house : House} {deck : List Statement} {j n n₂ : ℕ} {s t : State} {o : Outcome Cause Standing} → Runs house deck n s (go t) → s .index + n ≡ t .index → Sim house deck j t n₂ o → Sim house deck j s (n + n₂) o
 first r e (goes r′ l st (inl z)) = goes (and-then r r′) (omega arith) st (inl (omega arith))
 first r e (goes r′ l st (inr q)) = goes (and-then r r′) (omega arith) st (inr q)
 first r e (halts {p = i} r′ l p h m) = halts {p = i} (and-then r r′) (omega arith) (omega arith) h m
@@ -57,10 +58,10 @@ pub record Ready (deck : List Statement) (j : ℕ) (env : Values) (inside : ℕ 
   pub next : Inside deck inside c (suc j)
   pub more : suc j < length deck
 
-module _ (k : ℕ) {deck : List Statement} (sound : Sound deck) {j lost m : ℕ} {env : Values} {inside : ℕ → Bounds} {c : List ℤ} (r : Ready deck j env inside lost c m) where
+module _ (house : House) {deck : List Statement} (sound : Sound deck) {j lost m : ℕ} {env : Values} {inside : ℕ → Bounds} {c : List ℤ} (r : Ready deck j env inside lost c m) where
   turn-sim : (d : Do) (u : Turn) {p n : ℕ} {o : Outcome Cause Standing} → Ending deck j d → getElem? (codeOf deck) p ≡ some (doInstr deck DOE d) → p < addressAt deck (suc j)
-      → Machine.act (ruled k) (doInstr deck DOE d) (state p [] c m) ≡ Machine.turned u (loopEntry deck d) (state p [] c m)
-      → Sim k deck j (state (suc p) [] c m) n o → Sim k deck j (state p [] c m) (turnedSteps u n) (turned u d (standing j env inside lost) o)
+      → Machine.act (ruled house) (doInstr deck DOE d) (state p [] c m) ≡ Machine.turned u (loopEntry deck d) (state p [] c m)
+      → Sim house deck j (state (suc p) [] c m) n o → Sim house deck j (state p [] c m) (turnedSteps u n) (turned u d (standing j env inside lost) o)
   turn-sim d (again i) {p} w a l e o =
       let v = variable-has deck d (w .among) in
       let f = sound .nested .after d (w .among) in
@@ -76,7 +77,7 @@ module _ (k : ℕ) {deck : List Statement} (sound : Sound deck) {j lost m : ℕ}
   turn-sim d over {p} w a l e o = first (on (sound .fitting) a e stay) (omega arith) o
 
   doe-acts : (d : Do) (p : ℕ) → Has (heldOf deck) (key (plain (d .variable))) → (b : Bound (heldOf deck) inside c (d .position))
-      → Machine.act (ruled k) (doInstr deck DOE d) (state p [] c m) ≡ Machine.turned (turn (env (plain (d .variable))) (b .limit) (b .step)) (loopEntry deck d) (state p [] c m)
+      → Machine.act (ruled house) (doInstr deck DOE d) (state p [] c m) ≡ Machine.turned (turn (env (plain (d .variable))) (b .limit) (b .step)) (loopEntry deck d) (state p [] c m)
   doe-acts d p v b =
       let D = loopEntry deck d in
       let t = state p [] c m in
@@ -87,13 +88,13 @@ module _ (k : ℕ) {deck : List Statement} (sound : Sound deck) {j lost m : ℕ}
       ∙ ap (λ a. Machine.turned (turn (env (plain (d .variable))) (b .limit) a) D t) (b .step-cell)
 
   pub ends-sim : (es : List Do) {p : ℕ} → ((d : Do) → Among d es → Ending deck j d) → At (codeOf deck) p (map (doInstr deck DOE) es) → p + length es ≡ addressAt deck (suc j)
-      → Sim k deck j (state p [] c m) (finishSteps es env inside) (finish es (standing j env inside lost))
+      → Sim house deck j (state p [] c m) (finishSteps es env inside) (finish es (standing j env inside lost))
   ends-sim [] {p} f a e =
       let e′ : p ≡ addressAt deck (suc j) = omega arith in
       rw e′ (goes stay (omega arith) (record { holds = r .holds; mark = r .mark; around = r .next; here = r .more }) (inr refl))
   ends-sim (d ∷ es) {p} f a e =
       let w = f d here in
       let b = r .now .bound d (w .among) (range-last (sound .nested) (w .among) (w .last)) in
-      subst (λ z. Sim k deck j (state p [] c m) (endSteps z d env (finishSteps es env inside)) (endOf z d (standing j env inside lost) (finish es (standing j env inside lost)))) (sym (b .is))
+      subst (λ z. Sim house deck j (state p [] c m) (endSteps z d env (finishSteps es env inside)) (endOf z d (standing j env inside lost) (finish es (standing j env inside lost)))) (sym (b .is))
       (turn-sim d (turn (env (plain (d .variable))) (b .limit) (b .step)) w (at-head a) (omega arith) (doe-acts d p (variable-has deck d (w .among)) b)
       (ends-sim es (λ d x. f d (there x)) (at-tail a) (omega arith)))

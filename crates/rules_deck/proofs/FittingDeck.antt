@@ -10,6 +10,7 @@ use lib.Dec.{leb, eqb}
 use lib.ListN.{length, getElem?, length-append, length-map, length-reverse}
 use borrow.Author.Tests.{leb-true, eqb-true}
 use Rattle.rules_shared.specs.Limits.{limits}
+use Rattle.rules_shared.specs.House.{House}
 use Rattle.rules_object.specs.Operations.{Instr, DOE}
 use Rattle.rules_deck.specs.Trees.{Form, Statement, formLast, Range, partsOf}
 use Rattle.rules_deck.specs.Deck.{positionOf, Do, doOf, dosFrom, dosOf, endingWith, endings, dimsOf, doAt}
@@ -52,7 +53,7 @@ within t e =
       cells = leb-true (cellCount (t .held)) (limits .cells) (g .1);
     }
 
-last-right : {k : ℕ} (deck : List Statement) → Accepted k deck → right18 (takenBefore deck (length deck)) ≡ true
+last-right : {house : House} (deck : List Statement) → Accepted house deck → right18 (takenBefore deck (length deck)) ≡ true
 unfolding takenBefore right18
 last-right [] h = refl
 last-right (s ∷ deck) h =
@@ -77,11 +78,11 @@ dos-from q (s ∷ deck) t =
     let d = dos-of q (s .form) in
     simp length-append (omega arith)
 
-pub names-count : (at : ℕ) (held : List Held) → length (namesFrom at held) ≡ nameCount held
-names-count at [] = refl
-names-count at (name v ∷ held) = ap suc (names-count (suc at) held)
-names-count at (array a ∷ held) = ap suc (names-count (at + arraySize (a .dims)) held)
-names-count at (hidden q ∷ held) = names-count (at + 2) held
+pub names-count : (house : House) (at : ℕ) (held : List Held) → length (namesFrom house at held) ≡ nameCount held
+names-count house at [] = refl
+names-count house at (name v ∷ held) = ap suc (names-count house (suc at) held)
+names-count house at (array a ∷ held) = ap suc (names-count house (at + arraySize (a .dims)) held)
+names-count house at (hidden q ∷ held) = names-count house (at + 2) held
 
 -- the tables that the code makes, beside what its statements take
 record Beside (T : Tables) (t : Taken) : Type 0 where
@@ -165,8 +166,8 @@ few-ended deck (d ∷ ds) h =
     let r = few-ended deck ds (λ x a. h x (there a)) in
     omega arith
 
-few-ends : {k : ℕ} {deck : List Statement} → Accepted k deck → ended (dosOf deck) deck ≤ length (dosOf deck)
-few-ends {k} {deck} accepted = few-ended deck (dosOf deck) (λ d a. once-numbered (d .last) (positionOf deck (d .last)) deck (λ j s e n. found d a j s e n))
+few-ends : {house : House} {deck : List Statement} → Accepted house deck → ended (dosOf deck) deck ≤ length (dosOf deck)
+few-ends {house} {deck} accepted = few-ended deck (dosOf deck) (λ d a. once-numbered (d .last) (positionOf deck (d .last)) deck (λ j s e n. found d a j s e n))
   where
     found : (d : Do) → Among d (dosOf deck) → (j : ℕ) (s : Statement) → getElem? deck j ≡ some s → d .last ≡ s .number → j ≡ positionOf deck (d .last)
     found d a j s e n =
@@ -188,22 +189,21 @@ code-from deck q (s ∷ more) t =
     let r = length-reverse (endingWith (s .number) (dosOf deck)) in
     simp length-append (omega arith)
 
-code-fits : {k : ℕ} {deck : List Statement} → Accepted k deck → length (codeOf deck) ≤ takenBefore deck (length deck) .code
+code-fits : {house : House} {deck : List Statement} → Accepted house deck → length (codeOf deck) ≤ takenBefore deck (length deck) .code
 unfolding codeOf dosOf
-code-fits {k} {deck} accepted =
+code-fits {house} {deck} accepted =
     let h = code-from deck 0 deck nothingTaken in
     let f = few-ends accepted in
     let e = ap (λ (t : Taken). t .code) (before-all deck) in
     omega arith
 
-pub fitting : {k : ℕ} {deck : List Statement} → Accepted k deck → Fitting deck
+pub fitting : {house : House} {deck : List Statement} → Accepted house deck → Fitting deck
 unfolding dosOf
-fitting {k} {deck} accepted =
+fitting {house} {deck} accepted =
     let w = within (takenBefore deck (length deck)) (last-right deck accepted) in
     let b = beside deck in
     let m = held-all deck in
     let c = code-fits accepted in
-    let n = names-count 0 (heldOf deck) in
     let d = ap (λ (t : Taken). t .dos) (before-all deck) ∙ dos-from 0 deck nothingTaken in
     let e = b .elements in
     let x = b .exits in
@@ -214,5 +214,5 @@ fitting {k} {deck} accepted =
       elements = omega (arith, w .elements);
       exits = omega (arith, w .exits);
       dos = omega (arith, w .dos);
-      names = subst (λ (i : ℕ). i ≤ limits .names) (sym n) (subst (λ (held : List Held). nameCount held ≤ limits .names) m (w .names));
+      names = subst (λ (held : List Held). nameCount held ≤ limits .names) m (w .names);
     }

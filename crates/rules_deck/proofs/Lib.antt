@@ -2,6 +2,7 @@ pub mod GrammarExamples
 pub mod CardsExamples
 pub mod CardsGroups
 pub mod CardsLaws
+pub mod Houses
 pub mod Parse
 pub mod Readers
 pub mod ReadTrees

@@ -6,6 +6,7 @@ use Prim.Native.String.{String}
 use mathlib.Core.List.{List, [], _∷_, _++_}
 use mathlib.Core.Option.{none, some}
 use lib.ListN.{replicate}
+use Rattle.rules_shared.specs.House.{house1401}
 use Rattle.rules_shared.specs.Refusals.{refusal}
 use Rattle.rules_deck.specs.Punch.{bytes, deck}
 use Rattle.rules_deck.specs.Trees.{Form, con, loop, computed, stop, valueOf, formNames, formConstants, formExits, formLast, formLevels}
@@ -43,7 +44,7 @@ table =
 
 abbrev pub Refused : List Over → Type 0
 Refused [] = Unit {0}
-Refused (e ∷ more) = (deckOf 5 (deck (e .cards)) ≡ notRead (refusal 18 (e .place) 0)) × Refused more
+Refused (e ∷ more) = (deckOf (house1401 5) (deck (e .cards)) ≡ notRead (refusal 18 (e .place) 0)) × Refused more
 
 pub examples : Refused table
 unfolding valueOf formNames formConstants formExits formLast formLevels cardsOf comment firstCard character textOf numberOf rightNumber wrongCard afterCard rightDigits rightLength carded isLetterOrDigit give giveIf ahead follow andThen after afterWord choose starts startsDigit allOf whole run digitRun nameRun bytesTaken number name listedUpTo listed addend linearOf subscript subscripts targetRead operandRead operand sign signed sumOp productOp joined more grammarStep parseIn enough parse expression assignment plainGoTo rightExits computedGoTo arithmeticIf parameter doLoop arrayShape dimensions readAssignment readGoTo readComputed readIf readDo readContinue readStop readEnd readDimension present readings firstOf formOf formPlain right11 right12 right13 right14 right15 formReferences right16 formPooled formWords formExitWords takes right18 judgeForm deckOf
@@ -64,8 +65,8 @@ abbrev pub aDo : Form
 aDo = loop (bytes "7") (bytes "J") (con (bytes "1")) (con (bytes "2")) none
 
 pub record AtLimit (taken : ℕ → Taken) (form : Form) (last : ℕ) : Type 0 where
-  pub right : judgeForm 5 0 form (taken last) ≡ none
-  pub wrong : judgeForm 5 0 form (taken (last + 1)) ≡ some 18
+  pub right : judgeForm (house1401 5) 0 form (taken last) ≡ none
+  pub wrong : judgeForm (house1401 5) 0 form (taken (last + 1)) ≡ some 18
 
 -- the count and two exits; STOP's one word; a DO's five, with its DOE
 pub counted : AtLimit exitsTaken twoExits 1021 × (AtLimit codeTaken stop 4095 × AtLimit codeTaken aDo 4091)

@@ -8,6 +8,7 @@ use mathlib.Core.List.{List, [], _∷_, _++_}
 use mathlib.Core.Option.{some}
 use native.Mathlib.Omega.{arith}
 use lib.ListN.{length, getElem?, take, replicate}
+use Rattle.rules_shared.specs.House.{House}
 use Rattle.rules_object.specs.Object.{Named}
 use Rattle.rules_object.specs.Check.{span}
 use Rattle.rules_shared.specs.Lists.{Each, each-none, each-more}
@@ -98,73 +99,73 @@ pub record Listed (names : List Named) (e : Named) : Type 0 where
   pub index : ℕ
   pub is : getElem? names index ≡ some e
 
-abbrev pub entryOf : Name → ℕ → Dims → Named
-entryOf v at d = record { name = filled v; first = at; rows = d .rows; columns = d .columns }
+abbrev pub entryOf : House → Name → ℕ → Dims → Named
+entryOf house v at d = record { name = filled (house .nameBytes) v; first = at; rows = d .rows; columns = d .columns }
 
 later : {names : List Named} {e : Named} (x : Named) → Listed names e → Listed (x ∷ names) e
 later x l = record { index = suc (l .index); is = l .is }
 
-moved : {names : List Named} (v : Name) (d : Dims) (a b : ℕ) → a ≡ b → Listed names (entryOf v a d) → Listed names (entryOf v b d)
-moved {names} v d a b e l = subst (λ (n : ℕ). Listed names (entryOf v n d)) e l
+moved : (house : House) {names : List Named} (v : Name) (d : Dims) (a b : ℕ) → a ≡ b → Listed names (entryOf house v a d) → Listed names (entryOf house v b d)
+moved house {names} v d a b e l = subst (λ (n : ℕ). Listed names (entryOf house v n d)) e l
 
 -- a plain name's
-pub plain-listed : (held : List Held) (at : ℕ) (v : Name) → holds (isName v) held ≡ true → Listed (namesFrom at held) (entryOf v (at + firstCell (isName v) held) noDims)
-plain-listed [] at v e = absurd (false≢true e)
-plain-listed (name w ∷ held) at v e = go (sameName w v) refl e (plain-listed held (suc at) v)
+pub plain-listed : (house : House) (held : List Held) (at : ℕ) (v : Name) → holds (isName v) held ≡ true → Listed (namesFrom house at held) (entryOf house v (at + firstCell (isName v) held) noDims)
+plain-listed house [] at v e = absurd (false≢true e)
+plain-listed house (name w ∷ held) at v e = go (sameName w v) refl e (plain-listed house held (suc at) v)
   where
     go : (b : Bool) → sameName w v ≡ b → (b || holds (isName v) held) ≡ true →
-        (holds (isName v) held ≡ true → Listed (namesFrom (suc at) held) (entryOf v (suc at + firstCell (isName v) held) noDims)) →
-        Listed (namesFrom at (name w ∷ held)) (entryOf v (at + cond b 0 (1 + firstCell (isName v) held)) noDims)
+        (holds (isName v) held ≡ true → Listed (namesFrom house (suc at) held) (entryOf house v (suc at + firstCell (isName v) held) noDims)) →
+        Listed (namesFrom house at (name w ∷ held)) (entryOf house v (at + cond b 0 (1 + firstCell (isName v) held)) noDims)
     go true p q f =
-        moved v noDims at (at + 0) (omega arith)
-        (subst (λ (x : Name). Listed (namesFrom at (name w ∷ held)) (entryOf x at noDims)) (same-name w v p) (record { index = 0; is = refl }))
-    go false p q f = later _ (moved v noDims (suc at + firstCell (isName v) held) (at + (1 + firstCell (isName v) held)) (omega arith) (f q))
-plain-listed (array a ∷ held) at v e =
-    later _ (moved v noDims (at + arraySize (a .dims) + firstCell (isName v) held) (at + (arraySize (a .dims) + firstCell (isName v) held)) (omega arith)
-    (plain-listed held (at + arraySize (a .dims)) v e))
-plain-listed (hidden q ∷ held) at v e =
-    moved v noDims (at + 2 + firstCell (isName v) held) (at + (2 + firstCell (isName v) held)) (omega arith) (plain-listed held (at + 2) v e)
+        moved house v noDims at (at + 0) (omega arith)
+        (subst (λ (x : Name). Listed (namesFrom house at (name w ∷ held)) (entryOf house x at noDims)) (same-name w v p) (record { index = 0; is = refl }))
+    go false p q f = later _ (moved house v noDims (suc at + firstCell (isName v) held) (at + (1 + firstCell (isName v) held)) (omega arith) (f q))
+plain-listed house (array a ∷ held) at v e =
+    later _ (moved house v noDims (at + arraySize (a .dims) + firstCell (isName v) held) (at + (arraySize (a .dims) + firstCell (isName v) held)) (omega arith)
+    (plain-listed house held (at + arraySize (a .dims)) v e))
+plain-listed house (hidden q ∷ held) at v e =
+    moved house v noDims (at + 2 + firstCell (isName v) held) (at + (2 + firstCell (isName v) held)) (omega arith) (plain-listed house held (at + 2) v e)
 
 -- an array's
-pub array-listed : (held : List Held) (at : ℕ) (v : Name) → holds (isArray v) held ≡ true
-    → Listed (namesFrom at held) (entryOf v (at + firstCell (isArray v) held) (dimsIn (arraysHeld held) v))
-array-listed [] at v e = absurd (false≢true e)
-array-listed (array a ∷ held) at v e = go (sameName (a .name) v) refl e (array-listed held (at + arraySize (a .dims)) v)
+pub array-listed : (house : House) (held : List Held) (at : ℕ) (v : Name) → holds (isArray v) held ≡ true
+    → Listed (namesFrom house at held) (entryOf house v (at + firstCell (isArray v) held) (dimsIn (arraysHeld held) v))
+array-listed house [] at v e = absurd (false≢true e)
+array-listed house (array a ∷ held) at v e = go (sameName (a .name) v) refl e (array-listed house held (at + arraySize (a .dims)) v)
   where
     n : ℕ
     n = arraySize (a .dims)
 
     go : (b : Bool) → sameName (a .name) v ≡ b → (b || holds (isArray v) held) ≡ true →
-        (holds (isArray v) held ≡ true → Listed (namesFrom (at + n) held) (entryOf v (at + n + firstCell (isArray v) held) (dimsIn (arraysHeld held) v))) →
-        Listed (namesFrom at (array a ∷ held)) (entryOf v (at + cond b 0 (n + firstCell (isArray v) held)) (cond b (a .dims) (dimsIn (arraysHeld held) v)))
+        (holds (isArray v) held ≡ true → Listed (namesFrom house (at + n) held) (entryOf house v (at + n + firstCell (isArray v) held) (dimsIn (arraysHeld held) v))) →
+        Listed (namesFrom house at (array a ∷ held)) (entryOf house v (at + cond b 0 (n + firstCell (isArray v) held)) (cond b (a .dims) (dimsIn (arraysHeld held) v)))
     go true p q f =
-        moved v (a .dims) at (at + 0) (omega arith)
-        (subst (λ (x : Name). Listed (namesFrom at (array a ∷ held)) (entryOf x at (a .dims))) (same-name (a .name) v p) (record { index = 0; is = refl }))
+        moved house v (a .dims) at (at + 0) (omega arith)
+        (subst (λ (x : Name). Listed (namesFrom house at (array a ∷ held)) (entryOf house x at (a .dims))) (same-name (a .name) v p) (record { index = 0; is = refl }))
     go false p q f =
-        later _ (moved v (dimsIn (arraysHeld held) v) (at + n + firstCell (isArray v) held) (at + (n + firstCell (isArray v) held)) (omega arith) (f q))
-array-listed (name w ∷ held) at v e =
-    later _ (moved v (dimsIn (arraysHeld held) v) (suc at + firstCell (isArray v) held) (at + (1 + firstCell (isArray v) held)) (omega arith)
-    (array-listed held (suc at) v e))
-array-listed (hidden q ∷ held) at v e =
-    moved v (dimsIn (arraysHeld held) v) (at + 2 + firstCell (isArray v) held) (at + (2 + firstCell (isArray v) held)) (omega arith)
-    (array-listed held (at + 2) v e)
+        later _ (moved house v (dimsIn (arraysHeld held) v) (at + n + firstCell (isArray v) held) (at + (n + firstCell (isArray v) held)) (omega arith) (f q))
+array-listed house (name w ∷ held) at v e =
+    later _ (moved house v (dimsIn (arraysHeld held) v) (suc at + firstCell (isArray v) held) (at + (1 + firstCell (isArray v) held)) (omega arith)
+    (array-listed house held (suc at) v e))
+array-listed house (hidden q ∷ held) at v e =
+    moved house v (dimsIn (arraysHeld held) v) (at + 2 + firstCell (isArray v) held) (at + (2 + firstCell (isArray v) held)) (omega arith)
+    (array-listed house held (at + 2) v e)
 
 some-inj : {A : Type 0} {x y : A} → some x ≡ some y → x ≡ y
 some-inj e = cc
 
 -- every entry is a name's of the map
-pub record NameAt (held : List Held) (i : ℕ) (e : Named) : Type 0 where
+pub record NameAt (house : House) (held : List Held) (i : ℕ) (e : Named) : Type 0 where
   pub of : Name
   pub is : getElem? (namesHeld held) i ≡ some of
-  pub named : e .name ≡ filled of
+  pub named : e .name ≡ filled (house .nameBytes) of
 
-pub name-at : (held : List Held) (at i : ℕ) (e : Named) → getElem? (namesFrom at held) i ≡ some e → NameAt held i e
-name-at [] at i e f = absurd (let z : _≡_ {A = ℕ} 0 1 = cc in omega arith)
-name-at (name v ∷ held) at zero e f = record { of = v; is = refl; named = ap (λ (x : Named). x .name) (sym (some-inj f)) }
-name-at (name v ∷ held) at (suc i) e f = let r = name-at held (suc at) i e f in record { of = r .of; is = r .is; named = r .named }
-name-at (array a ∷ held) at zero e f = record { of = a .name; is = refl; named = ap (λ (x : Named). x .name) (sym (some-inj f)) }
-name-at (array a ∷ held) at (suc i) e f = let r = name-at held (at + arraySize (a .dims)) i e f in record { of = r .of; is = r .is; named = r .named }
-name-at (hidden q ∷ held) at i e f = let r = name-at held (at + 2) i e f in record { of = r .of; is = r .is; named = r .named }
+pub name-at : (house : House) (held : List Held) (at i : ℕ) (e : Named) → getElem? (namesFrom house at held) i ≡ some e → NameAt house held i e
+name-at house [] at i e f = absurd (let z : _≡_ {A = ℕ} 0 1 = cc in omega arith)
+name-at house (name v ∷ held) at zero e f = record { of = v; is = refl; named = ap (λ (x : Named). x .name) (sym (some-inj f)) }
+name-at house (name v ∷ held) at (suc i) e f = let r = name-at house held (suc at) i e f in record { of = r .of; is = r .is; named = r .named }
+name-at house (array a ∷ held) at zero e f = record { of = a .name; is = refl; named = ap (λ (x : Named). x .name) (sym (some-inj f)) }
+name-at house (array a ∷ held) at (suc i) e f = let r = name-at house held (at + arraySize (a .dims)) i e f in record { of = r .of; is = r .is; named = r .named }
+name-at house (hidden q ∷ held) at i e f = let r = name-at house held (at + 2) i e f in record { of = r .of; is = r .is; named = r .named }
 
 -- every array has a row
 pub record Full (held : List Held) : Type 0 where
@@ -186,44 +187,44 @@ pub record Inside (n : ℕ) (e : Named) : Type 0 where
 inside-more : {n m : ℕ} {e : Named} → n ≤ m → Inside n e → Inside m e
 inside-more h i = record { within = omega (arith, i .within); either = i .either }
 
-pub entry-inside : (held : List Held) (at i : ℕ) (e : Named) → Full held → getElem? (namesFrom at held) i ≡ some e → Inside (at + cellCount held) e
-entry-inside [] at i e g f = absurd (let z : _≡_ {A = ℕ} 0 1 = cc in omega arith)
-entry-inside (name v ∷ held) at zero e g f =
+pub entry-inside : (house : House) (held : List Held) (at i : ℕ) (e : Named) → Full held → getElem? (namesFrom house at held) i ≡ some e → Inside (at + cellCount held) e
+entry-inside house [] at i e g f = absurd (let z : _≡_ {A = ℕ} 0 1 = cc in omega arith)
+entry-inside house (name v ∷ held) at zero e g f =
     subst (λ (x : Named). Inside (at + cellCount (name v ∷ held)) x) (some-inj f) (record { within = omega arith; either = inl (refl, refl) })
-entry-inside (name v ∷ held) at (suc i) e g f = inside-more (omega arith) (entry-inside held (suc at) i e (full-tail g) f)
-entry-inside (array a ∷ held) at zero e g f =
+entry-inside house (name v ∷ held) at (suc i) e g f = inside-more (omega arith) (entry-inside house held (suc at) i e (full-tail g) f)
+entry-inside house (array a ∷ held) at zero e g f =
     let r = g .rows a here in
     subst (λ (x : Named). Inside (at + cellCount (array a ∷ held)) x) (some-inj f)
     (record { within = omega (arith, span-size (a .dims .rows) (a .dims .columns) r); either = inr r })
-entry-inside (array a ∷ held) at (suc i) e g f = inside-more (omega arith) (entry-inside held (at + arraySize (a .dims)) i e (full-tail g) f)
-entry-inside (hidden q ∷ held) at i e g f = inside-more (omega arith) (entry-inside held (at + 2) i e (full-tail g) f)
+entry-inside house (array a ∷ held) at (suc i) e g f = inside-more (omega arith) (entry-inside house held (at + arraySize (a .dims)) i e (full-tail g) f)
+entry-inside house (hidden q ∷ held) at i e g f = inside-more (omega arith) (entry-inside house held (at + 2) i e (full-tail g) f)
 
 -- ---- entries stand in cell order
 
-entry-from : (held : List Held) (at i : ℕ) (e : Named) → getElem? (namesFrom at held) i ≡ some e → at ≤ e .first
-entry-from [] at i e f = absurd (let z : _≡_ {A = ℕ} 0 1 = cc in omega arith)
-entry-from (name v ∷ held) at zero e f = subst (λ (x : Named). at ≤ x .first) (some-inj f) (omega arith)
-entry-from (name v ∷ held) at (suc i) e f = omega (arith, entry-from held (suc at) i e f)
-entry-from (array a ∷ held) at zero e f = subst (λ (x : Named). at ≤ x .first) (some-inj f) (omega arith)
-entry-from (array a ∷ held) at (suc i) e f = omega (arith, entry-from held (at + arraySize (a .dims)) i e f)
-entry-from (hidden q ∷ held) at i e f = omega (arith, entry-from held (at + 2) i e f)
+entry-from : (house : House) (held : List Held) (at i : ℕ) (e : Named) → getElem? (namesFrom house at held) i ≡ some e → at ≤ e .first
+entry-from house [] at i e f = absurd (let z : _≡_ {A = ℕ} 0 1 = cc in omega arith)
+entry-from house (name v ∷ held) at zero e f = subst (λ (x : Named). at ≤ x .first) (some-inj f) (omega arith)
+entry-from house (name v ∷ held) at (suc i) e f = omega (arith, entry-from house held (suc at) i e f)
+entry-from house (array a ∷ held) at zero e f = subst (λ (x : Named). at ≤ x .first) (some-inj f) (omega arith)
+entry-from house (array a ∷ held) at (suc i) e f = omega (arith, entry-from house held (at + arraySize (a .dims)) i e f)
+entry-from house (hidden q ∷ held) at i e f = omega (arith, entry-from house held (at + 2) i e f)
 
 -- the cells of an entry come before those of all entries after it
-pub entries-ordered : (held : List Held) (at i j : ℕ) (e l : Named) → Full held → i < j → getElem? (namesFrom at held) i ≡ some e → getElem? (namesFrom at held) j ≡ some l
+pub entries-ordered : (house : House) (held : List Held) (at i j : ℕ) (e l : Named) → Full held → i < j → getElem? (namesFrom house at held) i ≡ some e → getElem? (namesFrom house at held) j ≡ some l
     → e .first + span (e .rows) (e .columns) ≤ l .first
-entries-ordered [] at i j e l g h f k = absurd (let z : _≡_ {A = ℕ} 0 1 = cc in omega arith)
-entries-ordered (name v ∷ held) at i zero e l g h f k = absurd (omega arith)
-entries-ordered (name v ∷ held) at zero (suc j) e l g h f k =
-    subst (λ (x : Named). x .first + span (x .rows) (x .columns) ≤ l .first) (some-inj f) (omega (arith, entry-from held (suc at) j l k))
-entries-ordered (name v ∷ held) at (suc i) (suc j) e l g h f k = entries-ordered held (suc at) i j e l (full-tail g) (omega arith) f k
-entries-ordered (array a ∷ held) at i zero e l g h f k = absurd (omega arith)
-entries-ordered (array a ∷ held) at zero (suc j) e l g h f k =
+entries-ordered house [] at i j e l g h f k = absurd (let z : _≡_ {A = ℕ} 0 1 = cc in omega arith)
+entries-ordered house (name v ∷ held) at i zero e l g h f k = absurd (omega arith)
+entries-ordered house (name v ∷ held) at zero (suc j) e l g h f k =
+    subst (λ (x : Named). x .first + span (x .rows) (x .columns) ≤ l .first) (some-inj f) (omega (arith, entry-from house held (suc at) j l k))
+entries-ordered house (name v ∷ held) at (suc i) (suc j) e l g h f k = entries-ordered house held (suc at) i j e l (full-tail g) (omega arith) f k
+entries-ordered house (array a ∷ held) at i zero e l g h f k = absurd (omega arith)
+entries-ordered house (array a ∷ held) at zero (suc j) e l g h f k =
     subst (λ (x : Named). x .first + span (x .rows) (x .columns) ≤ l .first) (some-inj f)
-    (omega (arith, entry-from held (at + arraySize (a .dims)) j l k, span-size (a .dims .rows) (a .dims .columns) (g .rows a here)))
-entries-ordered (array a ∷ held) at (suc i) (suc j) e l g h f k = entries-ordered held (at + arraySize (a .dims)) i j e l (full-tail g) (omega arith) f k
-entries-ordered (hidden q ∷ held) at i j e l g h f k = entries-ordered held (at + 2) i j e l (full-tail g) h f k
+    (omega (arith, entry-from house held (at + arraySize (a .dims)) j l k, span-size (a .dims .rows) (a .dims .columns) (g .rows a here)))
+entries-ordered house (array a ∷ held) at (suc i) (suc j) e l g h f k = entries-ordered house held (at + arraySize (a .dims)) i j e l (full-tail g) (omega arith) f k
+entries-ordered house (hidden q ∷ held) at i j e l g h f k = entries-ordered house held (at + 2) i j e l (full-tail g) h f k
 
--- ---- eight bytes tell a name
+-- ---- as many bytes as it has characters, or more, tell a name
 
 abbrev pub NoBlank : Name → Type 0
 NoBlank v = Each (λ (c : ℕ). c ≡ 32 → ⊥) v
@@ -241,5 +242,8 @@ pad-inj (suc k) m (c ∷ v) (d ∷ w) h i (each-more p a) (each-more q b) e =
     let z = pad-inj k m v w (omega arith) (omega arith) a b x in
     cc
 
-pub filled-inj : (v w : Name) → length v ≤ 6 → length w ≤ 6 → NoBlank v → NoBlank w → filled v ≡ filled w → v ≡ w
-filled-inj v w h i a b e = pad-inj 8 7 v w (omega arith) (omega arith) a b e
+pub filled-inj : (bytes : ℕ) (v w : Name) → length v ≤ bytes → length w ≤ bytes → NoBlank v → NoBlank w → filled bytes v ≡ filled bytes w → v ≡ w
+filled-inj zero [] [] h i a b e = refl
+filled-inj zero [] (d ∷ w) h i a b e = absurd (omega arith)
+filled-inj zero (c ∷ v) w h i a b e = absurd (omega arith)
+filled-inj (suc m) v w h i a b e = pad-inj (suc m) m v w h i a b e

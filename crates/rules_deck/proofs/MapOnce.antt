@@ -9,6 +9,7 @@ use mathlib.Core.Option.{none, some}
 use lib.Dec.{leb}
 use lib.ListN.{getElem?, take}
 use borrow.Author.Tests.{leb-true, not-true}
+use Rattle.rules_shared.specs.House.{House}
 use Rattle.rules_shared.specs.Lists.{all}
 use Rattle.rules_deck.specs.Trees.{Name, valueOf, Array, Form, assign, goTo, computed, ifs, loop, continue, stop, end, dimension, Statement}
 use Rattle.rules_deck.specs.Deck.{sameName, Declared, declare, arraysIn}
@@ -94,20 +95,20 @@ some-rows : (a : Array) → someCells a ≡ true → 1 ≤ declare a .dims .rows
 some-rows (Array.array v r none) e = leb-true 1 (valueOf r) e
 some-rows (Array.array v r (some c)) e = leb-true 1 (valueOf r) (both-true (leb 1 (valueOf r)) (leb 1 (valueOf c)) e .0)
 
-once-arrays : (arrays : List Array) (held : List Held) → rightArrays held arrays ≡ true → Once held → Once (held ++ map (λ a. array (declare a)) arrays)
-once-arrays [] held e o = once-quiet held [] refl o
-once-arrays (a ∷ arrays) held e o =
+once-arrays : (inF : Bool) (arrays : List Array) (held : List Held) → rightArrays inF held arrays ≡ true → Once held → Once (held ++ map (λ a. array (declare a)) arrays)
+once-arrays inF [] held e o = once-quiet held [] refl o
+once-arrays inF (a ∷ arrays) held e o =
     let x = both-true (someCells a) _ e in
     let y = both-true (not (seen held (declare a .name))) _ (x .1) in
-    let z = both-true (not (endsInF (declare a .name))) _ (y .1) in
+    let z = both-true (inF || not (endsInF (declare a .name))) _ (y .1) in
     subst Once (append-assoc held (array (declare a) ∷ []) (map (λ a. array (declare a)) arrays))
-    (once-arrays arrays (held ++ (array (declare a) ∷ [])) (z .1) (once-array held (declare a) (not-true _ (y .0)) (some-rows a (x .0)) o))
+    (once-arrays inF arrays (held ++ (array (declare a) ∷ [])) (z .1) (once-array held (declare a) (not-true _ (y .0)) (some-rows a (x .0)) o))
 
-once-brings : (q : ℕ) (f : Form) (held : List Held) → right15 held f ≡ true → right16 held f ≡ true → Once held → Once (brings q f held)
+once-brings : (house : House) (q : ℕ) (f : Form) (held : List Held) → right15 house held f ≡ true → right16 held f ≡ true → Once held → Once (brings q f held)
 unfolding right15 right16 formPlain
-once-brings q f held e g o = go f (once-appear (formPlain f) held (λ v a. not-true _ (all-among (λ v. not (holds (isArray v) held)) (both-true (all (rightReference held) (formReferences f)) _ g .1) a)) o) e
+once-brings house q f held e g o = go f (once-appear (formPlain f) held (λ v a. not-true _ (all-among (λ v. not (holds (isArray v) held)) (both-true (all (rightReference held) (formReferences f)) _ g .1) a)) o) e
   where
-    go : (f : Form) → Once (appear held (formPlain f)) → rightArrays held (arraysIn f) ≡ true → Once (brings q f held)
+    go : (f : Form) → Once (appear held (formPlain f)) → rightArrays (house .arrayMayEndInF) held (arraysIn f) ≡ true → Once (brings q f held)
     go (assign t x) p r = once-quiet _ [] refl p
     go (goTo n) p r = once-quiet _ [] refl p
     go (computed ns v) p r = once-quiet _ [] refl p
@@ -116,7 +117,7 @@ once-brings q f held e g o = go f (once-appear (formPlain f) held (λ v a. not-t
     go continue p r = once-quiet _ [] refl p
     go stop p r = once-quiet _ [] refl p
     go end p r = once-quiet _ [] refl p
-    go (dimension arrays) p r = once-arrays arrays held r p
+    go (dimension arrays) p r = once-arrays (house .arrayMayEndInF) arrays held r p
 
 -- ---- a deck's
 
@@ -131,23 +132,23 @@ unfolding takenBefore
 before-held deck q = taken-held 0 (take q deck) nothingTaken
 
 -- each statement from position q on passes 15 and 16
-record Passing (q : ℕ) (deck : List Statement) (held : List Held) : Type 0 where
-  at : (j : ℕ) (s : Statement) → getElem? deck j ≡ some s → (right15 (heldFrom q (take j deck) held) (s .form) ≡ true) × (right16 (heldFrom q (take j deck) held) (s .form) ≡ true)
+record Passing (house : House) (q : ℕ) (deck : List Statement) (held : List Held) : Type 0 where
+  at : (j : ℕ) (s : Statement) → getElem? deck j ≡ some s → (right15 house (heldFrom q (take j deck) held) (s .form) ≡ true) × (right16 (heldFrom q (take j deck) held) (s .form) ≡ true)
 
-once-from : (q : ℕ) (deck : List Statement) (held : List Held) → Passing q deck held → Once held → Once (heldFrom q deck held)
-once-from q [] held p o = o
-once-from q (s ∷ deck) held p o =
+once-from : (house : House) (q : ℕ) (deck : List Statement) (held : List Held) → Passing house q deck held → Once held → Once (heldFrom q deck held)
+once-from house q [] held p o = o
+once-from house q (s ∷ deck) held p o =
     let e = p .at 0 s refl in
-    once-from (suc q) deck (brings q (s .form) held) (record { at = λ j t f. p .at (suc j) t f }) (once-brings q (s .form) held (e .0) (e .1) o)
+    once-from house (suc q) deck (brings q (s .form) held) (record { at = λ j t f. p .at (suc j) t f }) (once-brings house q (s .form) held (e .0) (e .1) o)
 
-pub once-held : (k : ℕ) (deck : List Statement) → Accepted k deck → Once (heldOf deck)
+pub once-held : (house : House) (deck : List Statement) → Accepted house deck → Once (heldOf deck)
 unfolding heldOf
-once-held k deck c = once-from 0 deck [] (record { at = at }) (record { distinct = none-yet; full = record { rows = λ a i. absurd (among-none i) } })
+once-held house deck c = once-from house 0 deck [] (record { at = at }) (record { distinct = none-yet; full = record { rows = λ a i. absurd (among-none i) } })
   where
-    at : (j : ℕ) (s : Statement) → getElem? deck j ≡ some s → (right15 (heldFrom 0 (take j deck) []) (s .form) ≡ true) × (right16 (heldFrom 0 (take j deck) []) (s .form) ≡ true)
+    at : (j : ℕ) (s : Statement) → getElem? deck j ≡ some s → (right15 house (heldFrom 0 (take j deck) []) (s .form) ≡ true) × (right16 (heldFrom 0 (take j deck) []) (s .form) ≡ true)
     at j s e =
         let i = c .judged j s e in
-        subst (λ (l : List Held). (right15 l (s .form) ≡ true) × (right16 l (s .form) ≡ true)) (before-held deck j) (i .passes15, i .passes16)
+        subst (λ (l : List Held). (right15 house l (s .form) ≡ true) × (right16 l (s .form) ≡ true)) (before-held deck j) (i .passes15, i .passes16)
 
 -- no name is both
 both-kinds : (held : List Held) (v : Name) → Distinct (namesHeld held) → holds (isName v) held ≡ true → holds (isArray v) held ≡ true → ⊥
@@ -164,5 +165,5 @@ both-kinds (array a ∷ held) v (new n d) e f = go (sameName (a .name) v) refl f
     go false p q r = r q
 both-kinds (hidden q ∷ held) v d e f = both-kinds held v d e f
 
-pub never-both : (k : ℕ) (deck : List Statement) → Accepted k deck → (v : Name) → holds (isName v) (heldOf deck) ≡ true → holds (isArray v) (heldOf deck) ≡ true → ⊥
-never-both k deck c v e f = both-kinds (heldOf deck) v (once-held k deck c .distinct) e f
+pub never-both : (house : House) (deck : List Statement) → Accepted house deck → (v : Name) → holds (isName v) (heldOf deck) ≡ true → holds (isArray v) (heldOf deck) ≡ true → ⊥
+never-both house deck c v e f = both-kinds (heldOf deck) v (once-held house deck c .distinct) e f

@@ -1,6 +1,6 @@
 -- An accepted deck's numbers, ends and ranges: 13 and 20 to 25 as propositions; its DOs lie one in another.
 -- Assumes nothing.
-use mathlib.Core.Path.{_≡_, ap, _∙_, subst}
+use mathlib.Core.Path.{_≡_, sym, ap, _∙_, subst}
 use Prim.Native.Nat.{ℕ, zero, suc, _≤_, _<_}
 use native.Mathlib.Omega.{arith}
 use mathlib.Core.Bool.{true, false, _&&_, not, false≢true}
@@ -10,13 +10,15 @@ use lib.Dec.{leb, ltb, eqb}
 use lib.ListN.{length, getElem?}
 use borrow.Author.Tests.{leb-true, ltb-true, eqb-true, lt-ltb, le-leb, ne-eqb, ltb-false, not-true}
 use Rattle.rules_shared.specs.Limits.{limits}
+use Rattle.rules_shared.specs.House.{House}
 use Rattle.rules_shared.specs.Lists.{all}
 use Rattle.rules_deck.specs.Trees.{Name, Digits, valueOf, Statement, formExits, formLast}
 use Rattle.rules_deck.specs.Deck.{sameName, positionOf, Do, dosOf, endings}
-use Rattle.rules_deck.specs.Judge.{right13}
+use Rattle.rules_deck.specs.Judge.{numberWithin}
 use Rattle.rules_deck.specs.Whole.{isEnd, endsWell, isDimension, right21, defined, right22, lastOf, inRange, mayEnd, mayEndAt, crosses, depth, staysOut, right24, formSets, right25}
 use Rattle.rules_deck.specs.Accepted.{Among, Accepted, InRange, Nested}
 use Rattle.rules_deck.proofs.CardsLaws.{and-both}
+use Rattle.rules_deck.proofs.Houses.{right13-all}
 use Rattle.rules_deck.proofs.TestLaws.{or-right, implies, not-both, both, all-among, among-left, among-right, at-before}
 use Rattle.rules_deck.proofs.DoLaws.{do-at, do-last, among-endings}
 use Rattle.rules_deck.proofs.PassedDeck.{passes20, ends-well, passes21, passes22, passes23, passes24, passes25}
@@ -44,7 +46,7 @@ last-statement (x ∷ []) e (suc j) s h n = let i = at-before [] j h in absurd (
 last-statement (x ∷ y ∷ deck) e zero s h n = absurd (omega arith)
 last-statement (x ∷ y ∷ deck) e (suc j) s h n = last-statement (y ∷ deck) e j s h (omega arith)
 
-module _ {k : ℕ} {deck : List Statement} (accepted : Accepted k deck) where
+module _ {house : House} {deck : List Statement} (accepted : Accepted house deck) where
   pub not-empty : 0 < length deck
   not-empty = some-statement deck (ends-well accepted)
 
@@ -60,9 +62,9 @@ module _ {k : ℕ} {deck : List Statement} (accepted : Accepted k deck) where
   -- 13
   pub small-number : (j : ℕ) (s : Statement) → getElem? deck j ≡ some s → (n : Digits) → Among n (formExits (s .form) ++ formLast (s .form)) →
       (0 < valueOf n) × (valueOf n ≤ limits .statementNumber)
-  unfolding right13
   small-number j s e n a =
-      let h = and-both (leb 1 (valueOf n)) (leb (valueOf n) (limits .statementNumber)) (all-among (λ n. leb 1 (valueOf n) && leb (valueOf n) (limits .statementNumber)) (accepted .judged j s e .passes13) a) in
+      let passes = sym (right13-all (accepted .lawful) (s .form)) ∙ accepted .judged j s e .passes13 in
+      let h = and-both (leb 1 (valueOf n)) (leb (valueOf n) (limits .statementNumber)) (all-among (numberWithin false) passes a) in
       (leb-true 1 (valueOf n) (h .0), leb-true (valueOf n) (limits .statementNumber) (h .1))
 
   -- 21: a number other than 0 is defined once, and on no DIMENSION or END

@@ -9,6 +9,7 @@ use mathlib.Core.List.{List, [], _∷_, _++_}
 use mathlib.Core.Option.{Option, none, some}
 use lib.Dec.{leb}
 use lib.ListN.{length}
+use Rattle.rules_shared.specs.House.{House}
 use Rattle.rules_object.specs.Bytes.{objectBytes}
 use Rattle.rules_shared.specs.Refusals.{Refusal, refusal}
 use Rattle.rules_shared.specs.Output.{writtenIf, write}
@@ -26,35 +27,35 @@ use Rattle.rules_deck.proofs.Spellings.{none-spelled, none-read}
 -- ---- where 10 is given, the text spells none
 
 -- of the statements ps, the first at position q with t taken before it, the one whose sequence number is the place
-record NoneAt (k q : ℕ) (t : Taken) (ps : List Punched) (place : ℕ) : Type 0 where
+record NoneAt (house : House) (q : ℕ) (t : Taken) (ps : List Punched) (place : ℕ) : Type 0 where
   before : List Punched
   statement : Punched
   after : List Punched
   are : ps ≡ before ++ statement ∷ after
   there : place ≡ suc (q + length before)
   passed : List Statement
-  passes : readFrom k q t before ≡ read passed
+  passes : readFrom house q t before ≡ read passed
   written : textOf (statement .raw) ≡ [] → ⊥
   spelled : (f : Form) → Spells (textOf (statement .raw)) f → ⊥
 
-abbrev Ten : ℕ → ℕ → Taken → List Punched → Read → Type 0
-Ten k q t ps (notRead r) = r .number ≡ 10 → NoneAt k q t ps (r .place)
-Ten k q t ps (read deck) = Unit {0}
+abbrev Ten : House → ℕ → Taken → List Punched → Read → Type 0
+Ten house q t ps (notRead r) = r .number ≡ 10 → NoneAt house q t ps (r .place)
+Ten house q t ps (read deck) = Unit {0}
 
 some-text : {c : ℕ} {text : List ℕ} → c ∷ text ≡ [] → ⊥
 some-text e = let clash : _≡_ {A = ℕ} 0 1 = cc in omega arith
 
 -- a statement that passes leaves 10 to those after it
-module _ (k q : ℕ) (t : Taken) (p : Punched) (ps : List Punched) (c : ℕ) (text : List ℕ) (is : textOf (p .raw) ≡ c ∷ text) where
+module _ (house : House) (q : ℕ) (t : Taken) (p : Punched) (ps : List Punched) (c : ℕ) (text : List ℕ) (is : textOf (p .raw) ≡ c ∷ text) where
   module _ (f : Form) (reads : formOf (c ∷ text) ≡ some f) where
     abbrev s : Statement
     s = record { number = p .number; form = f }
 
-    later : (x : Read) → judgeForm k q f t ≡ none → Ten k (suc q) (takes q f t) ps x → Ten k q t (p ∷ ps) (withStatement s x)
+    later : (x : Read) → judgeForm house q f t ≡ none → Ten house (suc q) (takes q f t) ps x → Ten house q t (p ∷ ps) (withStatement s x)
     later (read deck) j h = tt
     later (notRead r) j h = λ e.
         let n = h e in
-        let rest : Taken → Read = λ u. readFrom k (suc q) u (n .before) in
+        let rest : Taken → Read = λ u. readFrom house (suc q) u (n .before) in
         let there = n .there in
         record {
           before = p ∷ n .before;
@@ -63,21 +64,21 @@ module _ (k q : ℕ) (t : Taken) (p : Punched) (ps : List Punched) (c : ℕ) (te
           are = ap (λ (l : List Punched). p ∷ l) (n .are);
           there = omega arith;
           passed = s ∷ n .passed;
-          passes = ap (readText k q (p .number) t rest) is
-              ∙ ap (afterReading k q (p .number) t rest) reads
+          passes = ap (readText house q (p .number) t rest) is
+              ∙ ap (afterReading house q (p .number) t rest) reads
               ∙ ap (afterJudging q s (rest (takes q f t))) j
               ∙ ap (withStatement s) (n .passes);
           written = n .written;
           spelled = n .spelled;
         }
 
-    judging-ten : (o : Option ℕ) → judgeForm k q f t ≡ o → NumberOther o → Ten k (suc q) (takes q f t) ps (readFrom k (suc q) (takes q f t) ps)
-        → Ten k q t (p ∷ ps) (afterJudging q s (readFrom k (suc q) (takes q f t) ps) o)
-    judging-ten none j n h = later (readFrom k (suc q) (takes q f t) ps) j h
+    judging-ten : (o : Option ℕ) → judgeForm house q f t ≡ o → NumberOther o → Ten house (suc q) (takes q f t) ps (readFrom house (suc q) (takes q f t) ps)
+        → Ten house q t (p ∷ ps) (afterJudging q s (readFrom house (suc q) (takes q f t) ps) o)
+    judging-ten none j n h = later (readFrom house (suc q) (takes q f t) ps) j h
     judging-ten (some number) j n h = λ e. absurd (n .2 e)
 
-  reading-ten : (o : Option Form) → formOf (c ∷ text) ≡ o → ((u : Taken) → Ten k (suc q) u ps (readFrom k (suc q) u ps))
-      → Ten k q t (p ∷ ps) (afterReading k q (p .number) t (λ u. readFrom k (suc q) u ps) o)
+  reading-ten : (o : Option Form) → formOf (c ∷ text) ≡ o → ((u : Taken) → Ten house (suc q) u ps (readFrom house (suc q) u ps))
+      → Ten house q t (p ∷ ps) (afterReading house q (p .number) t (λ u. readFrom house (suc q) u ps) o)
   reading-ten none e h = λ x.
       record {
         before = [];
@@ -90,26 +91,26 @@ module _ (k q : ℕ) (t : Taken) (p : Punched) (ps : List Punched) (c : ℕ) (te
         written = λ w. some-text (sym is ∙ w);
         spelled = λ f s. none-spelled (c ∷ text) e f (subst (λ (w : List ℕ). Spells w f) is s);
       }
-  reading-ten (some f) e h = judging-ten f e (judgeForm k q f t) refl (judge-other k q f t) (h (takes q f t))
+  reading-ten (some f) e h = judging-ten f e (judgeForm house q f t) refl (judge-other house q f t) (h (takes q f t))
 
-from-ten : (k q : ℕ) (t : Taken) (ps : List Punched) → Ten k q t ps (readFrom k q t ps)
-from-ten k q t [] = tt
-from-ten k q t (p ∷ ps) = by (textOf (p .raw)) refl (λ u. from-ten k (suc q) u ps)
+from-ten : (house : House) (q : ℕ) (t : Taken) (ps : List Punched) → Ten house q t ps (readFrom house q t ps)
+from-ten house q t [] = tt
+from-ten house q t (p ∷ ps) = by (textOf (p .raw)) refl (λ u. from-ten house (suc q) u ps)
   where
-    by : (text : List ℕ) → textOf (p .raw) ≡ text → ((u : Taken) → Ten k (suc q) u ps (readFrom k (suc q) u ps))
-        → Ten k q t (p ∷ ps) (readText k q (p .number) t (λ u. readFrom k (suc q) u ps) text)
+    by : (text : List ℕ) → textOf (p .raw) ≡ text → ((u : Taken) → Ten house (suc q) u ps (readFrom house (suc q) u ps))
+        → Ten house q t (p ∷ ps) (readText house q (p .number) t (λ u. readFrom house (suc q) u ps) text)
     by [] e h = λ x. absurd (omega arith)
-    by (c ∷ text) e h = reading-ten k q t p ps c text e (formOf (c ∷ text)) refl h
+    by (c ∷ text) e h = reading-ten house q t p ps c text e (formOf (c ∷ text)) refl h
 
-refused-ten : (k : ℕ) (deck : List ℕ) (q : ℕ) → deckOf k deck ≡ notRead (refusal 10 (suc q) 0) → NoForm k deck q
+refused-ten : (house : House) (deck : List ℕ) (q : ℕ) → deckOf house deck ≡ notRead (refusal 10 (suc q) 0) → NoForm house deck q
 unfolding deckOf
-refused-ten k deck q e = by-cards (carded k deck) refl (carded-other k deck) e
+refused-ten house deck q e = by-cards (carded house deck) refl (carded-other house deck) e
   where
     by-deck : (ss : List Statement) (o : Option Refusal) → RefusalOther o → orRefuse ss o ≡ notRead (refusal 10 (suc q) 0) → ⊥
     by-deck ss none h f = let clash : _≡_ {A = ℕ} 0 1 = cc in omega arith
     by-deck ss (some x) h f = let same : x ≡ refusal 10 (suc q) 0 = cc in h .2 (ap (λ (y : Refusal). y .number) same)
 
-    by-read : (ps : List Punched) → carded k deck ≡ statements ps → (x : Read) → Ten k 0 nothingTaken ps x → judgeRead x ≡ notRead (refusal 10 (suc q) 0) → NoForm k deck q
+    by-read : (ps : List Punched) → carded house deck ≡ statements ps → (x : Read) → Ten house 0 nothingTaken ps x → judgeRead x ≡ notRead (refusal 10 (suc q) 0) → NoForm house deck q
     by-read ps is (notRead x) h f =
         let same : x ≡ refusal 10 (suc q) 0 = cc in
         let number : x .number ≡ 10 = ap (λ (y : Refusal). y .number) same in
@@ -129,11 +130,11 @@ refused-ten k deck q e = by-cards (carded k deck) refl (carded-other k deck) e
         }
     by-read ps is (read ss) h f = absurd (by-deck ss (judgeDeck ss) (deck-other ss) f)
 
-    by-cards : (c : Carded) → carded k deck ≡ c → CardedOther c → judgeRead (readCarded k c) ≡ notRead (refusal 10 (suc q) 0) → NoForm k deck q
+    by-cards : (c : Carded) → carded house deck ≡ c → CardedOther c → judgeRead (readCarded house c) ≡ notRead (refusal 10 (suc q) 0) → NoForm house deck q
     by-cards (cardsRefused number place) is h f =
         let same : refusal number place 0 ≡ refusal 10 (suc q) 0 = cc in
         absurd (h .2 (ap (λ (y : Refusal). y .number) same))
-    by-cards (statements ps) is h f = by-read ps is (readFrom k 0 nothingTaken ps) (from-ten k 0 nothingTaken ps) f
+    by-cards (statements ps) is h f = by-read ps is (readFrom house 0 nothingTaken ps) (from-ten house 0 nothingTaken ps) f
 
 -- ---- where the text spells none, 10 is given
 
@@ -143,7 +144,7 @@ not-both e =
     omega arith
 
 -- a statement that passes leaves the answer to those after it
-module _ (k q number : ℕ) (t : Taken) (rest rest′ : Taken → Read) (r : Refusal) (h : (u : Taken) (deck : List Statement) → rest u ≡ read deck → rest′ u ≡ notRead r) where
+module _ (house : House) (q number : ℕ) (t : Taken) (rest rest′ : Taken → Read) (r : Refusal) (h : (u : Taken) (deck : List Statement) → rest u ≡ read deck → rest′ u ≡ notRead r) where
   passed : (s : Statement) (u : Taken) (x : Read) (deck : List Statement) → rest u ≡ x → withStatement s x ≡ read deck → withStatement s (rest′ u) ≡ notRead r
   passed s u (notRead y) deck is e = absurd (not-both e)
   passed s u (read d) deck is e = ap (withStatement s) (h u d is)
@@ -152,53 +153,53 @@ module _ (k q number : ℕ) (t : Taken) (rest rest′ : Taken → Read) (r : Ref
   judged s u none deck e = passed s u (rest u) deck refl e
   judged s u (some n) deck e = absurd (not-both e)
 
-  formed : (o : Option Form) (deck : List Statement) → afterReading k q number t rest o ≡ read deck → afterReading k q number t rest′ o ≡ notRead r
+  formed : (o : Option Form) (deck : List Statement) → afterReading house q number t rest o ≡ read deck → afterReading house q number t rest′ o ≡ notRead r
   formed none deck e = absurd (not-both e)
-  formed (some f) deck e = judged _ (takes q f t) (judgeForm k q f t) deck e
+  formed (some f) deck e = judged _ (takes q f t) (judgeForm house q f t) deck e
 
-  texted : (text : List ℕ) (deck : List Statement) → readText k q number t rest text ≡ read deck → readText k q number t rest′ text ≡ notRead r
+  texted : (text : List ℕ) (deck : List Statement) → readText house q number t rest text ≡ read deck → readText house q number t rest′ text ≡ notRead r
   texted [] deck e = absurd (not-both e)
   texted (c ∷ text) deck e = formed (formOf (c ∷ text)) deck e
 
-module _ (k : ℕ) (p : Punched) (after : List Punched) (written : textOf (p .raw) ≡ [] → ⊥) (spelled : (f : Form) → Spells (textOf (p .raw)) f → ⊥) where
+module _ (house : House) (p : Punched) (after : List Punched) (written : textOf (p .raw) ≡ [] → ⊥) (spelled : (f : Form) → Spells (textOf (p .raw)) f → ⊥) where
   -- a text that spells no form is refused 10, whatever stands before and after it
-  text-refused : (q number : ℕ) (t : Taken) (rest : Taken → Read) → readText k q number t rest (textOf (p .raw)) ≡ notRead (refusal 10 (suc q) 0)
+  text-refused : (q number : ℕ) (t : Taken) (rest : Taken → Read) → readText house q number t rest (textOf (p .raw)) ≡ notRead (refusal 10 (suc q) 0)
   text-refused q number t rest = by (textOf (p .raw)) written spelled
     where
-      by : (text : List ℕ) → (text ≡ [] → ⊥) → ((f : Form) → Spells text f → ⊥) → readText k q number t rest text ≡ notRead (refusal 10 (suc q) 0)
+      by : (text : List ℕ) → (text ≡ [] → ⊥) → ((f : Form) → Spells text f → ⊥) → readText house q number t rest text ≡ notRead (refusal 10 (suc q) 0)
       by [] w s = absurd (w refl)
-      by (c ∷ text) w s = ap (afterReading k q number t rest) (none-read (c ∷ text) s)
+      by (c ∷ text) w s = ap (afterReading house q number t rest) (none-read (c ∷ text) s)
 
-  given-ten : (q : ℕ) (t : Taken) (before : List Punched) (deck : List Statement) → readFrom k q t before ≡ read deck
-      → readFrom k q t (before ++ p ∷ after) ≡ notRead (refusal 10 (suc (q + length before)) 0)
+  given-ten : (q : ℕ) (t : Taken) (before : List Punched) (deck : List Statement) → readFrom house q t before ≡ read deck
+      → readFrom house q t (before ++ p ∷ after) ≡ notRead (refusal 10 (suc (q + length before)) 0)
   given-ten q t [] deck e =
       let here : q ≡ q + 0 = omega arith in
-      text-refused q (p .number) t (λ u. readFrom k (suc q) u after) ∙ ap (λ (n : ℕ). notRead (refusal 10 (suc n) 0)) here
+      text-refused q (p .number) t (λ u. readFrom house (suc q) u after) ∙ ap (λ (n : ℕ). notRead (refusal 10 (suc n) 0)) here
   given-ten q t (b ∷ before) deck e =
       let here : suc q + length before ≡ q + suc (length before) = omega arith in
-      texted k q (b .number) t (λ u. readFrom k (suc q) u before) (λ u. readFrom k (suc q) u (before ++ p ∷ after)) _
+      texted house q (b .number) t (λ u. readFrom house (suc q) u before) (λ u. readFrom house (suc q) u (before ++ p ∷ after)) _
       (λ u d f. given-ten (suc q) u before d f) (textOf (b .raw)) deck e
       ∙ ap (λ (n : ℕ). notRead (refusal 10 (suc n) 0)) here
 
-gives-ten : (k : ℕ) (deck : List ℕ) (q : ℕ) → NoForm k deck q → deckOf k deck ≡ notRead (refusal 10 (suc q) 0)
+gives-ten : (house : House) (deck : List ℕ) (q : ℕ) → NoForm house deck q → deckOf house deck ≡ notRead (refusal 10 (suc q) 0)
 unfolding deckOf
-gives-ten k deck q n =
+gives-ten house deck q n =
     let here : 0 + length (n .before) ≡ q = omega (arith, n .position) in
-    ap (λ (x : Carded). judgeRead (readCarded k x)) (n .cards)
-    ∙ ap judgeRead (given-ten k (n .statement) (n .after) (n .written) (n .spelled) 0 nothingTaken (n .before) (n .passed) (n .passes))
+    ap (λ (x : Carded). judgeRead (readCarded house x)) (n .cards)
+    ∙ ap judgeRead (given-ten house (n .statement) (n .after) (n .written) (n .spelled) 0 nothingTaken (n .before) (n .passed) (n .passes))
     ∙ ap (λ (m : ℕ). notRead (refusal 10 (suc m) 0)) here
 
 -- ---- the call
 
 -- A DECK IS REFUSED 10 EXACTLY AT A STATEMENT WHOSE TEXT SPELLS NO FORM
-pub ten-exactly : (k : ℕ) (deck output : List ℕ) (q : ℕ) → (compiling k deck output .refusal ≡ refusal 10 (suc q) 0) ↔ NoForm k deck q
+pub ten-exactly : (house : House) (deck output : List ℕ) (q : ℕ) → (compiling house deck output .refusal ≡ refusal 10 (suc q) 0) ↔ NoForm house deck q
 unfolding compiling write
-ten-exactly k deck output q = (λ e. refused-ten k deck q (unread (deckOf k deck) refl e), λ n. ap (λ (x : Read). writeRead k output x .refusal) (gives-ten k deck q n))
+ten-exactly house deck output q = (λ e. refused-ten house deck q (unread (deckOf house deck) refl e), λ n. ap (λ (x : Read). writeRead house output x .refusal) (gives-ten house deck q n))
   where
     not-written : (b : Bool) (bytes : List ℕ) → writtenIf b bytes output .refusal ≡ refusal 10 (suc q) 0 → ⊥
     not-written true bytes e = let number : _≡_ {A = ℕ} 0 10 = ap (λ (y : Refusal). y .number) e in omega arith
     not-written false bytes e = let number : _≡_ {A = ℕ} 30 10 = ap (λ (y : Refusal). y .number) e in omega arith
 
-    unread : (x : Read) → deckOf k deck ≡ x → writeRead k output x .refusal ≡ refusal 10 (suc q) 0 → deckOf k deck ≡ notRead (refusal 10 (suc q) 0)
+    unread : (x : Read) → deckOf house deck ≡ x → writeRead house output x .refusal ≡ refusal 10 (suc q) 0 → deckOf house deck ≡ notRead (refusal 10 (suc q) 0)
     unread (notRead r) is e = is ∙ ap notRead e
-    unread (read ss) is e = absurd (not-written (leb (length (objectBytes (translate k ss))) (length output)) (objectBytes (translate k ss)) e)
+    unread (read ss) is e = absurd (not-written (leb (length (objectBytes (translate house ss))) (length output)) (objectBytes (translate house ss)) e)

@@ -7,6 +7,7 @@ use mathlib.Core.List.{List, _∷_}
 use mathlib.Core.Option.{none, some}
 use lib.Dec.{eqb}
 use lib.ListN.{length, getElem?}
+use Rattle.rules_shared.specs.House.{House}
 use Rattle.rules_deck.specs.Trees.{Statement}
 use Rattle.rules_deck.specs.Deck.{Do, dosOf}
 use Rattle.rules_deck.specs.Whole.{firstWrong, isEnd, endsWell, refused20, right21, right22, rightDo, firstWrongDo, right24, right25, refusedAt, judgeDeck}
@@ -22,9 +23,9 @@ record Passes (deck : List Statement) : Type 0 where
   is24 : firstWrong (right24 deck) 0 deck ≡ none
   is25 : firstWrong (right25 deck) 0 deck ≡ none
 
-passes : {k : ℕ} {deck : List Statement} → Accepted k deck → Passes deck
+passes : {house : House} {deck : List Statement} → Accepted house deck → Passes deck
 unfolding judgeDeck
-passes {k} {deck} h =
+passes {house} {deck} h =
     let a = else-both (refusedAt 20 (refused20 deck)) _ (h .whole) in
     let b = else-both (refusedAt 21 (firstWrong (right21 deck) 0 deck)) _ (a .1) in
     let c = else-both (refusedAt 22 (firstWrong (right22 deck) 0 deck)) _ (b .1) in
@@ -43,7 +44,7 @@ each-do : (deck : List Statement) (ds : List Do) → firstWrongDo deck ds ≡ no
 each-do deck (x ∷ ds) e here = cond-none (rightDo deck x) (firstWrongDo deck ds) (suc (x .position)) e .0
 each-do deck (x ∷ ds) e (there a) = each-do deck ds (cond-none (rightDo deck x) (firstWrongDo deck ds) (suc (x .position)) e .1) a
 
-module _ {k : ℕ} {deck : List Statement} (accepted : Accepted k deck) where
+module _ {house : House} {deck : List Statement} (accepted : Accepted house deck) where
   pub passes20 : (j : ℕ) (s : Statement) → getElem? deck j ≡ some s → (not (isEnd (s .form)) || eqb (suc j) (length deck)) ≡ true
   unfolding refused20
   passes20 = each-right (λ q s. not (isEnd (s .form)) || eqb (suc q) (length deck)) deck (else-both _ _ (passes accepted .is20) .0)

@@ -10,6 +10,7 @@ use lib.Dec.{eqb, leb}
 use lib.ListN.{length}
 use borrow.Author.Tests.{eqb-false}
 use Rattle.rules_shared.specs.Limits.{limits}
+use Rattle.rules_shared.specs.House.{House}
 use Rattle.rules_object.specs.Check.{blanks}
 use Rattle.rules_shared.specs.Refusals.{Refusal, orElse}
 use Rattle.rules_deck.specs.Trees.{Form, Statement}
@@ -58,11 +59,11 @@ card-small room card =
     (either-small (blanks (numberColumns card)) (cond (eqb room 0) 5 0) 4 (either-small (eqb room 0) 5 0 (omega arith) (omega arith)) (omega arith)))
     (omega arith))
 
-card-other : (place : ℕ) (r : Reading) (cards : List (List ℕ)) → CardedOther (cardByCard place r cards)
-card-other place r [] = tt
-card-other place r (card ∷ cards) =
-    cases CardedOther (eqb (wrongCard (r .room) card) 0) (cardByCard (suc place) (afterCard r card) cards) (cardsRefused (wrongCard (r .room) card) place)
-    (λ e. card-other (suc place) (afterCard r card) cards)
+card-other : (house : House) (place : ℕ) (r : Reading) (cards : List (List ℕ)) → CardedOther (cardByCard house place r cards)
+card-other house place r [] = tt
+card-other house place r (card ∷ cards) =
+    cases CardedOther (eqb (wrongCard (r .room) card) 0) (cardByCard house (suc place) (afterCard house r card) cards) (cardsRefused (wrongCard (r .room) card) place)
+    (λ e. card-other house (suc place) (afterCard house r card) cards)
     (λ e. other (wrongCard (r .room) card) (eqb-false (wrongCard (r .room) card) 0 e) (card-small (r .room) card))
   where
     other : (n : ℕ) → (n ≡ 0 → ⊥) → n ≤ 5 → Other n
@@ -74,11 +75,11 @@ counted-other (cardsRefused number place) h = h
 counted-other (statements ps) h =
     cases CardedOther (leb (length ps) (limits .statements)) (statements ps) (cardsRefused 7 0) (λ e. tt) (λ e. omega arith)
 
-pub carded-other : (k : ℕ) (bytes : List ℕ) → CardedOther (carded k bytes)
+pub carded-other : (house : House) (bytes : List ℕ) → CardedOther (carded house bytes)
 unfolding carded
-carded-other k bytes =
-    cases CardedOther (rightDigits k) (cond (rightLength bytes) (counted (cardByCard 1 nothingRead (cardsOf bytes))) (cardsRefused 2 0)) (cardsRefused 1 0)
-    (λ e. cases CardedOther (rightLength bytes) (counted (cardByCard 1 nothingRead (cardsOf bytes))) (cardsRefused 2 0) (λ f. counted-other (cardByCard 1 nothingRead (cardsOf bytes)) (card-other 1 nothingRead (cardsOf bytes))) (λ f. omega arith))
+carded-other house bytes =
+    cases CardedOther (rightDigits house) (cond (rightLength bytes) (counted (cardByCard house 1 nothingRead (cardsOf bytes))) (cardsRefused 2 0)) (cardsRefused 1 0)
+    (λ e. cases CardedOther (rightLength bytes) (counted (cardByCard house 1 nothingRead (cardsOf bytes))) (cardsRefused 2 0) (λ f. counted-other (cardByCard house 1 nothingRead (cardsOf bytes)) (card-other house 1 nothingRead (cardsOf bytes))) (λ f. omega arith))
     (λ e. omega arith)
 
 -- ---- statements
@@ -91,14 +92,14 @@ or-other : (a b : Option ℕ) → NumberOther a → NumberOther b → NumberOthe
 or-other none b p q = q
 or-other (some n) b p q = p
 
-pub judge-other : (k q : ℕ) (f : Form) (t : Taken) → NumberOther (judgeForm k q f t)
+pub judge-other : (house : House) (q : ℕ) (f : Form) (t : Taken) → NumberOther (judgeForm house q f t)
 unfolding judgeForm
-judge-other k q f t =
-    or-other (wrong (right11 f) 11) _ (wrong-other (right11 f) 11 (omega arith))
-    (or-other (wrong (right12 k f) 12) _ (wrong-other (right12 k f) 12 (omega arith))
-    (or-other (wrong (right13 f) 13) _ (wrong-other (right13 f) 13 (omega arith))
+judge-other house q f t =
+    or-other (wrong (right11 house f) 11) _ (wrong-other (right11 house f) 11 (omega arith))
+    (or-other (wrong (right12 house f) 12) _ (wrong-other (right12 house f) 12 (omega arith))
+    (or-other (wrong (right13 house f) 13) _ (wrong-other (right13 house f) 13 (omega arith))
     (or-other (wrong (right14 f) 14) _ (wrong-other (right14 f) 14 (omega arith))
-    (or-other (wrong (right15 (t .held) f) 15) _ (wrong-other (right15 (t .held) f) 15 (omega arith))
+    (or-other (wrong (right15 house (t .held) f) 15) _ (wrong-other (right15 house (t .held) f) 15 (omega arith))
     (or-other (wrong (right16 (t .held) f) 16) _ (wrong-other (right16 (t .held) f) 16 (omega arith)) (wrong-other (right18 (takes q f t)) 18 (omega arith)))))))
 
 with-numbered : (s : Statement) (r : Read) → ReadNumbered r → ReadNumbered (withStatement s r)
@@ -109,21 +110,21 @@ judging-numbered : (q : ℕ) (s : Statement) (rest : Read) (o : Option ℕ) → 
 judging-numbered q s rest none h r = with-numbered s rest r
 judging-numbered q s rest (some n) h r = (h .0, h .1)
 
-reading-numbered : (k q number : ℕ) (t : Taken) (rest : Taken → Read) (o : Option Form) → ((u : Taken) → ReadNumbered (rest u)) → ReadNumbered (afterReading k q number t rest o)
-reading-numbered k q number t rest none r = omega arith
-reading-numbered k q number t rest (some f) r = judging-numbered q _ _ (judgeForm k q f t) (judge-other k q f t) (r (takes q f t))
+reading-numbered : (house : House) (q number : ℕ) (t : Taken) (rest : Taken → Read) (o : Option Form) → ((u : Taken) → ReadNumbered (rest u)) → ReadNumbered (afterReading house q number t rest o)
+reading-numbered house q number t rest none r = omega arith
+reading-numbered house q number t rest (some f) r = judging-numbered q _ _ (judgeForm house q f t) (judge-other house q f t) (r (takes q f t))
 
-text-numbered : (k q number : ℕ) (t : Taken) (rest : Taken → Read) (text : List ℕ) → ((u : Taken) → ReadNumbered (rest u)) → ReadNumbered (readText k q number t rest text)
-text-numbered k q number t rest [] r = omega arith
-text-numbered k q number t rest (c ∷ text) r = reading-numbered k q number t rest (formOf (c ∷ text)) r
+text-numbered : (house : House) (q number : ℕ) (t : Taken) (rest : Taken → Read) (text : List ℕ) → ((u : Taken) → ReadNumbered (rest u)) → ReadNumbered (readText house q number t rest text)
+text-numbered house q number t rest [] r = omega arith
+text-numbered house q number t rest (c ∷ text) r = reading-numbered house q number t rest (formOf (c ∷ text)) r
 
-from-numbered : (k q : ℕ) (t : Taken) (ps : List Punched) → ReadNumbered (readFrom k q t ps)
-from-numbered k q t [] = tt
-from-numbered k q t (p ∷ more) = text-numbered k q (p .number) t (λ u. readFrom k (suc q) u more) (textOf (p .raw)) (λ u. from-numbered k (suc q) u more)
+from-numbered : (house : House) (q : ℕ) (t : Taken) (ps : List Punched) → ReadNumbered (readFrom house q t ps)
+from-numbered house q t [] = tt
+from-numbered house q t (p ∷ more) = text-numbered house q (p .number) t (λ u. readFrom house (suc q) u more) (textOf (p .raw)) (λ u. from-numbered house (suc q) u more)
 
-read-numbered : (k : ℕ) (c : Carded) → CardedOther c → ReadNumbered (readCarded k c)
-read-numbered k (cardsRefused number place) h = (h .0, h .1)
-read-numbered k (statements ps) h = from-numbered k 0 nothingTaken ps
+read-numbered : (house : House) (c : Carded) → CardedOther c → ReadNumbered (readCarded house c)
+read-numbered house (cardsRefused number place) h = (h .0, h .1)
+read-numbered house (statements ps) h = from-numbered house 0 nothingTaken ps
 
 -- ---- the deck
 
@@ -153,6 +154,6 @@ judged-numbered : (r : Read) → ReadNumbered r → ReadNumbered (judgeRead r)
 judged-numbered (notRead r) h = h
 judged-numbered (read deck) h = refuse-numbered deck (judgeDeck deck) (deck-other deck)
 
-pub refused-numbered : (k : ℕ) (bytes : List ℕ) → ReadNumbered (deckOf k bytes)
+pub refused-numbered : (house : House) (bytes : List ℕ) → ReadNumbered (deckOf house bytes)
 unfolding deckOf
-refused-numbered k bytes = judged-numbered (readCarded k (carded k bytes)) (read-numbered k (carded k bytes) (carded-other k bytes))
+refused-numbered house bytes = judged-numbered (readCarded house (carded house bytes)) (read-numbered house (carded house bytes) (carded-other house bytes))

@@ -1,7 +1,7 @@
 -- What stands in each of the seven lists of an accepted deck's object.
 -- Assumes nothing.
 use mathlib.Core.Path.{_≡_, refl}
-use Prim.Native.Nat.{ℕ, suc, _+_, _-_, _*_, _^_, _≤_, _<_}
+use Prim.Native.Nat.{ℕ, suc, _+_, _-_, _*_, _≤_, _<_}
 use native.Mathlib.Nat.{zero-add}
 use native.Mathlib.Omega.{arith}
 use mathlib.Core.Bool.{Bool, true, false, _&&_, cond}
@@ -10,14 +10,15 @@ use mathlib.Core.Option.{some}
 use lib.Dec.{leb, eqb}
 use lib.ListN.{length, getElem?}
 use borrow.Author.Tests.{leb-true}
+use Rattle.number.specs.Number.{ceiling}
 use Rattle.rules_shared.specs.Limits.{limits}
+use Rattle.rules_shared.specs.House.{House}
 use Rattle.rules_object.specs.Object.{Element, Loop, Line, Named}
 use Rattle.rules_object.specs.Operations.{Instr, HLT, CON, LOD, STO, LDE, STE, OP, NEG, JMP, BR3, BRC, DOI, DOE}
 use Rattle.rules_shared.specs.Lists.{Each, each-none, each-more}
 use Rattle.rules_shared.proofs.EachLaws.{each-one, each-map, each-append}
 use Rattle.rules_deck.specs.Trees.{Name, Digits, valueOf, Statement, formConstants}
 use Rattle.rules_deck.specs.Deck.{positionOf, dosOf, dimsOf, width}
-use Rattle.rules_deck.specs.Cards.{rightDigits}
 use Rattle.rules_deck.specs.Meaning.{plain, elementAt}
 use Rattle.rules_deck.specs.Judge.{startsInteger, right11, right12, Reference, formReferences}
 use Rattle.rules_deck.specs.Translation.{heldOf, cellCount, formPlain, addressAt, loopEntry, codeOf, Tables, noTables, pool, tablesAfter, tablesOf, executable, linesFrom, filled, namesFrom}
@@ -105,16 +106,16 @@ LoopWithin n cells d = (d .variable < cells) × (d .limit < cells) × (d .step <
 abbrev pub LineWithin : ℕ → Line → Type 0
 LineWithin n l = (l .sequence ≤ limits .statements) × (l .number ≤ limits .statementNumber) × (l .address < n)
 
--- a letter I-N, up to five letters or digits
-pub record ProperName (v : Name) : Type 0 where
+-- a letter I-N, then letters or digits, as long as the house has names
+pub record ProperName (house : House) (v : Name) : Type 0 where
   pub name : IsName v
-  pub short : length v ≤ limits .nameLength
+  pub short : length v ≤ house .nameLength
   pub integer : startsInteger v ≡ true
 
-pub record NameWithin (cells : ℕ) (e : Named) : Type 0 where
+pub record NameWithin (house : House) (cells : ℕ) (e : Named) : Type 0 where
   pub of : Name
-  pub named : e .name ≡ filled of
-  pub proper : ProperName of
+  pub named : e .name ≡ filled (house .nameBytes) of
+  pub proper : ProperName house of
   pub inside : Inside cells e
 
 lines-each : (P : Line → Type 0) (deck : List Statement) (q : ℕ) (more : List Statement)
@@ -141,12 +142,16 @@ lines-few deck q (s ∷ more) = go (executable (s .form)) (lines-few deck (suc q
 
 -- ---- of an accepted deck
 
-module _ {k : ℕ} {deck : List Statement} (accepted : Accepted k deck) where
-  pub digits-right : (1 ≤ k) × (k ≤ limits .digits)
-  unfolding rightDigits
-  digits-right =
-      let h = and-both (leb 1 k) (leb k (limits .digits)) (accepted .digits) in
-      (leb-true 1 k (h .0), leb-true k (limits .digits) (h .1))
+module _ {house : House} {deck : List Statement} (accepted : Accepted house deck) where
+  pub digits-right : (1 ≤ house .digits) × (house .digits ≤ limits .digits)
+  digits-right = accepted .lawful .digits (accepted .digits)
+
+  -- what numbers stay below
+  abbrev m : ℕ
+  m = ceiling (house .rule)
+
+  pub most : m ≤ 1000000000
+  most = accepted .lawful .constants (accepted .digits) .1
 
   abbrev n : ℕ
   n = length (codeOf deck)
@@ -154,13 +159,15 @@ module _ {k : ℕ} {deck : List Statement} (accepted : Accepted k deck) where
   abbrev cells : ℕ
   cells = cellCount (heldOf deck)
 
-  small : (j : ℕ) (s : Statement) → getElem? deck j ≡ some s → (c : Digits) → Among c (formConstants (s .form)) → valueOf c < 10 ^ k
+  small : (j : ℕ) (s : Statement) → getElem? deck j ≡ some s → (c : Digits) → Among c (formConstants (s .form)) → valueOf c < m
   unfolding right12
   small j s e c a =
       let h = accepted .judged j s e in
-      value-within k c (each-here (read-constants (h .text) (s .form) (h .form)) a) (leb-true (length c) k (all-among (λ c. leb (length c) k) (h .passes12) a))
+      let short = leb-true (length c) (house .digits) (all-among (λ c. leb (length c) (house .digits)) (h .passes12) a) in
+      let below = value-within (house .digits) c (each-here (read-constants (h .text) (s .form) (h .form)) a) short in
+      omega (arith, accepted .lawful .constants (accepted .digits) .0)
 
-  spanned : (j : ℕ) (s : Statement) → getElem? deck j ≡ some s → (r : Reference) → Among r (formReferences (s .form)) → Spanned (heldOf deck) (dimsOf deck) (10 ^ k) n cells r
+  spanned : (j : ℕ) (s : Statement) → getElem? deck j ≡ some s → (r : Reference) → Among r (formReferences (s .form)) → Spanned (heldOf deck) (dimsOf deck) m n cells r
   spanned j s e r a =
       let rows = element-rows accepted j s e r a in
       let v : Name = r .name in
@@ -169,7 +176,7 @@ module _ {k : ℕ} {deck : List Statement} (accepted : Accepted k deck) where
       let b = slot-below (heldOf deck) (key (elementAt v (size - 1))) (omega (arith, size-dims deck v)) in
       (rows, omega arith)
 
-  fine : (j : ℕ) (s : Statement) → getElem? deck j ≡ some s → Fine (10 ^ k) n cells deck (s .form)
+  fine : (j : ℕ) (s : Statement) → getElem? deck j ≡ some s → Fine m n cells deck (s .form)
   fine j s e =
       record {
         small = each-among (formConstants (s .form)) (small j s e);
@@ -179,11 +186,11 @@ module _ {k : ℕ} {deck : List Statement} (accepted : Accepted k deck) where
         shaped = stands accepted .shaped j s e;
       }
 
-  pub right-code : Each (Right (10 ^ k) n cells) (codeOf deck)
-  right-code = code-right (10 ^ k) n cells deck (omega (arith, ten-some k (digits-right .0))) fine
+  pub right-code : Each (Right m n cells) (codeOf deck)
+  right-code = code-right m n cells deck (omega (arith, ten-some (house .digits) (digits-right .0), accepted .lawful .constants (accepted .digits) .0)) fine
 
-  pub right-tables : RightTables (10 ^ k) n cells (tablesOf noTables (codeOf deck))
-  right-tables = tables-right (10 ^ k) n cells noTables (codeOf deck) (record { constants = each-none; elements = each-none; exits = each-none }) right-code
+  pub right-tables : RightTables m n cells (tablesOf noTables (codeOf deck))
+  right-tables = tables-right m n cells noTables (codeOf deck) (record { constants = each-none; elements = each-none; exits = each-none }) right-code
 
   pub right-loops : Each (LoopWithin n cells) (map (loopEntry deck) (dosOf deck))
   right-loops =
@@ -201,15 +208,15 @@ module _ {k : ℕ} {deck : List Statement} (accepted : Accepted k deck) where
       let z : 0 + j ≡ j = zero-add j in
       (omega (arith, accepted .count), accepted .judged j s e .number, rw z (below deck (stands accepted) j b)))
 
-  proper : (v : Name) → InDeck deck v → ProperName v
+  proper : (v : Name) → InDeck deck v → ProperName house v
   unfolding right11
   proper v i =
       let h = accepted .judged (i .position) (i .statement) (i .at) in
-      let t = and-both (leb (length v) (limits .nameLength)) (startsInteger v) (all-among (λ v. leb (length v) (limits .nameLength) && startsInteger v) (h .passes11) (i .among)) in
-      record { name = each-here (read-names (h .text) (i .statement .form) (h .form)) (i .among); short = leb-true (length v) (limits .nameLength) (t .0); integer = t .1 }
+      let t = and-both (leb (length v) (house .nameLength)) (startsInteger v) (all-among (λ v. leb (length v) (house .nameLength) && startsInteger v) (h .passes11) (i .among)) in
+      record { name = each-here (read-names (h .text) (i .statement .form) (h .form)) (i .among); short = leb-true (length v) (house .nameLength) (t .0); integer = t .1 }
 
-  pub right-names : Each (NameWithin cells) (namesFrom 0 (heldOf deck))
+  pub right-names : Each (NameWithin house cells) (namesFrom house 0 (heldOf deck))
   right-names =
-      each-place (namesFrom 0 (heldOf deck)) (λ i e f.
-      let x = entry-name deck i e f in
-      record { of = x .0; named = x .2; proper = proper (x .0) (x .1); inside = names-inside k deck accepted i e f })
+      each-place (namesFrom house 0 (heldOf deck)) (λ i e f.
+      let x = entry-name house deck i e f in
+      record { of = x .0; named = x .2; proper = proper (x .0) (x .1); inside = names-inside house deck accepted i e f })

@@ -10,6 +10,7 @@ use mathlib.Core.Option.{some}
 use lib.Dec.{leb}
 use lib.ListN.{length, getElem?}
 use borrow.Author.Tests.{leb-true, leb-false, le-leb, lt-leb}
+use Rattle.rules_shared.specs.House.{House}
 use Rattle.rules_object.specs.Object.{Line}
 use Rattle.rules_object.specs.Operations.{Instr, NEG}
 use Rattle.rules_object.specs.Calls.{lastAt, sequenceOf}
@@ -104,7 +105,7 @@ none-among : {A : Type 0} (l : List A) → ((x : A) → Among x l → ⊥) → l
 none-among [] f = refl
 none-among (x ∷ l) f = absurd (f x here)
 
-module _ (k : ℕ) (deck : List Statement) (accepted : Accepted k deck) where
+module _ (house : House) (deck : List Statement) (accepted : Accepted house deck) where
   -- no DO ends with a statement without number
   pub no-endings : length (endings deck 0) ≡ 0
   no-endings = none-among (endings deck 0) (λ d a. let h = among-endings deck 0 d a in let p = last-number accepted d (h .0) in let q = h .1 in omega arith)

@@ -10,6 +10,7 @@ use mathlib.Core.List.{List, [], _∷_}
 use mathlib.Core.Option.{some}
 use lib.ListN.{length, getElem?}
 use lib.IntN.{ℤ}
+use Rattle.rules_shared.specs.House.{House}
 use Rattle.rules_shared.specs.Runs.{Outcome, go, halt, then, run, stepsFrom, steps}
 use Rattle.rules_object.specs.Halts.{Halt, Out}
 use Rattle.rules_shared.specs.Choose.{positive}
@@ -23,12 +24,13 @@ use Rattle.rules_deck.specs.Cost.{meaningSteps}
 use Rattle.rules_deck.specs.Translation.{heldOf, addressAt, translate}
 use Rattle.rules_deck.specs.Whole.{endsWell, lastOf}
 use Rattle.rules_deck.specs.Cells.{Holds, SameMark, unmarked}
+use Rattle.rules_deck.specs.Lawful.{Lawful}
 use Rattle.rules_deck.specs.Accepted.{Among}
 use Rattle.rules_deck.specs.Sound.{Sound}
 use Rattle.rules_deck.specs.Seen.{haltOf, InStatement}
 use Rattle.rules_deck.proofs.DoLaws.{among-endings}
 use Rattle.rules_deck.proofs.Addresses.{address-zero}
-use Rattle.rules_deck.proofs.MachineRuns.{ruled, Runs, stay, and-then}
+use Rattle.rules_deck.proofs.MachineRuns.{ruled, own-rule, Runs, stay, and-then}
 use Rattle.rules_deck.proofs.Standings.{standing, Inside, Stands}
 use Rattle.rules_deck.proofs.EndSim.{Sim, goes, halts}
 use Rattle.rules_deck.proofs.StatementSim.{step-sim}
@@ -36,42 +38,42 @@ use Rattle.rules_deck.proofs.StatementSim.{step-sim}
 -- ---- forward
 
 -- n steps of the machine from t come to what the meaning comes to
-data Comes (k : ℕ) (deck : List Statement) (t : State) (n : ℕ) : Outcome Cause Standing → Type 0 where
-  going : {j lost m : ℕ} {env : Values} {inside : ℕ → Bounds} {c : List ℤ} → Runs k deck n t (go (state (addressAt deck j) [] c m)) → Stands deck j env inside lost c m
-      → Comes k deck t n (go (standing j env inside lost))
-  ended : {h : Cause} {j lost p m : ℕ} {env : Values} {inside : ℕ → Bounds} {s c : List ℤ} → Runs k deck n t (halt (haltOf h) (state p s c m)) → addressAt deck j ≤ p → p < addressAt deck (suc j) → Holds (heldOf deck) env c → SameMark deck lost m
-      → Comes k deck t n (halt h (standing j env inside lost))
+data Comes (house : House) (deck : List Statement) (t : State) (n : ℕ) : Outcome Cause Standing → Type 0 where
+  going : {j lost m : ℕ} {env : Values} {inside : ℕ → Bounds} {c : List ℤ} → Runs house deck n t (go (state (addressAt deck j) [] c m)) → Stands deck j env inside lost c m
+      → Comes house deck t n (go (standing j env inside lost))
+  ended : {h : Cause} {j lost p m : ℕ} {env : Values} {inside : ℕ → Bounds} {s c : List ℤ} → Runs house deck n t (halt (haltOf h) (state p s c m)) → addressAt deck j ≤ p → p < addressAt deck (suc j) → Holds (heldOf deck) env c → SameMark deck lost m
+      → Comes house deck t n (halt h (standing j env inside lost))
 
-module _ {k : ℕ} {deck : List Statement} where
-  after-run : {a b : ℕ} {s t : State} {o : Outcome Cause Standing} → Runs k deck a s (go t) → Comes k deck t b o → Comes k deck s (a + b) o
+module _ {house : House} {deck : List Statement} where
+  after-run : {a b : ℕ} {s t : State} {o : Outcome Cause Standing} → Runs house deck a s (go t) → Comes house deck t b o → Comes house deck s (a + b) o
   after-run r (going p st) = going (and-then r p) st
   after-run r (ended p l u h m) = ended (and-then r p) l u h m
 
-  some-steps : {n : ℕ} {s t : State} {h : Halt} → Runs k deck n s (halt h t) → 1 ≤ n
-  some-steps {n} {s} {t} {h} r = omega (arith, r .took, steps-some (step (translate k deck)) n s t h (r .is .eq))
+  some-steps : {n : ℕ} {s t : State} {h : Halt} → Runs house deck n s (halt h t) → 1 ≤ n
+  some-steps {n} {s} {t} {h} r = omega (arith, r .took, steps-some (step (translate house deck)) n s t h (r .is .eq))
 
-  then-comes : {j n : ℕ} {t : State} {o : Outcome Cause Standing} (f : Standing → Outcome Cause Standing) (g : Standing → ℕ) → t .index ≡ addressAt deck j → Sim k deck j t n o
+  then-comes : {j n : ℕ} {t : State} {o : Outcome Cause Standing} (f : Standing → Outcome Cause Standing) (g : Standing → ℕ) → t .index ≡ addressAt deck j → Sim house deck j t n o
       → ((j lost m : ℕ) (env : Values) (inside : ℕ → Bounds) (c : List ℤ) → Stands deck j env inside lost c m
-      → Comes k deck (state (addressAt deck j) [] c m) (g (standing j env inside lost)) (f (standing j env inside lost)))
-      → Comes k deck t (n + stepsFrom o g) (then o f)
+      → Comes house deck (state (addressAt deck j) [] c m) (g (standing j env inside lost)) (f (standing j env inside lost)))
+      → Comes house deck t (n + stepsFrom o g) (then o f)
   then-comes f g e (goes r l st p) h = after-run r (h _ _ _ _ _ _ st)
   then-comes {j} {n} {t} f g e (halts {h = i} {lost} {env = env} {inside} r l p h m) w =
       let z = some-steps r in
-      subst (λ a. Comes k deck t a (halt i (standing j env inside lost))) (sym (add-zero n)) (ended r (omega arith) (omega arith) h m)
+      subst (λ a. Comes house deck t a (halt i (standing j env inside lost))) (sym (add-zero n)) (ended r (omega arith) (omega arith) h m)
 
-comes : (k : ℕ) {deck : List Statement} → Sound deck → (n j lost m : ℕ) (env : Values) (inside : ℕ → Bounds) (c : List ℤ) → Stands deck j env inside lost c m
-    → Comes k deck (state (addressAt deck j) [] c m) (meaningSteps (ruled k) deck n (standing j env inside lost)) (run (meaningStep (ruled k) deck) n (standing j env inside lost))
-comes k sound zero j lost m env inside c st = going stay st
-comes k {deck} sound (suc n) j lost m env inside c st =
-    then-comes (λ t. run (meaningStep (ruled k) deck) n t) (λ t. meaningSteps (ruled k) deck n t) refl (step-sim k sound st) (comes k sound n)
+comes : (house : House) {deck : List Statement} → Sound deck → (n j lost m : ℕ) (env : Values) (inside : ℕ → Bounds) (c : List ℤ) → Stands deck j env inside lost c m
+    → Comes house deck (state (addressAt deck j) [] c m) (meaningSteps (ruled house) deck n (standing j env inside lost)) (run (meaningStep (ruled house) deck) n (standing j env inside lost))
+comes house sound zero j lost m env inside c st = going stay st
+comes house {deck} sound (suc n) j lost m env inside c st =
+    then-comes (λ t. run (meaningStep (ruled house) deck) n t) (λ t. meaningSteps (ruled house) deck n t) refl (step-sim house sound st) (comes house sound n)
 
 -- ---- backward: if the machine halts, so does the meaning
 
-record Halts (k : ℕ) (deck : List Statement) (s : Standing) : Type 0 where
+record Halts (house : House) (deck : List Statement) (s : Standing) : Type 0 where
   count : ℕ
   how : Cause
   at : Standing
-  is : Steps (meaningStep (ruled k) deck) count s (halt how at)
+  is : Steps (meaningStep (ruled house) deck) count s (halt how at)
 
 -- a statement takes machine steps, or is followed by the next one
 fewer₁ : (L N n r j j′ F : ℕ) → N ≡ n + r → zero < n → N * suc L + (L - j) < suc F → r * suc L + (L - j′) < F
@@ -80,11 +82,11 @@ fewer₁ L N n r j j′ F e p b = omega (arith, mul-le-mul-right L p, ap (λ x. 
 fewer₂ : (L N n r j j′ F : ℕ) → N ≡ n + r → j′ ≡ suc j → j < L → N * suc L + (L - j) < suc F → r * suc L + (L - j′) < F
 fewer₂ L N n r j j′ F e p l b = omega (arith, ap (λ x. x * suc L) e)
 
-module _ {k : ℕ} {deck : List Statement} where
-  back-step : {j N F lost n : ℕ} {env : Values} {inside : ℕ → Bounds} {t t′ : State} {h : Halt} {o : Outcome Cause Standing} → meaningStep (ruled k) deck (standing j env inside lost) ≡ o → j < length deck
-      → N * suc (length deck) + (length deck - j) < suc F → Steps (step (translate k deck)) N t (halt h t′) → Sim k deck j t n o
+module _ {house : House} {deck : List Statement} where
+  back-step : {j N F lost n : ℕ} {env : Values} {inside : ℕ → Bounds} {t t′ : State} {h : Halt} {o : Outcome Cause Standing} → meaningStep (ruled house) deck (standing j env inside lost) ≡ o → j < length deck
+      → N * suc (length deck) + (length deck - j) < suc F → Steps (step (translate house deck)) N t (halt h t′) → Sim house deck j t n o
       → ((j N lost m : ℕ) (env : Values) (inside : ℕ → Bounds) (c : List ℤ) → Stands deck j env inside lost c m → N * suc (length deck) + (length deck - j) < F
-      → Steps (step (translate k deck)) N (state (addressAt deck j) [] c m) (halt h t′) → Halts k deck (standing j env inside lost)) → Halts k deck (standing j env inside lost)
+      → Steps (step (translate house deck)) N (state (addressAt deck j) [] c m) (halt h t′) → Halts house deck (standing j env inside lost)) → Halts house deck (standing j env inside lost)
   back-step e l b r (halts p w q h m) g = record { count = 1; how = _; at = _; is = last e }
   back-step {j} {N} {F} {n = n} e l b r (goes {j = j′} p w st c) g =
       let (i, q, r′) = onward (p .is) r in
@@ -96,17 +98,17 @@ module _ {k : ℕ} {deck : List Statement} where
       by-count i q (inr z) = fewer₂ (length deck) N n i j j′ F q z l b
 
   back : Sound deck → (F j N lost m : ℕ) (env : Values) (inside : ℕ → Bounds) (c : List ℤ) {h : Halt} {t′ : State} → Stands deck j env inside lost c m
-      → N * suc (length deck) + (length deck - j) < F → Steps (step (translate k deck)) N (state (addressAt deck j) [] c m) (halt h t′) → Halts k deck (standing j env inside lost)
+      → N * suc (length deck) + (length deck - j) < F → Steps (step (translate house deck)) N (state (addressAt deck j) [] c m) (halt h t′) → Halts house deck (standing j env inside lost)
   back sound zero j N lost m env inside c st b r = absurd (omega arith)
   back sound (suc F) j N lost m env inside c {h} {t′} st b r =
-      back-step refl (st .here) b r (step-sim k sound st) (λ j N lost m env inside c. back sound F j N lost m env inside c {h = h} {t′ = t′})
+      back-step refl (st .here) b r (step-sim house sound st) (λ j N lost m env inside c. back sound F j N lost m env inside c {h = h} {t′ = t′})
 
 -- ---- the theorems, for a store that holds the values at the start
 
 -- After `count` steps the machine is at the statement that the standing has, its store holds the values, its mark means the loss.
-pub record Stood (k : ℕ) (deck : List Statement) (store : List ℤ) (m : Standing) (count : ℕ) : Type 0 where
+pub record Stood (house : House) (deck : List Statement) (store : List ℤ) (m : Standing) (count : ℕ) : Type 0 where
   pub at : State
-  pub goes : run (step (translate k deck)) count (fresh store) ≡ go at
+  pub goes : run (step (translate house deck)) count (fresh store) ≡ go at
   pub index : at .index ≡ addressAt deck (m .at)
   pub stack : at .stack ≡ []
   pub values : Holds (heldOf deck) (m .values) (at .store)
@@ -114,57 +116,57 @@ pub record Stood (k : ℕ) (deck : List Statement) (store : List ℤ) (m : Stand
   pub around : Inside deck (m .entered) (at .store) (m .at)
 
 -- After `count` steps, not before, and after any more, the machine has halted for the same cause, its store holds the values, its mark means the loss.
-pub record Alike (k : ℕ) (deck : List Statement) (store : List ℤ) (h : Cause) (m : Standing) (count : ℕ) : Type 0 where
+pub record Alike (house : House) (deck : List Statement) (store : List ℤ) (h : Cause) (m : Standing) (count : ℕ) : Type 0 where
   pub at : State
-  pub halted : (n : ℕ) → count ≤ n → run (step (translate k deck)) n (fresh store) ≡ halt (haltOf h) at
-  pub took : (n : ℕ) → count ≤ n → steps (step (translate k deck)) n (fresh store) ≡ count
-  pub before : (n : ℕ) → n < count → (t : State) × (run (step (translate k deck)) n (fresh store) ≡ go t)
+  pub halted : (n : ℕ) → count ≤ n → run (step (translate house deck)) n (fresh store) ≡ halt (haltOf h) at
+  pub took : (n : ℕ) → count ≤ n → steps (step (translate house deck)) n (fresh store) ≡ count
+  pub before : (n : ℕ) → n < count → (t : State) × (run (step (translate house deck)) n (fresh store) ≡ go t)
   pub among : InStatement deck (m .at) (at .index)
   pub values : Holds (heldOf deck) (m .values) (at .store)
   pub mark : SameMark deck (m .lost) (at .mark)
 
 -- The meaning halts, for a cause that h tells, after `count` statements, with the values that the state's store holds and a loss that its mark means; they took so many steps.
-pub record Meant (k : ℕ) (deck : List Statement) (env : Values) (h : Halt) (t : State) (taken : ℕ) : Type 0 where
+pub record Meant (house : House) (deck : List Statement) (env : Values) (h : Halt) (t : State) (taken : ℕ) : Type 0 where
   pub count : ℕ
   pub how : Cause
   pub at : Standing
-  pub halted : meaning (ruled k) deck env count ≡ halt how at
+  pub halted : meaning (house .rule) deck env count ≡ halt how at
   pub told : haltOf how ≡ h
-  pub took : taken ≡ meaningSteps (ruled k) deck count (begin env)
+  pub took : taken ≡ meaningSteps (house .rule) deck count (begin env)
   pub among : InStatement deck (at .at) (t .index)
   pub values : Holds (heldOf deck) (at .values) (t .store)
   pub mark : SameMark deck (at .lost) (t .mark)
 
 -- a run that halts in no fewer than n steps
-module _ {k : ℕ} {deck : List Statement} {s t : State} {n : ℕ} {h : Halt} (r : Runs k deck n s (halt h t)) (N : ℕ) where
-  enough : n ≤ N → run (step (translate k deck)) N s ≡ halt h t
-  enough l = let e : N ≡ n + (N - n) = omega arith in ap (λ i. run (step (translate k deck)) i s) e ∙ more (N - n) (r .is) .eq
+module _ {house : House} {deck : List Statement} {s t : State} {n : ℕ} {h : Halt} (r : Runs house deck n s (halt h t)) (N : ℕ) where
+  enough : n ≤ N → run (step (translate house deck)) N s ≡ halt h t
+  enough l = let e : N ≡ n + (N - n) = omega arith in ap (λ i. run (step (translate house deck)) i s) e ∙ more (N - n) (r .is) .eq
 
-  taken : n ≤ N → steps (step (translate k deck)) N s ≡ n
-  taken l = let e : N ≡ n + (N - n) = omega arith in ap (λ i. steps (step (translate k deck)) i s) e ∙ steps-more (step (translate k deck)) n (N - n) s t h (r .is .eq) ∙ r .took
+  taken : n ≤ N → steps (step (translate house deck)) N s ≡ n
+  taken l = let e : N ≡ n + (N - n) = omega arith in ap (λ i. steps (step (translate house deck)) i s) e ∙ steps-more (step (translate house deck)) n (N - n) s t h (r .is .eq) ∙ r .took
 
-  early : N < n → (u : State) × (run (step (translate k deck)) N s ≡ go u)
-  early l = by (run (step (translate k deck)) N s) refl
+  early : N < n → (u : State) × (run (step (translate house deck)) N s ≡ go u)
+  early l = by (run (step (translate house deck)) N s) refl
     where
-      by : (o : Out State) → run (step (translate k deck)) N s ≡ o → (u : State) × (run (step (translate k deck)) N s ≡ go u)
+      by : (o : Out State) → run (step (translate house deck)) N s ≡ o → (u : State) × (run (step (translate house deck)) N s ≡ go u)
       by (go u) e = (u, e)
       by (halt i u) e =
-          let f = step (translate k deck) in
+          let f = step (translate house deck) in
           let q : n ≡ N + (n - N) = omega arith in
           let z : steps f n s ≡ steps f N s = ap (λ i. steps f i s) q ∙ steps-more f N (n - N) s u i e in
           absurd (omega (arith, r .took, steps-most f N s u i e))
 
-alike : {k : ℕ} {deck : List Statement} {store : List ℤ} {h : Cause} {m : Standing} {n : ℕ} → Comes k deck (fresh store) n (halt h m) → Alike k deck store h m n
+alike : {house : House} {deck : List Statement} {store : List ℤ} {h : Cause} {m : Standing} {n : ℕ} → Comes house deck (fresh store) n (halt h m) → Alike house deck store h m n
 alike (ended r l u v m) = record { at = _; halted = enough r; took = taken r; before = early r; among = (l, u); values = v; mark = m }
 
-stood : {k : ℕ} {deck : List Statement} {store : List ℤ} {m : Standing} {n : ℕ} → Comes k deck (fresh store) n (go m) → Stood k deck store m n
+stood : {house : House} {deck : List Statement} {store : List ℤ} {m : Standing} {n : ℕ} → Comes house deck (fresh store) n (go m) → Stood house deck store m n
 stood (going r st) = record { at = _; goes = r .is .eq; index = refl; stack = refl; values = st .holds; mark = st .mark; around = st .around }
 
 not-empty : (deck : List Statement) → endsWell deck ≡ true → 0 < length deck
 not-empty [] e = absurd (false≢true e)
 not-empty (s ∷ deck) e = omega arith
 
-module _ (k : ℕ) (deck : List Statement) (sound : Sound deck) (env : Values) (store : List ℤ) (start : Holds (heldOf deck) env store) where
+module _ (house : House) (lawful : Lawful house) (deck : List Statement) (sound : Sound deck) (env : Values) (store : List ℤ) (start : Holds (heldOf deck) env store) where
   stands : Stands deck 0 env (λ q. notEntered) 0 store 0
   stands =
       record {
@@ -174,34 +176,36 @@ module _ (k : ℕ) (deck : List Statement) (sound : Sound deck) (env : Values) (
         here = not-empty deck (sound .ends);
       }
 
-  start-comes : (n : ℕ) → Comes k deck (fresh store) (meaningSteps (ruled k) deck n (begin env)) (meaning (ruled k) deck env n)
+  start-comes : (n : ℕ) → Comes house deck (fresh store) (meaningSteps (house .rule) deck n (begin env)) (meaning (house .rule) deck env n)
   unfolding meaning
   start-comes n =
-      subst (λ p. Comes k deck (state p [] store 0) (meaningSteps (ruled k) deck n (begin env)) (run (meaningStep (ruled k) deck) n (begin env))) (address-zero deck)
-      (comes k sound n 0 0 0 env (λ q. notEntered) store stands)
+      subst (λ p. Comes house deck (state p [] store 0) (meaningSteps (house .rule) deck n (begin env)) (run (meaningStep (house .rule) deck) n (begin env))) (address-zero deck)
+      (subst (λ r. Comes house deck (state (addressAt deck 0) [] store 0) (meaningSteps r deck n (begin env)) (run (meaningStep r deck) n (begin env))) (own-rule lawful deck)
+      (comes house sound n 0 0 0 env (λ q. notEntered) store stands))
 
   -- as long as the meaning goes on, so does the machine
-  pub goes-alike : (n : ℕ) (m : Standing) → meaning (ruled k) deck env n ≡ go m → Stood k deck store m (meaningSteps (ruled k) deck n (begin env))
-  goes-alike n m e = stood (subst (λ o. Comes k deck (fresh store) (meaningSteps (ruled k) deck n (begin env)) o) e (start-comes n))
+  pub goes-alike : (n : ℕ) (m : Standing) → meaning (house .rule) deck env n ≡ go m → Stood house deck store m (meaningSteps (house .rule) deck n (begin env))
+  goes-alike n m e = stood (subst (λ o. Comes house deck (fresh store) (meaningSteps (house .rule) deck n (begin env)) o) e (start-comes n))
 
   -- if the meaning halts, the machine halts alike
-  pub halts-alike : (n : ℕ) (h : Cause) (m : Standing) → meaning (ruled k) deck env n ≡ halt h m → Alike k deck store h m (meaningSteps (ruled k) deck n (begin env))
-  halts-alike n h m e = alike (subst (λ o. Comes k deck (fresh store) (meaningSteps (ruled k) deck n (begin env)) o) e (start-comes n))
+  pub halts-alike : (n : ℕ) (h : Cause) (m : Standing) → meaning (house .rule) deck env n ≡ halt h m → Alike house deck store h m (meaningSteps (house .rule) deck n (begin env))
+  halts-alike n h m e = alike (subst (λ o. Comes house deck (fresh store) (meaningSteps (house .rule) deck n (begin env)) o) e (start-comes n))
 
-  halts-back : (n : ℕ) (h : Halt) (t : State) → run (step (translate k deck)) n (fresh store) ≡ halt h t → Halts k deck (begin env)
+  halts-back : (n : ℕ) (h : Halt) (t : State) → run (step (translate house deck)) n (fresh store) ≡ halt h t → Halts house deck (begin env)
   halts-back n h t e =
       back sound (suc (n * suc (length deck) + (length deck - 0))) 0 n 0 0 env (λ q. notEntered) store stands (omega arith)
-      (subst (λ p. Steps (step (translate k deck)) n (state p [] store 0) (halt h t)) (sym (address-zero deck)) (record { eq = e }))
+      (subst (λ p. Steps (step (translate house deck)) n (state p [] store 0) (halt h t)) (sym (address-zero deck)) (record { eq = e }))
 
   -- if the machine halts, the meaning halts alike
-  pub halts-meant : (n : ℕ) (h : Halt) (t : State) → run (step (translate k deck)) n (fresh store) ≡ halt h t
-      → Meant k deck env h t (steps (step (translate k deck)) n (fresh store))
+  pub halts-meant : (n : ℕ) (h : Halt) (t : State) → run (step (translate house deck)) n (fresh store) ≡ halt h t
+      → Meant house deck env h t (steps (step (translate house deck)) n (fresh store))
   unfolding meaning
   halts-meant n h t e =
-      let f = step (translate k deck) in
+      let f = step (translate house deck) in
       let x = halts-back n h t e in
-      let count = meaningSteps (ruled k) deck (x .count) (begin env) in
-      let y = halts-alike (x .count) (x .how) (x .at) (x .is .eq) in
+      let is = subst (λ r. run (meaningStep r deck) (x .count) (begin env) ≡ halt (x .how) (x .at)) (own-rule lawful deck) (x .is .eq) in
+      let count = meaningSteps (house .rule) deck (x .count) (begin env) in
+      let y = halts-alike (x .count) (x .how) (x .at) is in
       let w = y .halted count (omega arith) in
       let a : Steps f count (fresh store) (halt (haltOf (x .how)) (y .at)) = record { eq = w } in
       let b : Steps f n (fresh store) (halt h t) = record { eq = e } in
@@ -211,7 +215,7 @@ module _ (k : ℕ) (deck : List Statement) (sound : Sound deck) (env : Values) (
         count = x .count;
         how = x .how;
         at = x .at;
-        halted = x .is .eq;
+        halted = is;
         told = q .0;
         took = sym (steps-more f n count (fresh store) t h e) ∙ y .took (n + count) (omega arith);
         among = subst (λ (u : State). InStatement deck (x .at .at) (u .index)) (q .1) (y .among);
@@ -220,20 +224,20 @@ module _ (k : ℕ) (deck : List Statement) (sound : Sound deck) (env : Values) (
       }
 
   -- if the meaning never halts, every run of the machine goes on
-  pub never-halts : ((n : ℕ) (h : Cause) (m : Standing) → ¬ (meaning (ruled k) deck env n ≡ halt h m)) → (n : ℕ) → (t : State) × (run (step (translate k deck)) n (fresh store) ≡ go t)
-  never-halts no-halt n = by (run (step (translate k deck)) n (fresh store)) refl
+  pub never-halts : ((n : ℕ) (h : Cause) (m : Standing) → ¬ (meaning (house .rule) deck env n ≡ halt h m)) → (n : ℕ) → (t : State) × (run (step (translate house deck)) n (fresh store) ≡ go t)
+  never-halts no-halt n = by (run (step (translate house deck)) n (fresh store)) refl
     where
-      by : (o : Out State) → run (step (translate k deck)) n (fresh store) ≡ o → (t : State) × (run (step (translate k deck)) n (fresh store) ≡ go t)
+      by : (o : Out State) → run (step (translate house deck)) n (fresh store) ≡ o → (t : State) × (run (step (translate house deck)) n (fresh store) ≡ go t)
       by (go t) e = (t, e)
       by (halt h t) e = let x = halts-meant n h t e in absurd (no-halt (x .count) (x .how) (x .at) (x .halted))
 
 -- A DO's end is reached only after its DO: it has been entered, with a step above 0.
-pub ends-entered : (k : ℕ) (deck : List Statement) (sound : Sound deck) (env : Values) (store : List ℤ) (start : Holds (heldOf deck) env store) (n : ℕ) (m : Standing)
-    → meaning (ruled k) deck env n ≡ go m → (s : Statement) → getElem? deck (m .at) ≡ some s → (d : Do) → Among d (endings deck (s .number))
+pub ends-entered : (house : House) → Lawful house → (deck : List Statement) (sound : Sound deck) (env : Values) (store : List ℤ) (start : Holds (heldOf deck) env store) (n : ℕ) (m : Standing)
+    → meaning (house .rule) deck env n ≡ go m → (s : Statement) → getElem? deck (m .at) ≡ some s → (d : Do) → Among d (endings deck (s .number))
     → (limit : ℤ) × ((step : ℤ) × ((m .entered (d .position) ≡ bounds limit step) × (positive step ≡ true)))
-ends-entered k deck sound env store start n m e s at d among =
+ends-entered house lawful deck sound env store start n m e s at d among =
     let a = among-endings deck (s .number) d among .0 in
     let l : lastOf deck d ≡ m .at = sound .nested .last (m .at) s at d among in
     let after = sound .nested .after d a in
-    let b = goes-alike k deck sound env store start n m e .around .bound d a (record { after = omega arith; through = omega arith }) in
+    let b = goes-alike house lawful deck sound env store start n m e .around .bound d a (record { after = omega arith; through = omega arith }) in
     (b .limit, (b .step, (b .is, b .exceeds)))

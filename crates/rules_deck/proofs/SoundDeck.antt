@@ -1,7 +1,7 @@
 -- A deck that compiling accepts is sound.
 -- Assumes nothing.
 use mathlib.Core.List.{List}
-use Prim.Native.Nat.{ℕ}
+use Rattle.rules_shared.specs.House.{House}
 use Rattle.rules_deck.specs.Trees.{Statement}
 use Rattle.rules_deck.specs.Accepted.{Accepted}
 use Rattle.rules_deck.specs.Sound.{Sound}
@@ -9,5 +9,5 @@ use Rattle.rules_deck.proofs.PassedDeck.{ends-well}
 use Rattle.rules_deck.proofs.NestedDeck.{targets, nested}
 use Rattle.rules_deck.proofs.FittingDeck.{fitting}
 
-pub sound : {k : ℕ} {deck : List Statement} → Accepted k deck → Sound deck
+pub sound : {house : House} {deck : List Statement} → Accepted house deck → Sound deck
 sound a = record { fitting = fitting a; nested = nested a; targets = targets a; ends = ends-well a }

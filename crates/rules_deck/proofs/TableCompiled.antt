@@ -11,6 +11,7 @@ use mathlib.Core.Option.{Option, none, some}
 use lib.ListN.{length, getElem?, getD}
 use borrow.Author.Tests.{leb-true}
 use Rattle.rules_shared.specs.Limits.{limits}
+use Rattle.rules_shared.specs.House.{House}
 use Rattle.rules_object.specs.Operations.{Instr, pops, pushes, successors, instruction, flowOf}
 use Rattle.rules_object.specs.Flow.{Flow, heightAt, Fine, Valid, Reached}
 use Rattle.rules_object.specs.Heights.{heights}
@@ -59,7 +60,7 @@ less-or-same (suc a) (suc b) h = go (less-or-same a b (omega arith))
     go (inl l) = inl (omega arith)
     go (inr e) = inr (ap suc e)
 
-module _ {k : ℕ} {deck : List Statement} (accepted : Accepted k deck) where
+module _ {house : House} {deck : List Statement} (accepted : Accepted house deck) where
   last-bare : (j : ℕ) (s : Statement) → getElem? deck j ≡ some s → suc j ≡ length deck → (s .form ≡ end) × (endings deck (s .number) ≡ [])
   last-bare j s e l = (is-end (s .form) (last-end accepted j s e l), none-among (endings deck (s .number)) (no-end (s .number) refl))
     where
@@ -110,14 +111,14 @@ leads-to nowhere m h = absurd (omega arith)
 leads-to (to l e r) zero h = (l, e)
 leads-to (to l e r) (suc m) h = leads-to r m (omega arith)
 
-module _ (k : ℕ) {deck : List Statement} (good : Stands deck) (fitting : Fitting deck) where
+module _ (house : House) {deck : List Statement} (good : Stands deck) (fitting : Fitting deck) where
   abbrev flow : Flow
-  flow = flowOf (translate k deck)
+  flow = flowOf (translate house deck)
 
-  standing : (a : ℕ) → a < length (codeOf deck) → (i : Instr) × (instruction (translate k deck) a ≡ i) × Standing (2 * levelsIn deck + 3) (length (codeOf deck)) (deckHeights deck) a i
+  standing : (a : ℕ) → a < length (codeOf deck) → (i : Instr) × (instruction (translate house deck) a ≡ i) × Standing (2 * levelsIn deck + 3) (length (codeOf deck)) (deckHeights deck) a i
   standing a h =
       let x = at-some (codeOf deck) a h in
-      (x .0, fetched k deck fitting a (x .0) (x .1), rw (zero-add a) at (ok-at 0 (code-ok deck good (2 * levelsIn deck + 3) (omega arith)) a (x .0) (x .1)))
+      (x .0, fetched house deck fitting a (x .0) (x .1), rw (zero-add a) at (ok-at 0 (code-ok deck good (2 * levelsIn deck + 3) (omega arith)) a (x .0) (x .1)))
 
   pub table-low : (a : ℕ) → a < length (codeOf deck) → heightAt (deckHeights deck) a ≤ 2 * levelsIn deck + 3
   table-low a h = standing a h .2 .low
@@ -132,13 +133,13 @@ module _ (k : ℕ) {deck : List Statement} (good : Stands deck) (fitting : Fitti
           room = rw e (x .2 .room);
           leads = λ m l.
               let r = leads-to (x .2 .leads) m (rw e at l) in
-              record { inside = rw (code-length k deck, e) (r .0); low = rw e (omega (arith, r .1, table-low (getD (successors a (x .0)) m 0) (r .0))); is = rw e (r .1) };
+              record { inside = rw (code-length house deck, e) (r .0); low = rw e (omega (arith, r .1, table-low (getD (successors a (x .0)) m 0) (r .0))); is = rw e (r .1) };
         }
 
-    pub compiled-valid : Valid (flowOf (translate k deck)) (deckHeights deck)
+    pub compiled-valid : Valid (flowOf (translate house deck)) (deckHeights deck)
     unfolding flowOf
     compiled-valid =
-        let n = code-length k deck in
+        let n = code-length house deck in
         record {
           sized = omega (arith, n, heights-length deck);
           begins = (omega (arith, n, below deck good 0 (good .some)), rw (address-zero deck) at (height-zero deck 0));
@@ -146,20 +147,20 @@ module _ (k : ℕ) {deck : List Statement} (good : Stands deck) (fitting : Fitti
           each = λ a h l. fine a (omega (arith, n));
         }
 
-    pub compiled-table : (H : List ℕ) × (heights (flowOf (translate k deck)) ≡ some H)
-    compiled-table = go (heights (flowOf (translate k deck))) refl
+    pub compiled-table : (H : List ℕ) × (heights (flowOf (translate house deck)) ≡ some H)
+    compiled-table = go (heights (flowOf (translate house deck))) refl
       where
-        go : (o : Option (List ℕ)) → heights (flowOf (translate k deck)) ≡ o → (H : List ℕ) × (o ≡ some H)
-        go none e = absurd (heights-none (flowOf (translate k deck)) e .0 .none (deckHeights deck) compiled-valid)
+        go : (o : Option (List ℕ)) → heights (flowOf (translate house deck)) ≡ o → (H : List ℕ) × (o ≡ some H)
+        go none e = absurd (heights-none (flowOf (translate house deck)) e .0 .none (deckHeights deck) compiled-valid)
         go (some H) e = (H, refl)
 
     -- no path comes to an instruction above 2p+3
-    pub compiled-height : (a h : ℕ) → Reached (flowOf (translate k deck)) a h → h ≤ 2 * levelsIn deck + 3
+    pub compiled-height : (a h : ℕ) → Reached (flowOf (translate house deck)) a h → h ≤ 2 * levelsIn deck + 3
     unfolding flowOf
     compiled-height a h r =
         let x = reached r (deckHeights deck) compiled-valid in
         let l : a < length (codeOf deck) = inside (x .0) in
         omega (arith, table-low a l, x .1 .1)
       where
-        inside : a < flowOf (translate k deck) .n → a < length (codeOf deck)
-        inside l = omega (arith, code-length k deck)
+        inside : a < flowOf (translate house deck) .n → a < length (codeOf deck)
+        inside l = omega (arith, code-length house deck)

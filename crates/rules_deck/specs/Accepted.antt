@@ -8,12 +8,14 @@ use mathlib.Core.Option.{Option, none, some}
 use lib.ListN.{length, getElem?, take}
 use Rattle.number.specs.Number.{add, sub, mul, div}
 use Rattle.rules_shared.specs.Limits.{limits}
+use Rattle.rules_shared.specs.House.{House}
 use Rattle.rules_deck.specs.Trees.{Digits, valueOf, Subscripts, Name, Expr, con, var, elm, neg, par, bin, Form, assign, goTo, computed, ifs, loop, continue, stop, end, dimension, Statement, formExits}
 use Rattle.rules_deck.specs.Cards.{textLength, characters, rightDigits}
 use Rattle.rules_deck.specs.Grammar.{formOf}
 use Rattle.rules_deck.specs.Deck.{positionOf, Do, dosOf, endings}
-use Rattle.rules_deck.specs.Translation.{cellCount, heldOf, codeOf, noTables, tablesOf, namesFrom}
-use Rattle.rules_deck.specs.Judge.{Taken, nothingTaken, takes, right11, right12, right13, right14, right15, right16, right18}
+use Rattle.rules_deck.specs.Translation.{cellCount, heldOf, codeOf, noTables, tablesOf}
+use Rattle.rules_deck.specs.Lawful.{Lawful}
+use Rattle.rules_deck.specs.Judge.{Taken, nothingTaken, takes, right11, right12, right13, right14, right15, right16, nameCount, right18}
 use Rattle.rules_deck.specs.Whole.{lastOf, judgeDeck}
 
 pub data Among {A : Type 0} (x : A) : List A → Type 0 where
@@ -31,25 +33,26 @@ unfoldable pub takenBefore : List Statement → ℕ → Taken
 takenBefore deck q = takenFrom 0 (take q deck) nothingTaken
 
 -- the statement at position q passed 10 to 18
-pub record JudgedAt (k : ℕ) (deck : List Statement) (q : ℕ) (s : Statement) : Type 0 where
+pub record JudgedAt (house : House) (deck : List Statement) (q : ℕ) (s : Statement) : Type 0 where
   pub text : List ℕ
   -- of at most a first card and its continuations
-  pub short : length text ≤ (1 + limits .continuations) * textLength
+  pub short : length text ≤ (1 + house .continuations) * textLength
   pub written : characters text ≡ true
   pub form : formOf text ≡ some (s .form)
-  pub passes11 : right11 (s .form) ≡ true
-  pub passes12 : right12 k (s .form) ≡ true
-  pub passes13 : right13 (s .form) ≡ true
+  pub passes11 : right11 house (s .form) ≡ true
+  pub passes12 : right12 house (s .form) ≡ true
+  pub passes13 : right13 house (s .form) ≡ true
   pub passes14 : right14 (s .form) ≡ true
-  pub passes15 : right15 (takenBefore deck q .held) (s .form) ≡ true
+  pub passes15 : right15 house (takenBefore deck q .held) (s .form) ≡ true
   pub passes16 : right16 (takenBefore deck q .held) (s .form) ≡ true
   pub passes18 : right18 (takenBefore deck (suc q)) ≡ true
   pub number : s .number ≤ limits .statementNumber
 
-pub record Accepted (k : ℕ) (deck : List Statement) : Type 0 where
-  pub digits : rightDigits k ≡ true
+pub record Accepted (house : House) (deck : List Statement) : Type 0 where
+  pub lawful : Lawful house
+  pub digits : rightDigits house ≡ true
   pub count : length deck ≤ limits .statements
-  pub judged : (q : ℕ) (s : Statement) → getElem? deck q ≡ some s → JudgedAt k deck q s
+  pub judged : (q : ℕ) (s : Statement) → getElem? deck q ≡ some s → JudgedAt house deck q s
   pub whole : judgeDeck deck ≡ none
 
 -- ---- as theorems use it
@@ -62,7 +65,7 @@ pub record Fitting (deck : List Statement) : Type 0 where
   pub elements : length (tablesOf noTables (codeOf deck) .elements) ≤ limits .elements
   pub exits : length (tablesOf noTables (codeOf deck) .exits) ≤ limits .exits
   pub dos : length (dosOf deck) ≤ limits .dos
-  pub names : length (namesFrom 0 (heldOf deck)) ≤ limits .names
+  pub names : nameCount (heldOf deck) ≤ limits .names
 
 -- position j is in the range of the DO d: after the DO through its last statement
 pub record InRange (deck : List Statement) (d : Do) (j : ℕ) : Type 0 where

@@ -7,6 +7,7 @@ use mathlib.Core.Option.{Option, none, some}
 use lib.Dec.{eqb}
 use lib.ListN.{replicate}
 use lib.IntN.{ℤ, pos}
+use Rattle.rules_shared.specs.House.{House}
 use Rattle.rules_shared.specs.Runs.{Outcome, go, halt}
 use Rattle.rules_object.specs.Halts.{haltNumber}
 use Rattle.rules_object.specs.Object.{Object}
@@ -38,9 +39,9 @@ abbrev pub runWritten : Written → List Key → Bool → Answer
 runWritten w keys true = runObject (objectIn w) keys
 runWritten w keys false = refused (w .refusal .number) (w .refusal .place)
 
--- k, a deck, the room for its object, and the names whose values are asked
-unfoldable pub answered : ℕ → List ℕ → ℕ → List Key → Answer
-answered k deck room keys = runWritten (compiling k deck (replicate room 0)) keys (eqb (compiling k deck (replicate room 0) .refusal .number) 0)
+-- a house, a deck, the room for its object, and the names whose values are asked
+unfoldable pub answered : House → List ℕ → ℕ → List Key → Answer
+answered house deck room keys = runWritten (compiling house deck (replicate room 0)) keys (eqb (compiling house deck (replicate room 0) .refusal .number) 0)
 
 -- the meaning from zero values: halt, first loss and values, it has no steps; of a deck that has none the refusal
 abbrev pub toldMeaning : List Key → Refusal → Option (Outcome Cause Standing) → Answer
@@ -48,5 +49,5 @@ toldMeaning keys r none = refused (r .number) (r .place)
 toldMeaning keys r (some (go m)) = ran 2 0 (m .lost) (map (m .values) keys)
 toldMeaning keys r (some (halt h m)) = ran (haltNumber (haltOf h)) 0 (m .lost) (map (m .values) keys)
 
-unfoldable pub meant : ℕ → List ℕ → List Key → Answer
-meant k deck keys = toldMeaning keys (compiling k deck [] .refusal) (meaningOf k deck (λ x. pos 0) 1000)
+unfoldable pub meant : House → List ℕ → List Key → Answer
+meant house deck keys = toldMeaning keys (compiling house deck [] .refusal) (meaningOf house deck (λ x. pos 0) 1000)

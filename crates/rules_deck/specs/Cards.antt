@@ -6,6 +6,7 @@ use mathlib.Core.List.{List, [], _∷_, _++_, map}
 use lib.Dec.{leb, eqb}
 use lib.ListN.{length, getD, take, drop}
 use Rattle.rules_shared.specs.Limits.{limits}
+use Rattle.rules_shared.specs.House.{House}
 use Rattle.rules_object.specs.Check.{isLetter, isDigit, blanks}
 use Rattle.rules_deck.specs.Trees.{valueOf}
 
@@ -127,9 +128,9 @@ unfoldable pub wrongCard : ℕ → List ℕ → ℕ
 wrongCard room card = cond (comment card) 0 (wrongCharacters room card)
 
 -- a first card starts a statement
-abbrev pub started : Reading → List ℕ → Reading
-started r card =
-    record { begun = r .begun ++ (record { number = numberOf card; raw = textColumns card } ∷ []); room = limits .continuations }
+abbrev pub started : House → Reading → List ℕ → Reading
+started house r card =
+    record { begun = r .begun ++ (record { number = numberOf card; raw = textColumns card } ∷ []); room = house .continuations }
 
 -- a continuation's columns 7-72 are put after the last statement's
 abbrev pub extended : List Punched → List ℕ → List Punched
@@ -141,8 +142,8 @@ abbrev pub continued : Reading → List ℕ → Reading
 continued r card = record { begun = extended (r .begun) (textColumns card); room = r .room - 1 }
 
 -- what is read with one card more; a comment is not there at all
-unfoldable pub afterCard : Reading → List ℕ → Reading
-afterCard r card = cond (comment card) r (cond (firstCard card) (started r card) (continued r card))
+unfoldable pub afterCard : House → Reading → List ℕ → Reading
+afterCard house r card = cond (comment card) r (cond (firstCard card) (started house r card) (continued r card))
 
 -- refused by a number at a place, or the statements in card order
 pub data Carded : Type 0 where
@@ -150,16 +151,16 @@ pub data Carded : Type 0 where
   statements : List Punched → Carded
 
 -- the card at a place, counted from 1 with comments, then those after it
-abbrev pub cardByCard : ℕ → Reading → List (List ℕ) → Carded
-cardByCard place r [] = statements (r .begun)
-cardByCard place r (card ∷ cards) =
-    cond (eqb (wrongCard (r .room) card) 0) (cardByCard (suc place) (afterCard r card) cards) (cardsRefused (wrongCard (r .room) card) place)
+abbrev pub cardByCard : House → ℕ → Reading → List (List ℕ) → Carded
+cardByCard house place r [] = statements (r .begun)
+cardByCard house place r (card ∷ cards) =
+    cond (eqb (wrongCard (r .room) card) 0) (cardByCard house (suc place) (afterCard house r card) cards) (cardsRefused (wrongCard (r .room) card) place)
 
 -- ---- the whole deck
 
 -- 1
-unfoldable pub rightDigits : ℕ → Bool
-rightDigits k = leb 1 k && leb k (limits .digits)
+unfoldable pub rightDigits : House → Bool
+rightDigits house = leb (house .fewestDigits) (house .digits) && leb (house .digits) (house .mostDigits)
 
 -- 2: whole cards, one at least
 unfoldable pub rightLength : List ℕ → Bool
@@ -170,10 +171,10 @@ abbrev pub counted : Carded → Carded
 counted (cardsRefused number place) = cardsRefused number place
 counted (statements ps) = cond (leb (length ps) (limits .statements)) (statements ps) (cardsRefused 7 0)
 
--- digits k and a deck's bytes
-unfoldable pub carded : ℕ → List ℕ → Carded
-carded k deck =
-    cond (rightDigits k) (cond (rightLength deck) (counted (cardByCard 1 nothingRead (cardsOf deck))) (cardsRefused 2 0)) (cardsRefused 1 0)
+-- a house and a deck's bytes
+unfoldable pub carded : House → List ℕ → Carded
+carded house deck =
+    cond (rightDigits house) (cond (rightLength deck) (counted (cardByCard house 1 nothingRead (cardsOf deck))) (cardsRefused 2 0)) (cardsRefused 1 0)
 
 -- ---- the statements a first card at a time, as code takes them: its text, then that of the continuations up to the next first card
 

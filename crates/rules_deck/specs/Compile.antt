@@ -3,6 +3,7 @@
 use Prim.Native.Nat.{ℕ, suc}
 use mathlib.Core.List.{List, [], _∷_}
 use mathlib.Core.Option.{Option, none, some}
+use Rattle.rules_shared.specs.House.{House}
 use Rattle.rules_object.specs.Bytes.{objectBytes}
 use Rattle.rules_shared.specs.Refusals.{Refusal, refusal}
 use Rattle.rules_shared.specs.Output.{Written, notWritten, write}
@@ -29,23 +30,23 @@ abbrev pub afterJudging : ℕ → Statement → Read → Option ℕ → Read
 afterJudging q s rest (some number) = notRead (refusal number (suc q) 0)
 afterJudging q s rest none = withStatement s rest
 
-abbrev pub afterReading : ℕ → ℕ → ℕ → Taken → (Taken → Read) → Option Form → Read
-afterReading k q number t rest none = notRead (refusal 10 (suc q) 0)
-afterReading k q number t rest (some f) = afterJudging q (record { number = number; form = f }) (rest (takes q f t)) (judgeForm k q f t)
+abbrev pub afterReading : House → ℕ → ℕ → Taken → (Taken → Read) → Option Form → Read
+afterReading house q number t rest none = notRead (refusal 10 (suc q) 0)
+afterReading house q number t rest (some f) = afterJudging q (record { number = number; form = f }) (rest (takes q f t)) (judgeForm house q f t)
 
-abbrev pub readText : ℕ → ℕ → ℕ → Taken → (Taken → Read) → List ℕ → Read
-readText k q number t rest [] = notRead (refusal 6 (suc q) 0)
-readText k q number t rest (c ∷ text) = afterReading k q number t rest (formOf (c ∷ text))
+abbrev pub readText : House → ℕ → ℕ → Taken → (Taken → Read) → List ℕ → Read
+readText house q number t rest [] = notRead (refusal 6 (suc q) 0)
+readText house q number t rest (c ∷ text) = afterReading house q number t rest (formOf (c ∷ text))
 
-abbrev pub readFrom : ℕ → ℕ → Taken → List Punched → Read
-readFrom k q t [] = read []
-readFrom k q t (p ∷ more) = readText k q (p .number) t (λ u. readFrom k (suc q) u more) (textOf (p .raw))
+abbrev pub readFrom : House → ℕ → Taken → List Punched → Read
+readFrom house q t [] = read []
+readFrom house q t (p ∷ more) = readText house q (p .number) t (λ u. readFrom house (suc q) u more) (textOf (p .raw))
 
 -- ---- the stages
 
-abbrev pub readCarded : ℕ → Carded → Read
-readCarded k (cardsRefused number place) = notRead (refusal number place 0)
-readCarded k (statements punched) = readFrom k 0 nothingTaken punched
+abbrev pub readCarded : House → Carded → Read
+readCarded house (cardsRefused number place) = notRead (refusal number place 0)
+readCarded house (statements punched) = readFrom house 0 nothingTaken punched
 
 abbrev pub orRefuse : List Statement → Option Refusal → Read
 orRefuse deck none = read deck
@@ -55,14 +56,14 @@ abbrev pub judgeRead : Read → Read
 judgeRead (notRead r) = notRead r
 judgeRead (read deck) = orRefuse deck (judgeDeck deck)
 
--- the deck that k and some bytes are, or its refusal
-unfoldable pub deckOf : ℕ → List ℕ → Read
-deckOf k bytes = judgeRead (readCarded k (carded k bytes))
+-- the deck that some bytes are in a house, or its refusal
+unfoldable pub deckOf : House → List ℕ → Read
+deckOf house bytes = judgeRead (readCarded house (carded house bytes))
 
-abbrev pub writeRead : ℕ → List ℕ → Read → Written
-writeRead k output (notRead r) = notWritten r output
-writeRead k output (read deck) = write (objectBytes (translate k deck)) output
+abbrev pub writeRead : House → List ℕ → Read → Written
+writeRead house output (notRead r) = notWritten r output
+writeRead house output (read deck) = write (objectBytes (translate house deck)) output
 
--- the call `compile`: k, the deck's bytes and the output lent
-unfoldable pub compiling : ℕ → List ℕ → List ℕ → Written
-compiling k bytes output = writeRead k output (deckOf k bytes)
+-- the call `compile`: the house, the deck's bytes and the output lent
+unfoldable pub compiling : House → List ℕ → List ℕ → Written
+compiling house bytes output = writeRead house output (deckOf house bytes)

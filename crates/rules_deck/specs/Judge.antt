@@ -7,29 +7,34 @@ use mathlib.Core.Option.{Option, none, some}
 use lib.Dec.{leb, eqb}
 use lib.ListN.{length}
 use Rattle.rules_shared.specs.Limits.{limits}
+use Rattle.rules_shared.specs.House.{House}
 use Rattle.rules_shared.specs.Refusals.{orElse}
 use Rattle.rules_shared.specs.Lists.{all}
-use Rattle.rules_deck.specs.Trees.{Name, valueOf, Subscripts, one, two, Array, array, Expr, con, var, elm, neg, par, bin, Target, cell, element, written, Form, assign, goTo, computed, ifs, loop, continue, stop, end, dimension, formNames, formConstants, formLast, formNumbers, formLevels, Phrase, sets, chooses, computes, steps, declares, partsOf, gathered}
+use Rattle.rules_deck.specs.Trees.{Name, Digits, valueOf, Subscripts, one, two, Array, array, Expr, con, var, elm, neg, par, bin, Target, cell, element, written, Form, assign, goTo, computed, ifs, loop, continue, stop, end, dimension, formNames, formConstants, formExits, formLast, formLevels, Phrase, sets, chooses, computes, steps, declares, partsOf, gathered}
 use Rattle.rules_deck.specs.Deck.{sameName, Dims, declare, arraysIn}
 use Rattle.rules_deck.specs.Meaning.{third}
 use Rattle.rules_deck.specs.Translation.{Held, name, hidden, cellCount, isName, isArray, holds, brings, formPlain, pool}
 
 -- ---- 11 to 14
 
--- at most six characters, the first I to N
+-- as long as the house has names, the first character I to N
 abbrev pub startsInteger : Name → Bool
 startsInteger [] = false
 startsInteger (c ∷ v) = leb 73 c && leb c 78
 
-unfoldable pub right11 : Form → Bool
-right11 f = all (λ v. leb (length v) (limits .nameLength) && startsInteger v) (formNames f)
+unfoldable pub right11 : House → Form → Bool
+right11 house f = all (λ v. leb (length v) (house .nameLength) && startsInteger v) (formNames f)
 
 -- at most k digits as written: leading zeros count
-unfoldable pub right12 : ℕ → Form → Bool
-right12 k f = all (λ c. leb (length c) k) (formConstants f)
+unfoldable pub right12 : House → Form → Bool
+right12 house f = all (λ c. leb (length c) (house .digits)) (formConstants f)
 
-unfoldable pub right13 : Form → Bool
-right13 f = all (λ n. leb 1 (valueOf n) && leb (valueOf n) (limits .statementNumber)) (formNumbers f)
+-- 0 passes only where it is let
+abbrev pub numberWithin : Bool → Digits → Bool
+numberWithin zero n = (zero || leb 1 (valueOf n)) && leb (valueOf n) (limits .statementNumber)
+
+unfoldable pub right13 : House → Form → Bool
+right13 house f = all (numberWithin (house .zeroExit)) (formExits f) && all (numberWithin false) (formLast f)
 
 unfoldable pub right14 : Form → Bool
 right14 f = leb (formLevels f) (limits .parentheses)
@@ -48,14 +53,14 @@ abbrev pub someCells : Array → Bool
 someCells (array v r none) = leb 1 (valueOf r)
 someCells (array v r (some c)) = leb 1 (valueOf r) && leb 1 (valueOf c)
 
--- earlier in the same DIMENSION counts as seen
-abbrev pub rightArrays : List Held → List Array → Bool
-rightArrays held [] = true
-rightArrays held (a ∷ more) =
-    someCells a && (not (seen held (declare a .name)) && (not (endsInF (declare a .name)) && rightArrays (held ++ (Held.array (declare a) ∷ [])) more))
+-- earlier in the same DIMENSION counts as seen; whether names may end in F is told
+abbrev pub rightArrays : Bool → List Held → List Array → Bool
+rightArrays inF held [] = true
+rightArrays inF held (a ∷ more) =
+    someCells a && (not (seen held (declare a .name)) && ((inF || not (endsInF (declare a .name))) && rightArrays inF (held ++ (Held.array (declare a) ∷ [])) more))
 
-unfoldable pub right15 : List Held → Form → Bool
-right15 held f = rightArrays held (arraysIn f)
+unfoldable pub right15 : House → List Held → Form → Bool
+right15 house held f = rightArrays (house .arrayMayEndInF) held (arraysIn f)
 
 -- ---- 16: element of an undeclared array or wrong subscript count; array name bare
 
@@ -197,7 +202,7 @@ abbrev pub wrong : Bool → ℕ → Option ℕ
 wrong true number = none
 wrong false number = some number
 
-unfoldable pub judgeForm : ℕ → ℕ → Form → Taken → Option ℕ
-judgeForm k q f t =
-    orElse (wrong (right11 f) 11) (orElse (wrong (right12 k f) 12) (orElse (wrong (right13 f) 13) (orElse (wrong (right14 f) 14)
-    (orElse (wrong (right15 (t .held) f) 15) (orElse (wrong (right16 (t .held) f) 16) (wrong (right18 (takes q f t)) 18))))))
+unfoldable pub judgeForm : House → ℕ → Form → Taken → Option ℕ
+judgeForm house q f t =
+    orElse (wrong (right11 house f) 11) (orElse (wrong (right12 house f) 12) (orElse (wrong (right13 house f) 13) (orElse (wrong (right14 f) 14)
+    (orElse (wrong (right15 house (t .held) f) 15) (orElse (wrong (right16 (t .held) f) 16) (wrong (right18 (takes q f t)) 18))))))

@@ -1,5 +1,6 @@
 pub mod Trees
 pub mod Cards
+pub mod Lawful
 pub mod Tokens
 pub mod Grammar
 pub mod Deck

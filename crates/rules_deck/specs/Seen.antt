@@ -7,6 +7,7 @@ use mathlib.Core.Option.{Option, none, some}
 use lib.Dec.{ltb, eqb, leb}
 use lib.ListN.{take}
 use lib.IntN.{ℤ, pos}
+use Rattle.rules_shared.specs.House.{House}
 use Rattle.rules_shared.specs.Runs.{Outcome}
 use Rattle.rules_object.specs.Halts.{Halt, atStop, atEnd, divideByZero, badSubscript, badExit, badParameter}
 use Rattle.rules_object.specs.Object.{Named, Object}
@@ -26,19 +27,19 @@ use Rattle.rules_deck.specs.Compile.{Read, notRead, read, deckOf}
 
 -- ---- the deck
 
--- the statements that k and some bytes are; none where they are refused
+-- the statements that were read; none where they are refused
 abbrev pub statementsOf : Read → List Statement
 statementsOf (notRead r) = []
 statementsOf (read deck) = deck
 
 -- what was read means; what was refused means nothing
-abbrev pub meaningRead : ℕ → Read → Values → ℕ → Option (Outcome Cause Standing)
-meaningRead k (notRead r) env n = none
-meaningRead k (read deck) env n = some (meaning (record { digits = k }) deck env n)
+abbrev pub meaningRead : House → Read → Values → ℕ → Option (Outcome Cause Standing)
+meaningRead house (notRead r) env n = none
+meaningRead house (read deck) env n = some (meaning (house .rule) deck env n)
 
 -- the meaning of a deck's bytes for at most n statements
-unfoldable pub meaningOf : ℕ → List ℕ → Values → ℕ → Option (Outcome Cause Standing)
-meaningOf k bytes env n = meaningRead k (deckOf k bytes) env n
+unfoldable pub meaningOf : House → List ℕ → Values → ℕ → Option (Outcome Cause Standing)
+meaningOf house bytes env n = meaningRead house (deckOf house bytes) env n
 
 -- the halt by which a run tells a cause
 abbrev pub haltOf : Cause → Halt
@@ -50,8 +51,8 @@ haltOf wrongExit = badExit
 haltOf wrongParameter = badParameter
 
 -- how many steps of a run the statements that the meaning goes through take
-unfoldable pub deckSteps : ℕ → List ℕ → Values → ℕ → ℕ
-deckSteps k bytes env n = meaningSteps (record { digits = k }) (statementsOf (deckOf k bytes)) n (begin env)
+unfoldable pub deckSteps : House → List ℕ → Values → ℕ → ℕ
+deckSteps house bytes env n = meaningSteps (house .rule) (statementsOf (deckOf house bytes)) n (begin env)
 
 -- the index is that of a word of the statement at position j: of its own code, or of the ends of the DOs whose last statement it is
 abbrev pub InStatement : List Statement → ℕ → ℕ → Type 0
@@ -62,20 +63,20 @@ namesIn [] = []
 namesIn (s ∷ deck) = formNames (s .form) ++ namesIn deck
 
 -- every name that stands in a deck
-unfoldable pub deckNames : ℕ → List ℕ → List Name
-deckNames k bytes = namesIn (statementsOf (deckOf k bytes))
+unfoldable pub deckNames : House → List ℕ → List Name
+deckNames house bytes = namesIn (statementsOf (deckOf house bytes))
 
 -- the rows and columns of an array, 0 and 0 of a plain name
-unfoldable pub deckDims : ℕ → List ℕ → Name → Dims
-deckDims k bytes v = dimsOf (statementsOf (deckOf k bytes)) v
+unfoldable pub deckDims : House → List ℕ → Name → Dims
+deckDims house bytes v = dimsOf (statementsOf (deckOf house bytes)) v
 
 abbrev pub levelsIn : List Statement → ℕ
 levelsIn [] = 0
 levelsIn (s ∷ deck) = max (formLevels (s .form)) (levelsIn deck)
 
 -- its levels of parentheses
-unfoldable pub deckLevels : ℕ → List ℕ → ℕ
-deckLevels k bytes = levelsIn (statementsOf (deckOf k bytes))
+unfoldable pub deckLevels : House → List ℕ → ℕ
+deckLevels house bytes = levelsIn (statementsOf (deckOf house bytes))
 
 -- the object that compiling wrote
 unfoldable pub objectIn : Written → List ℕ

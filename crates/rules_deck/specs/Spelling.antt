@@ -11,6 +11,7 @@ use lib.Dec.{eqb}
 use lib.ListN.{length}
 use Rattle.number.specs.Number.{Op, add, sub, mul, div}
 use Rattle.rules_shared.specs.Limits.{limits}
+use Rattle.rules_shared.specs.House.{House}
 use Rattle.rules_object.specs.Check.{isLetter, isDigit}
 use Rattle.rules_shared.specs.Lists.{Each}
 use Rattle.rules_deck.specs.Trees.{Name, Digits, Addend, nothing, plus, minus, Subscript, constant, linear, Subscripts, one, two, Expr, con, var, elm, neg, par, bin, Target, cell, element, Array, array, Form, assign, goTo, computed, ifs, loop, continue, stop, end, dimension, Statement, targetNames, targetConstants, optional, formNames, formConstants, formExits, formLast}
@@ -198,14 +199,14 @@ withoutPluses t = withoutAfter 0 t
 
 -- ---- a statement that no form spells
 
--- of a deck whose cards are right, the statement at position q: those before it pass, it has a text, and the text spells no form
-pub record NoForm (k : ℕ) (deck : List ℕ) (q : ℕ) : Type 0 where
+-- of a deck whose cards are right in the house, the statement at position q: those before it pass, it has a text, and the text spells no form
+pub record NoForm (house : House) (deck : List ℕ) (q : ℕ) : Type 0 where
   pub before : List Punched
   pub statement : Punched
   pub after : List Punched
-  pub cards : carded k deck ≡ statements (before ++ statement ∷ after)
+  pub cards : carded house deck ≡ statements (before ++ statement ∷ after)
   pub position : length before ≡ q
   pub passed : List Statement
-  pub passes : readFrom k 0 nothingTaken before ≡ read passed
+  pub passes : readFrom house 0 nothingTaken before ≡ read passed
   pub written : textOf (statement .raw) ≡ [] → ⊥
   pub spelled : (f : Form) → Spells (textOf (statement .raw)) f → ⊥

@@ -6,6 +6,7 @@ use mathlib.Core.List.{List, [], _∷_, _++_, map}
 use lib.Dec.{eqb, ltb}
 use lib.ListN.{length, take, replicate}
 use lib.IntN.{pos}
+use Rattle.rules_shared.specs.House.{House}
 use Rattle.rules_object.specs.Object.{SubscriptEntry, Element, Loop, Line, Named, Object}
 use Rattle.rules_object.specs.Operations.{Instr, HLT, CON, LOD, STO, LDE, STE, OP, NEG, JMP, BR3, BRC, DOI, DOE, operationNumber}
 use Rattle.rules_deck.specs.Trees.{Name, valueOf, Subscript, constant, linear, Subscripts, one, two, subscriptsNames, Expr, con, var, elm, neg, par, bin, Target, cell, element, written, Form, assign, goTo, computed, ifs, loop, continue, stop, end, dimension, Statement, Phrase, sets, chooses, computes, steps, declares, Range, partsOf, gathered}
@@ -291,23 +292,23 @@ linesFrom deck q (s ∷ more) =
     cond (executable (s .form)) (record { sequence = suc q; number = s .number; address = addressAt deck q } ∷ linesFrom deck (suc q) more)
     (linesFrom deck (suc q) more)
 
--- eight bytes blank-filled
-abbrev pub filled : Name → List ℕ
-filled v = take 8 (v ++ replicate 8 32)
+-- so many bytes, blank-filled
+abbrev pub filled : ℕ → Name → List ℕ
+filled bytes v = take bytes (v ++ replicate bytes 32)
 
-abbrev pub namesFrom : ℕ → List Held → List Named
-namesFrom at [] = []
-namesFrom at (name v ∷ held) = record { name = filled v; first = at; rows = 0; columns = 0 } ∷ namesFrom (suc at) held
-namesFrom at (array a ∷ held) =
-    record { name = filled (a .name); first = at; rows = a .dims .rows; columns = a .dims .columns } ∷ namesFrom (at + arraySize (a .dims)) held
-namesFrom at (hidden q ∷ held) = namesFrom (at + 2) held
+abbrev pub namesFrom : House → ℕ → List Held → List Named
+namesFrom house at [] = []
+namesFrom house at (name v ∷ held) = record { name = filled (house .nameBytes) v; first = at; rows = 0; columns = 0 } ∷ namesFrom house (suc at) held
+namesFrom house at (array a ∷ held) =
+    record { name = filled (house .nameBytes) (a .name); first = at; rows = a .dims .rows; columns = a .dims .columns } ∷ namesFrom house (at + arraySize (a .dims)) held
+namesFrom house at (hidden q ∷ held) = namesFrom house (at + 2) held
 
 -- ---- the object
 
-unfoldable pub translate : ℕ → List Statement → Object
-translate k deck =
+unfoldable pub translate : House → List Statement → Object
+translate house deck =
     record {
-      digits = k;
+      digits = house .digits;
       cells = cellCount (heldOf deck);
       constants = tablesOf noTables (codeOf deck) .constants;
       elements = tablesOf noTables (codeOf deck) .elements;
@@ -315,5 +316,5 @@ translate k deck =
       dos = map (loopEntry deck) (dosOf deck);
       code = emit noTables (codeOf deck);
       lines = linesFrom deck 0 deck;
-      names = namesFrom 0 (heldOf deck);
+      names = namesFrom house 0 (heldOf deck);
     }

@@ -5,6 +5,7 @@ use Prim.Native.Nat.{ℕ}
 use Prim.Native.String.{String}
 use mathlib.Core.List.{List, [], _∷_}
 use lib.IntN.{ℤ, pos, negsuc}
+use Rattle.rules_shared.specs.House.{house1401}
 use Rattle.rules_deck.specs.Meaning.{Key, plain}
 use Rattle.rules_deck.specs.Punch.{bytes, deck}
 use Rattle.rules_deck.specs.Answers.{ran, answered, meant}
@@ -46,8 +47,8 @@ decks =
     []
 
 pub record MeansAndRuns (w : Worked) : Type 0 where
-  pub means : meant (w .digits) (deck (w .cards)) (w .names) ≡ ran (w .halt) 0 (w .lost) (w .values)
-  pub runs : answered (w .digits) (deck (w .cards)) 400 (w .names) ≡ ran (w .halt) (w .steps) (w .lost) (w .values)
+  pub means : meant (house1401 (w .digits)) (deck (w .cards)) (w .names) ≡ ran (w .halt) 0 (w .lost) (w .values)
+  pub runs : answered (house1401 (w .digits)) (deck (w .cards)) 400 (w .names) ≡ ran (w .halt) (w .steps) (w .lost) (w .values)
 
 abbrev pub DecksRight : List Worked → Type 0
 DecksRight [] = Unit {0}

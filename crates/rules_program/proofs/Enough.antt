@@ -9,6 +9,7 @@ use lib.Dec.{leb}
 use lib.ListN.{length, replicate, length-replicate}
 use borrow.Author.Tests.{leb-true, le-leb}
 use Rattle.rules_shared.specs.Limits.{limits}
+use Rattle.rules_shared.specs.House.{House}
 use Rattle.rules_object.specs.Object.{Object}
 use Rattle.rules_object.specs.Check.{right41}
 use Rattle.rules_object.specs.Bytes.{objectBytes}
@@ -20,6 +21,7 @@ use Rattle.rules_object.proofs.RoundTrip.{all-eight, object-length}
 use Rattle.rules_deck.specs.Trees.{Statement}
 use Rattle.rules_deck.specs.Translation.{translate}
 use Rattle.rules_deck.specs.Compile.{Read, read, deckOf, writeRead, compiling}
+use Rattle.rules_deck.specs.Lawful.{Lawful}
 use Rattle.rules_deck.specs.Accepted.{Accepted}
 use Rattle.rules_deck.proofs.AcceptedDeck.{accepted as accepted-deck}
 use Rattle.rules_deck.proofs.CompiledRight.{passes-41}
@@ -50,16 +52,16 @@ words-few o h =
       leb-true (length (o .names)) (limits .names) (t₉ .1),
     )
 
-pub object-fits : {k : ℕ} {deck : List Statement} → Accepted k deck → length (objectBytes (translate k deck)) ≤ mostBytes
-object-fits {k} {deck} c =
-    let o : Object = translate k deck in
+pub object-fits : {house : House} {deck : List Statement} → Accepted house deck → length (objectBytes (translate house deck)) ≤ mostBytes
+object-fits {house} {deck} c =
+    let o : Object = translate house deck in
     omega (arith, object-length o (all-eight (o .names) (compiled-writable c .names)), words-few o (passes-41 c))
 
 -- a deck that is read is compiled
-pub room-enough : (k : ℕ) (bytes : List ℕ) (deck : List Statement) → deckOf k bytes ≡ read deck → compiling k bytes (replicate mostBytes 0) .refusal ≡ accepted
+pub room-enough : (house : House) → Lawful house → (bytes : List ℕ) (deck : List Statement) → deckOf house bytes ≡ read deck → compiling house bytes (replicate mostBytes 0) .refusal ≡ accepted
 unfolding compiling write
-room-enough k bytes deck e =
-    let object : List ℕ = objectBytes (translate k deck) in
+room-enough house lawful bytes deck e =
+    let object : List ℕ = objectBytes (translate house deck) in
     let room : List ℕ = replicate mostBytes 0 in
-    let l : length object ≤ length room = omega (arith, object-fits (accepted-deck k bytes deck e), length-replicate {A = ℕ} mostBytes 0) in
-    ap (λ (r : Read). writeRead k room r .refusal) e ∙ ap (λ (b : Bool). writtenIf b object room .refusal) (le-leb (length object) (length room) l)
+    let l : length object ≤ length room = omega (arith, object-fits (accepted-deck house lawful bytes deck e), length-replicate {A = ℕ} mostBytes 0) in
+    ap (λ (r : Read). writeRead house room r .refusal) e ∙ ap (λ (b : Bool). writtenIf b object room .refusal) (le-leb (length object) (length room) l)

@@ -11,6 +11,7 @@ use lib.ListN.{length, take, drop, replicate, length-drop}
 use lib.Seq.{take-take, length-take-le}
 use borrow.Author.Tests.{lt-leb}
 use Rattle.rules_shared.specs.Limits.{limits}
+use Rattle.rules_shared.specs.House.{House, house1401}
 use Rattle.rules_deck.specs.Cards.{Carded, cardsRefused, rightDigits, rightLength, cardLength, carded}
 use Rattle.rules_deck.specs.Compile.{judgeRead, readCarded, deckOf, writeRead, compiling}
 use Rattle.rules_program.specs.Program.{controlOf, controlDigits, mostBytes, compiledLines, deckLines, printed}
@@ -28,15 +29,15 @@ long-wrong deck h =
 
 -- ---- two decks that are both too long
 
-module _ (k : ℕ) (a b : List ℕ) (p : limits .cards * cardLength < length a) (q : limits .cards * cardLength < length b) where
-  carded-long : (deck : List ℕ) → rightLength deck ≡ false → carded k deck ≡ cond (rightDigits k) (cardsRefused 2 0) (cardsRefused 1 0)
+module _ (house : House) (a b : List ℕ) (p : limits .cards * cardLength < length a) (q : limits .cards * cardLength < length b) where
+  carded-long : (deck : List ℕ) → rightLength deck ≡ false → carded house deck ≡ cond (rightDigits house) (cardsRefused 2 0) (cardsRefused 1 0)
   unfolding carded
   carded-long deck e = simp e
 
-  compiled-same : (output : List ℕ) → compiling k a output ≡ compiling k b output
+  compiled-same : (output : List ℕ) → compiling house a output ≡ compiling house b output
   unfolding compiling deckOf
   compiled-same output =
-      ap (λ (c : Carded). writeRead k output (judgeRead (readCarded k c))) (carded-long a (long-wrong a p) ∙ sym (carded-long b (long-wrong b q)))
+      ap (λ (c : Carded). writeRead house output (judgeRead (readCarded house c))) (carded-long a (long-wrong a p) ∙ sym (carded-long b (long-wrong b q)))
 
 -- ---- the input
 
@@ -49,5 +50,5 @@ printed-long n input m h =
     go none = refl
     go (some k) =
         ap compiledLines
-        (compiled-same k (drop cardLength (take n input)) (drop cardLength input)
+        (compiled-same (house1401 k) (drop cardLength (take n input)) (drop cardLength input)
         (omega (arith, length-drop cardLength (take n input), length-take-le n input h)) (omega (arith, length-drop cardLength input)) (replicate mostBytes 0))

@@ -14,6 +14,7 @@ use borrow.Author.Tests.{leb-true, le-leb}
 use Rattle.number.specs.Number.{fits}
 use Rattle.number.proofs.Laws.{ceiling-pos, yes-fits}
 use Rattle.rules_shared.specs.Limits.{limits}
+use Rattle.rules_shared.specs.House.{House, house1401}
 use Rattle.rules_object.specs.Object.{Object, ruleOf}
 use Rattle.rules_object.specs.Check.{right41}
 use Rattle.rules_object.specs.Machine.{fresh, step}
@@ -32,6 +33,8 @@ use Rattle.rules_deck.specs.Cards.{cardLength}
 use Rattle.rules_deck.specs.Translation.{translate}
 use Rattle.rules_deck.specs.Compile.{Read, notRead, read, deckOf, writeRead, compiling}
 use Rattle.rules_deck.specs.Seen.{objectIn}
+use Rattle.rules_deck.specs.Lawful.{Lawful}
+use Rattle.rules_deck.proofs.Houses.{lawful1401}
 use Rattle.rules_deck.proofs.AcceptedDeck.{accepted as accepted-deck}
 use Rattle.rules_deck.proofs.CompiledRight.{passes-41}
 use Rattle.rules_deck.proofs.CompiledWritable.{compiled-reads, compiled-checked}
@@ -66,19 +69,19 @@ module _ (o : Object) (limited : right41 o ≡ true) where
 abbrev pub linesOf : Object → Ran → List ℕ
 linesOf o r = haltLine (r .halt) (r .steps) (r .sequence) ++ nameLines (o .names) (r .store)
 
-module _ (k : ℕ) (bytes : List ℕ) (deck : List Statement) (reads : deckOf k bytes ≡ read deck) where
+module _ (house : House) (lawful : Lawful house) (bytes : List ℕ) (deck : List Statement) (reads : deckOf house bytes ≡ read deck) where
   abbrev o : Object
-  o = translate k deck
+  o = translate house deck
 
   abbrev object : List ℕ
-  object = objectBytes (translate k deck)
+  object = objectBytes (translate house deck)
 
   runs : Accepts object zeroStore freshLent
   unfolding given
   runs =
-      let c = compiled-checked k bytes deck reads in
+      let c = compiled-checked house lawful bytes deck reads in
       let p = check-passed object o (c .0) (c .1) in
-      let limited = passes-41 (accepted-deck k bytes deck reads) in
+      let limited = passes-41 (accepted-deck house lawful bytes deck reads) in
       record {
         object = o;
         table = c .0;
@@ -95,24 +98,24 @@ module _ (k : ℕ) (bytes : List ℕ) (deck : List Statement) (reads : deckOf k 
   printed-object : printedObject object ≡ linesOf o (running object zeroStore freshLent allowance)
   unfolding printedObject
   printed-object =
-      ap (λ (p : Option Object). runLines (namesOf p) (running object zeroStore freshLent allowance)) (compiled-reads (accepted-deck k bytes deck reads))
+      ap (λ (p : Option Object). runLines (namesOf p) (running object zeroStore freshLent allowance)) (compiled-reads (accepted-deck house lawful bytes deck reads))
       ∙ ap (ranLines (o .names) (running object zeroStore freshLent allowance)) (ap (λ (r : Refusal). r .number) run-accepted)
 
   -- wherever there is room for it
-  pub object-written : (output : List ℕ) → compiling k bytes output .refusal ≡ accepted → objectIn (compiling k bytes output) ≡ object
+  pub object-written : (output : List ℕ) → compiling house bytes output .refusal ≡ accepted → objectIn (compiling house bytes output) ≡ object
   unfolding compiling write objectIn
   object-written output e =
-      ap (λ (r : Read). objectIn (writeRead k output r)) reads
-      ∙ by (leb (length object) (length output)) (ap (λ (r : Read). writeRead k output r .refusal) (sym reads) ∙ e)
+      ap (λ (r : Read). objectIn (writeRead house output r)) reads
+      ∙ by (leb (length object) (length output)) (ap (λ (r : Read). writeRead house output r .refusal) (sym reads) ∙ e)
     where
       by : (b : Bool) → writtenIf b object output .refusal ≡ accepted → objectIn (writtenIf b object output) ≡ object
       by true e = take-append-seam object (drop (length object) output)
       by false e = let z : _≡_ {A = ℕ} 30 0 = ap (λ (r : Refusal). r .number) e in absurd (omega arith)
 
-  deck-printed : compiledLines (compiling k bytes (replicate mostBytes 0)) ≡ printedObject object
+  deck-printed : compiledLines (compiling house bytes (replicate mostBytes 0)) ≡ printedObject object
   deck-printed =
-      let room = room-enough k bytes deck reads in
-      ap (writtenLines (compiling k bytes (replicate mostBytes 0))) (ap (λ (r : Refusal). r .number) room)
+      let room = room-enough house lawful bytes deck reads in
+      ap (writtenLines (compiling house bytes (replicate mostBytes 0))) (ap (λ (r : Refusal). r .number) room)
       ∙ ap printedObject (object-written (replicate mostBytes 0) room)
 
 -- ---- what is printed
@@ -121,19 +124,19 @@ pub no-card : (input : List ℕ) → controlDigits input ≡ none → printed in
 unfolding printed
 no-card input c = ap (deckLines (drop cardLength input)) c
 
-pub no-deck : (input : List ℕ) (k : ℕ) (r : Refusal) → controlDigits input ≡ some k → deckOf k (drop cardLength input) ≡ notRead r → printed input ≡ refusedLine (r .number) (r .place)
+pub no-deck : (input : List ℕ) (k : ℕ) (r : Refusal) → controlDigits input ≡ some k → deckOf (house1401 k) (drop cardLength input) ≡ notRead r → printed input ≡ refusedLine (r .number) (r .place)
 unfolding printed compiling
 no-deck input k r c e =
     ap (deckLines (drop cardLength input)) c
-    ∙ ap (λ (x : Read). compiledLines (writeRead k (replicate mostBytes 0) x)) e
-    ∙ by (r .number) (subst ReadNumbered e (refused-numbered k (drop cardLength input)) .0)
+    ∙ ap (λ (x : Read). compiledLines (writeRead (house1401 k) (replicate mostBytes 0) x)) e
+    ∙ by (r .number) (subst ReadNumbered e (refused-numbered (house1401 k) (drop cardLength input)) .0)
   where
-    by : (n : ℕ) → 1 ≤ n → writtenLines (writeRead k (replicate mostBytes 0) (notRead r)) n ≡ refusedLine n (r .place)
+    by : (n : ℕ) → 1 ≤ n → writtenLines (writeRead (house1401 k) (replicate mostBytes 0) (notRead r)) n ≡ refusedLine n (r .place)
     by zero l = absurd (omega arith)
     by (suc n) l = refl
 
-pub run-printed : (input : List ℕ) (k : ℕ) (deck : List Statement) → controlDigits input ≡ some k → deckOf k (drop cardLength input) ≡ read deck
-    → printed input ≡ linesOf (translate k deck) (running (objectBytes (translate k deck)) zeroStore freshLent allowance)
+pub run-printed : (input : List ℕ) (k : ℕ) (deck : List Statement) → controlDigits input ≡ some k → deckOf (house1401 k) (drop cardLength input) ≡ read deck
+    → printed input ≡ linesOf (translate (house1401 k) deck) (running (objectBytes (translate (house1401 k) deck)) zeroStore freshLent allowance)
 unfolding printed
 run-printed input k deck c e =
-    ap (deckLines (drop cardLength input)) c ∙ deck-printed k (drop cardLength input) deck e ∙ printed-object k (drop cardLength input) deck e
+    ap (deckLines (drop cardLength input)) c ∙ deck-printed (house1401 k) (lawful1401 k) (drop cardLength input) deck e ∙ printed-object (house1401 k) (lawful1401 k) (drop cardLength input) deck e

@@ -8,6 +8,7 @@ use lib.Dec.{leb, eqb}
 use lib.ListN.{length, take, drop, replicate}
 use lib.IntN.{ℤ, pos}
 use Rattle.rules_shared.specs.Limits.{limits}
+use Rattle.rules_shared.specs.House.{house1401}
 use Rattle.rules_object.specs.Object.{Named, Object}
 use Rattle.rules_object.specs.Bytes.{contentsLength, readObject}
 use Rattle.rules_shared.specs.Lists.{all}
@@ -82,7 +83,7 @@ compiledLines w = writtenLines w (w .refusal .number)
 
 abbrev pub deckLines : List ℕ → Option ℕ → List ℕ
 deckLines deck none = refusedLine 1 0
-deckLines deck (some k) = compiledLines (compiling k deck (replicate mostBytes 0))
+deckLines deck (some k) = compiledLines (compiling (house1401 k) deck (replicate mostBytes 0))
 
 -- what the program prints
 unfoldable pub printed : List ℕ → List ℕ

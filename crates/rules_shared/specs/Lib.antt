@@ -1,4 +1,5 @@
 pub mod Limits
+pub mod House
 pub mod Refusals
 pub mod Lists
 pub mod Output

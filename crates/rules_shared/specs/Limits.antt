@@ -1,13 +1,11 @@
--- 01's limits, all in one place.
+-- 01's limits that are the same in every house, all in one place.
 -- Assumes nothing.
 use Prim.Native.Nat.{ℕ}
 
 pub record Limits : Type 0 where
   -- of a deck's text
   pub cards : ℕ
-  pub continuations : ℕ
   pub statements : ℕ
-  pub nameLength : ℕ
   pub statementNumber : ℕ
   pub parentheses : ℕ
   pub fewestExits : ℕ
@@ -29,9 +27,7 @@ abbrev pub limits : Limits
 limits =
     record {
       cards = 512;
-      continuations = 9;
       statements = 400;
-      nameLength = 6;
       statementNumber = 99999;
       parentheses = 16;
       fewestExits = 2;

@@ -8,6 +8,7 @@ use mathlib.Core.List.{List, [], _∷_, _++_, map}
 use mathlib.Core.Option.{some}
 use lib.ListN.{length, take, drop, getD, getElem?, length-append, length-map}
 use borrow.Author.Tests.{ltb-true}
+use Rattle.rules_shared.specs.House.{House}
 use Rattle.rules_deck.specs.Trees.{Digits, valueOf, Statement, formExits, formLast}
 use Rattle.rules_deck.specs.Deck.{positionOf}
 use Rattle.rules_deck.specs.Whole.{defined, right22}
@@ -27,16 +28,16 @@ use Rattle.settle_statement.specs.Words.{Aimed, targets}
 use Rattle.settle_statement.proofs.Filling.{piece, piece-inside, slice-get}
 use Rattle.settle.proofs.Splitting.{jumps-split, jumps-append}
 
-pub leading : {k : ℕ} {deck : List Statement} {rows : List ℕ} {count : ℕ} {loops : List ℕ} {n : ℕ} {jumps starts draft : List ℕ}
-    → Settling k deck rows count loops n jumps starts draft → Leading k deck rows count jumps starts
+pub leading : {house : House} {deck : List Statement} {rows : List ℕ} {count : ℕ} {loops : List ℕ} {n : ℕ} {jumps starts draft : List ℕ}
+    → Settling house deck rows count loops n jumps starts draft → Leading house deck rows count jumps starts
 leading told = record { in-rows = told .judged .in-rows; jumps-are = told .judged .jumps-are; starts-are = told .starts-are }
 
 -- ---- every number is defined
 
-used : {k : ℕ} {deck : List Statement} → Accepted k deck → (j : ℕ) (s : Statement) → getElem? deck j ≡ some s
+used : {house : House} {deck : List Statement} → Accepted house deck → (j : ℕ) (s : Statement) → getElem? deck j ≡ some s
     → (n : Digits) → Among n (formExits (s .form) ++ formLast (s .form)) → positionOf deck (valueOf n) < length deck
 unfolding right22
-used {k} {deck} accepted j s e n a = ltb-true (positionOf deck (valueOf n)) (length deck) (all-among (defined deck) (passes22 accepted j s e) a)
+used {house} {deck} accepted j s e n a = ltb-true (positionOf deck (valueOf n)) (length deck) (all-among (defined deck) (passes22 accepted j s e) a)
 
 all-small : (f : ℕ → ℕ) (most : ℕ) (ns : List Digits) → ((n : Digits) → Among n ns → f (valueOf n) < most) → (m : ℕ) → m < length ns → getD (map f (map valueOf ns)) m 0 < most
 all-small f most [] h m l = absurd (omega arith)
@@ -50,7 +51,7 @@ all-addresses f g h most same (n ∷ ns) small =
     let first = same (h (valueOf n)) (small n here) in
     ap (λ (x : ℕ). x ∷ map f (map h (map valueOf ns))) first ∙ ap (λ (l : List ℕ). g (h (valueOf n)) ∷ l) (all-addresses f g h most same ns (λ x a. small x (there a)))
 
-module _ {k : ℕ} {deck : List Statement} {rows : List ℕ} {count : ℕ} {jumps starts : List ℕ} (told : Leading k deck rows count jumps starts) where
+module _ {house : House} {deck : List Statement} {rows : List ℕ} {count : ℕ} {jumps starts : List ℕ} (told : Leading house deck rows count jumps starts) where
   module _ (i : ℕ) (s : Statement) (e : getElem? deck i ≡ some s) where
     small : (n : Digits) → Among n (formExits (s .form) ++ formLast (s .form)) → positionOf deck (valueOf n) < length deck
     small = used (told .in-rows .accepted) i s e

@@ -10,6 +10,7 @@ use mathlib.Core.Option.{some}
 use lib.Dec.{eqb}
 use lib.ListN.{length, take, drop, getD, getElem?, length-append, length-map}
 use lib.Seq.{take-length}
+use Rattle.rules_shared.specs.House.{House}
 use Rattle.rules_object.specs.Operations.{Instr, DOE}
 use Rattle.rules_deck.specs.Trees.{Name, valueOf, Expr, con, var, elm, neg, par, bin, Target, cell, element, Form, assign, goTo, computed, ifs, loop, continue, stop, end, dimension, Statement, formExits, formLast}
 use Rattle.rules_deck.specs.Deck.{Dims, Do, dimsOf, endings}
@@ -88,7 +89,7 @@ module _ (deck : List Statement) (q : ℕ) where
 abbrev pub exitsTo : List Statement → ℕ → List ℕ
 exitsTo deck i = tablesOf noTables (codeFrom deck 0 (take i deck)) .exits
 
-module _ {k : ℕ} {deck : List Statement} {rows : List ℕ} {count : ℕ} {jumps starts : List ℕ} (told : Leading k deck rows count jumps starts) where
+module _ {house : House} {deck : List Statement} {rows : List ℕ} {count : ℕ} {jumps starts : List ℕ} (told : Leading house deck rows count jumps starts) where
   exits-of : (i : ℕ) (s : Statement) → getElem? deck i ≡ some s → (j : ℕ) → j ≡ length (deckJumps (take i deck))
       → exitWords (getD rows (5 * i + 1) 0) jumps j (getD rows (5 * i + 4) 0) starts ≡ exitsOf (kindOf (s .form)) (map (addressOf deck) (jumpWords (s .form)))
   exits-of i s e j at =
@@ -149,7 +150,7 @@ module _ {k : ℕ} {deck : List Statement} {rows : List ℕ} {count : ℕ} {jump
       let s = at-some deck i (omega (arith, told .in-rows .counted)) in
       jumps-next told i (s .0) (s .1) j at
 
-  pub exits-all : {a : List ℕ} {top : ℕ} (i : ℕ) → i ≡ count → Holds a top (exitsTo deck i) → Holds a top (translate k deck .exits)
+  pub exits-all : {a : List ℕ} {top : ℕ} (i : ℕ) → i ≡ count → Holds a top (exitsTo deck i) → Holds a top (translate house deck .exits)
   unfolding translate codeOf
   exits-all i e held =
       holds-as (ap (λ (m : ℕ). exitsTo deck m) (e ∙ told .in-rows .counted) ∙ ap (λ (d : List Statement). tablesOf noTables (codeFrom deck 0 d) .exits) (take-length deck)) held

@@ -10,6 +10,7 @@ use mathlib.Core.List.{List, [], _∷_, _++_, map}
 use mathlib.Core.Option.{some}
 use lib.ListN.{length, take, drop, getD, getElem?, length-append, length-map}
 use borrow.Author.Tests.{eq-eqb, ne-eqb}
+use Rattle.rules_shared.specs.House.{House}
 use Rattle.rules_object.specs.Operations.{Instr, DOI, DOE}
 use Rattle.rules_deck.specs.Trees.{Digits, valueOf, Form, assign, goTo, computed, ifs, loop, continue, stop, end, dimension, Statement, formExits, formLast}
 use Rattle.rules_deck.specs.Deck.{Do, dosOf, dimsOf, endings}
@@ -97,7 +98,7 @@ one-jump : (n : Digits) → jumpWords (goTo n) ≡ valueOf n ∷ []
 unfolding formExits formLast
 one-jump n = refl
 
-module _ {k : ℕ} {deck : List Statement} {rows : List ℕ} {count : ℕ} {loops : List ℕ} {n : ℕ} {jumps starts draft : List ℕ} (told : Settling k deck rows count loops n jumps starts draft) where
+module _ {house : House} {deck : List Statement} {rows : List ℕ} {count : ℕ} {loops : List ℕ} {n : ℕ} {jumps starts draft : List ℕ} (told : Settling house deck rows count loops n jumps starts draft) where
   module _ (i : ℕ) (s : Statement) (e : getElem? deck i ≡ some s) where
     abbrev pub formHere : List Instr
     formHere = formCode (heldOf deck) (dimsOf deck) (addressOf deck) (enterCode deck i (s .form)) (s .form)

@@ -9,6 +9,7 @@ use lib.ListN.{length, take, drop, getD, length-take}
 use mathlib.Core.Bool.{Bool, true, false, cond}
 use borrow.Author.Tests.{eqb-true}
 use lib.Seq.{take-length}
+use Rattle.rules_shared.specs.House.{House}
 use Rattle.rules_deck.specs.Trees.{Statement}
 use Rattle.rules_deck.specs.Translation.{codeFrom, codeOf, noTables, emit, translate}
 use Rattle.rules_deck.proofs.Addresses.{at-some}
@@ -40,7 +41,7 @@ pub record Room (rows : List ℕ) (loops : List ℕ) (n : ℕ) (jumps starts dra
   pub jumped : j + getD rows (5 * i + 4) 0 ≤ length jumps
   pub aimed : getD rows (5 * i + 1) 0 ≡ 1 → (1 ≤ getD rows (5 * i + 3) 0) × Aimed jumps j 1 starts
 
-module _ {k : ℕ} {deck : List Statement} {rows : List ℕ} {count : ℕ} {loops : List ℕ} {n : ℕ} {jumps starts draft : List ℕ} (told : Settling k deck rows count loops n jumps starts draft) where
+module _ {house : House} {deck : List Statement} {rows : List ℕ} {count : ℕ} {loops : List ℕ} {n : ℕ} {jumps starts draft : List ℕ} (told : Settling house deck rows count loops n jumps starts draft) where
   pub room-here : {out : List ℕ} {from j top i : ℕ} → i < count → 400 < length starts → Reached deck from j top out i → Room rows loops n jumps starts draft from j top i
   room-here {out} {from} {j} {top} {i} l room r =
       let s = at-some deck i (omega (arith, told .judged .in-rows .counted)) in
@@ -66,7 +67,7 @@ module _ {k : ℕ} {deck : List Statement} {rows : List ℕ} {count : ℕ} {loop
             (holds-more (holds-more (r .holds) (put-as (own-is told i (s .0) (s .1) from (r .from-is) j (r .j-is)) p)) (put-as (ends-here told i (s .0) (s .1)) q));
       }
 
-  pub reached-all : {out : List ℕ} {from j top i : ℕ} → i ≡ count → Reached deck from j top out i → Holds out top (translate k deck .code)
+  pub reached-all : {out : List ℕ} {from j top i : ℕ} → i ≡ count → Reached deck from j top out i → Holds out top (translate house deck .code)
   unfolding translate codeOf
   reached-all {out} {from} {j} {top} {i} e r =
       holds-as (ap (λ (m : ℕ). emit noTables (codeTo deck m)) (e ∙ told .judged .in-rows .counted) ∙ ap (λ (d : List Statement). emit noTables (codeFrom deck 0 d)) (take-length deck)) (r .holds)

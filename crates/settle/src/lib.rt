@@ -1,7 +1,8 @@
 // Bodies 3 and 5 of the object: the exits, and the code with its addresses and DOEs.
 ghost use mathlib.Core.List.{List};
-ghost use Prim.Native.Nat.{ℕ, _+_, _<_, _≤_};
+ghost use Prim.Native.Nat.{_+_, _<_, _≤_};
 ghost use lib.ListN.{length};
+ghost use Rattle.rules_shared.specs.House.{House};
 ghost use Rattle.rules_deck.specs.Trees.{Statement};
 ghost use Rattle.rules_deck.specs.Translation.{translate};
 ghost use Rattle.addresses.specs.Given.{Holds};
@@ -19,7 +20,7 @@ pub fn code(
     out: &mut [u32],
 ) -> usize
     requires { ⌜ Ready (now rows) count (now loops) n (now jumps) (now starts) (now draft) × (400 < length (now starts)) × (4096 ≤ length (now out)) ⌝ }
-    ensures { λ r. ⌜ ((k : ℕ) (deck : List Statement) → Settling k deck (now (rows .entry)) count (now (loops .entry)) n (now (jumps .entry)) (now (starts .entry)) (now (draft .entry)) → Holds (now (out .exit)) r (translate k deck .code)) ⌝ }
+    ensures { λ r. ⌜ ((house : House) (deck : List Statement) → Settling house deck (now (rows .entry)) count (now (loops .entry)) n (now (jumps .entry)) (now (starts .entry)) (now (draft .entry)) → Holds (now (out .exit)) r (translate house deck .code)) ⌝ }
 {
     let mut from: usize = 0;
     let mut j: usize = 0;
@@ -49,7 +50,7 @@ pub fn code(
 // The exits of an accepted deck; how many words they are.
 pub fn exits(rows: &[u64], count: usize, jumps: &[u32], starts: &[u32], out: &mut [u32]) -> usize
     requires { ⌜ Led (now rows) count (now jumps) (now starts) × (400 < length (now starts)) × (1024 ≤ length (now out)) ⌝ }
-    ensures { λ r. ⌜ ((k : ℕ) (deck : List Statement) → Leading k deck (now (rows .entry)) count (now (jumps .entry)) (now (starts .entry)) → Holds (now (out .exit)) r (translate k deck .exits)) ⌝ }
+    ensures { λ r. ⌜ ((house : House) (deck : List Statement) → Leading house deck (now (rows .entry)) count (now (jumps .entry)) (now (starts .entry)) → Holds (now (out .exit)) r (translate house deck .exits)) ⌝ }
 {
     let mut j: usize = 0;
     let mut top: usize = 0;

@@ -6,6 +6,7 @@ use native.Mathlib.Omega.{arith}
 use mathlib.Core.Bool.{true}
 use mathlib.Core.List.{List, [], _∷_, _++_, map}
 use lib.ListN.{length, take, length-append}
+use Rattle.rules_shared.specs.House.{house1401}
 use Rattle.rules_object.specs.Operations.{Instr}
 use Rattle.rules_object.specs.Bytes.{concat}
 use Rattle.rules_object.specs.Bytes as object
@@ -24,6 +25,7 @@ use Rattle.plans.specs.Plans.{Plans}
 use Rattle.plans.proofs.ByKind.{plan-kind}
 use Rattle.marks.specs.Marks.{numbersOf, setOf}
 use Rattle.statements.specs.Steps.{Filled, Entered, Marked}
+use Rattle.rules_deck.proofs.Houses.{lawful1401}
 use Rattle.statements.proofs.Counting.{After, book-numbers, set-word}
 use Rattle.statements.proofs.Keeping.{entries-both, tabled-as, punched, laterOf, moreOf, same-code, same-tables, dos-long, code-long, exits-grow}
 
@@ -31,10 +33,10 @@ lists-at : {held : List Held} {names : List ℕ} {a b c d : ℕ} → c ≡ a →
 lists-at {held} {names} {a} {b} {c} {d} e g l = subst (λ (x : ℕ). Lists held names x d) (sym e) (subst (λ (x : ℕ). Lists held names a x) (sym g) l)
 
 module _ {D : Draft} {names constants elements dos loops code rows jumps : List ℕ} {n : Counts} (kept : Kept D names constants elements dos loops code rows jumps n) (f : Form) (number : ℕ)
-    {p : Plan} {items : List ℕ} (plans : Plans f items p) (right : right13 f ≡ true) {m l r : Counts} (md : m .dos ≡ n .dos) (mj : m .jumps ≡ n .jumps) (ms : m .statements ≡ n .statements)
+    {p : Plan} {items : List ℕ} (plans : Plans f items p) (k : ℕ) (right : right13 (house1401 k) f ≡ true) {m l r : Counts} (md : m .dos ≡ n .dos) (mj : m .jumps ≡ n .jumps) (ms : m .statements ≡ n .statements)
     (s : After f m l) {words : ℕ} {rows′ jumps′ : List ℕ} (marks : Marked p number words items rows jumps rows′ jumps′ l r) where
   numbers : numbersOf p items ≡ jumpWords f
-  numbers = book-numbers f plans right
+  numbers = book-numbers (lawful1401 k) f plans right
 
   pub r-statements : r .statements ≡ n .statements + 1
   r-statements = ap (λ (c : Counts). c .statements) (marks .is) ∙ ap (λ (x : ℕ). x + 1) (s .statements ∙ ms)
@@ -68,7 +70,7 @@ module _ {D : Draft} {names constants elements dos loops code rows jumps : List 
     row-is : words ≡ m .code - n .code
         → number ∷ p .kind ∷ setOf p ∷ words ∷ length (numbersOf p items) ∷ [] ≡ number ∷ kindOf f ∷ setWord f ∷ ownWords f ∷ length (jumpWords f) ∷ []
     row-is w =
-        let k : p .kind ≡ kindOf f = ap (λ (x : Plan). x .kind) (plans .plan) ∙ plan-kind f in
+        let kind : p .kind ≡ kindOf f = ap (λ (x : Plan). x .kind) (plans .plan) ∙ plan-kind f in
         let g : setOf p ≡ setWord f = ap setOf (plans .plan) ∙ set-word f in
         let o : words ≡ ownWords f = omega (arith, filled .code-count m ea, own-words (n .dos) (laterOf D n f) f) in
         let c : length (numbersOf p items) ≡ length (jumpWords f) = ap length numbers in

@@ -8,8 +8,10 @@ use mathlib.Core.List.{List, [], _∷_, _++_, map, append-nil}
 use lib.Dec.{eqb, leb}
 use lib.ListN.{length, take, length-map}
 use borrow.Author.Tests.{eqb-true, eqb-false, leb-true}
+use Rattle.rules_shared.specs.House.{House}
 use Rattle.rules_shared.specs.Lists.{all, Each, each-none, each-more}
 use Rattle.rules_deck.specs.Trees.{Target, cell, element, Form, assign, goTo, computed, ifs, loop, continue, stop, end, dimension, formExits, formLast}
+use Rattle.rules_deck.specs.Lawful.{Lawful}
 use Rattle.rules_deck.specs.Judge.{right13}
 use Rattle.rules_deck.specs.Whole.{formSets}
 use Rattle.rules_deck.proofs.Readers.{both-true}
@@ -129,8 +131,8 @@ capped-numbers (dimension arrays) items h = refl
 pub plan-numbers : {p : Plan} {items : List ℕ} (f : Form) → Plans f items p → numbersOf p items ≡ map capped (formExits f ++ formLast f)
 plan-numbers {p} {items} f h = ap (λ (x : Plan). numbersOf x items) (h .plan) ∙ capped-numbers f items (h .listed)
 
-pub book-numbers : {p : Plan} {items : List ℕ} (f : Form) → Plans f items p → right13 f ≡ true → numbersOf p items ≡ jumpWords f
-book-numbers f h r = plan-numbers f h ∙ numbers-exact f r
+pub book-numbers : {house : House} → Lawful house → {p : Plan} {items : List ℕ} (f : Form) → Plans f items p → right13 house f ≡ true → numbersOf p items ≡ jumpWords f
+book-numbers lawful f h r = plan-numbers f h ∙ numbers-exact lawful f r
 
 all-low : (l : List ℕ) → all rightNumber l ≡ true → Each Low l
 all-low [] h = each-none
@@ -138,5 +140,5 @@ all-low (n ∷ l) h =
     let w = both-true (rightNumber n) (all rightNumber l) h in
     each-more (leb-true n 99999 (both-true (leb 1 n) (leb n 99999) (w .0) .1)) (all-low l (w .1))
 
-pub low-numbers : {p : Plan} {items : List ℕ} (f : Form) → Plans f items p → right13 f ≡ true → Each Low (numbersOf p items)
-low-numbers {p} {items} f h r = subst (Each Low) (sym (plan-numbers f h)) (all-low _ (sym (right13-capped f) ∙ r))
+pub low-numbers : {house : House} → Lawful house → {p : Plan} {items : List ℕ} (f : Form) → Plans f items p → right13 house f ≡ true → Each Low (numbersOf p items)
+low-numbers lawful {p} {items} f h r = subst (Each Low) (sym (plan-numbers f h)) (all-low _ (sym (right13-capped lawful f) ∙ r))

@@ -90,21 +90,21 @@ second-false false b e = refl
 
 module _ {p : Plan} {first items names constants elements words names′ : List ℕ} {n : Counts} {g : Grown} (h : TakesCells p first items names names′ (n .names) (n .cells) g) where
   pub cells-full : (constants′ elements′ words′ : List ℕ) → g ≡ Full → Fills p first items names constants elements words names′ constants′ elements′ words′ n emitted.Full
-  cells-full constants′ elements′ words′ e q f held T s u l t r =
+  cells-full constants′ elements′ words′ e digits q f held T s u l t r =
       record {
         lists = λ m z. let w : _≡_ {A = ℕ} 0 1 = cc in absurd (omega arith);
         tables = λ m z. let w : _≡_ {A = ℕ} 0 1 = cc in absurd (omega arith);
         words-are = λ m z. let w : _≡_ {A = ℕ} 0 1 = cc in absurd (omega arith);
         code-count = λ m z. let w : _≡_ {A = ℕ} 0 1 = cc in absurd (omega arith);
-        full = λ z. first-false (namesFit (brings q f held)) _ (subst (Appeared (brings q f held) names′) e (h .is f held q s u l (r .told) (r .right-15)));
+        full = λ z. first-false (namesFit (brings q f held)) _ (subst (Appeared (brings q f held) names′) e (h .is digits f held q s u l (r .told) (r .right-15)));
       }
 
   pub cells-then : {x y : ℕ} {constants′ elements′ words′ : List ℕ} {a : Emitted} → g ≡ Names x y
       → EmitsPlan p items names′ constants elements words constants′ elements′ words′ (withNames n x y) a
       → Fills p first items names constants elements words names′ constants′ elements′ words′ n a
-  cells-then {x} {y} {constants′} {elements′} {words′} {a} e k q f held T s u l t r =
-      let now : Lists (brings q f held) names′ x y = subst (Appeared (brings q f held) names′) e (h .is f held q s u l (r .told) (r .right-15)) in
-      let emits = k f (brings q f held) T s now (tables-same t) (r .right-13) (r .known-first) (r .known-items) in
+  cells-then {x} {y} {constants′} {elements′} {words′} {a} e k digits q f held T s u l t r =
+      let now : Lists (brings q f held) names′ x y = subst (Appeared (brings q f held) names′) e (h .is digits f held q s u l (r .told) (r .right-15)) in
+      let emits = k digits f (brings q f held) T s now (tables-same t) (r .right-13) (r .known-first) (r .known-items) in
       record {
         lists = λ m z.
             let b = emits .wrote m z .beside in

@@ -6,6 +6,7 @@ use native.Mathlib.Omega.{arith}
 use mathlib.Core.Bool.{Bool, true, false}
 use mathlib.Core.List.{List, [], _∷_, map}
 use lib.ListN.{length, length-take, length-map}
+use Rattle.rules_shared.specs.House.{house1401}
 use Rattle.tokens.specs.Words.{capped}
 use Rattle.rules_deck.specs.Trees.{Form}
 use Rattle.rules_deck.specs.Translation.{Held, hidden, appear, formPlain, brings}
@@ -30,6 +31,7 @@ use Rattle.statements.specs.Taking.{Fresh, Judged}
 use Rattle.statements.specs.Steps.{Passed, Right, Onward, Filled, Fills, Entering, Counted, Entered, Enters}
 use Rattle.statements.specs.Planned.{Planning, ComesPlanned}
 use Rattle.statements.proofs.Judging.{told-of, right-of, judged-15, judged-16, judged-18}
+use Rattle.rules_deck.proofs.Houses.{lawful1401}
 use Rattle.statements.proofs.Counting.{After, after, book-numbers, low-numbers}
 use Rattle.statements.proofs.Keeping.{full-18, dos-18, exits-grow}
 
@@ -47,32 +49,32 @@ module _ {p : Plan} {first items names constants elements dos loops code rows ju
   given-of h = record { plans = h .readied .plans; first-are = h .readied .first-are; passed = h .passed; kept = h .kept; fresh = h .fresh }
 
   module _ {k : ℕ} {f : Form} {D : Draft} (g : Given p first items names constants elements dos loops code rows jumps n k f D) where
-    pub is-15 : {a : Bool} → RightArrays p items names (n .names) a → a ≡ right15 (D .held) f
-    is-15 r = r f (D .held) (n .cells) (g .plans) (g .kept .held) (told-of (g .passed))
+    pub is-15 : {a : Bool} → RightArrays p items names (n .names) a → a ≡ right15 (house1401 k) (D .held) f
+    is-15 r = r k f (D .held) (n .cells) (g .plans) (g .kept .held) (told-of (g .passed))
 
     pub is-16 : {a : Bool} → RightOperands p first items names (n .names) a → a ≡ right16 (D .held) f
     is-16 r = r f (D .held) (n .cells) (g .plans) (g .first-are) (g .kept .held) (told-of (g .passed))
 
     module _ {t : Taken} (M : Matches t D) where
-      pub as-15 : {b : Bool} → right15 (D .held) f ≡ b → right15 (t .held) f ≡ b
-      as-15 e = ap (λ (h : List Held). right15 h f) (M .held) ∙ e
+      pub as-15 : {b : Bool} → right15 (house1401 k) (D .held) f ≡ b → right15 (house1401 k) (t .held) f ≡ b
+      as-15 e = ap (λ (h : List Held). right15 (house1401 k) h f) (M .held) ∙ e
 
       pub as-16 : {b : Bool} → right16 (D .held) f ≡ b → right16 (t .held) f ≡ b
       as-16 e = ap (λ (h : List Held). right16 h f) (M .held) ∙ e
 
     module _ {a b : Bool} (ra : RightArrays p items names (n .names) a) (ea : a ≡ true) (rb : RightOperands p first items names (n .names) b) (eb : b ≡ true) where
-      right15-is : right15 (D .held) f ≡ true
+      right15-is : right15 (house1401 k) (D .held) f ≡ true
       right15-is = sym (is-15 ra) ∙ ea
 
       right16-is : right16 (D .held) f ≡ true
       right16-is = sym (is-16 rb) ∙ eb
 
-      pub rightly : Right (n .statements) f (D .held)
+      pub rightly : Right k (n .statements) f (D .held)
       rightly = right-of (n .statements) (D .held) (g .passed) right15-is right16-is
 
       pub filled-of : {names′ constants′ elements′ code′ : List ℕ} {r : Emitted} → Fills p first items names constants elements code names′ constants′ elements′ code′ n r
           → Filled (n .statements) f (D .held) (D .tables) code names′ constants′ elements′ code′ n r
-      filled-of s = s (n .statements) f (D .held) (D .tables) (g .plans) (g .first-are) (g .kept .held) (g .kept .tables) rightly
+      filled-of s = s k (n .statements) f (D .held) (D .tables) (g .plans) (g .first-are) (g .kept .held) (g .kept .tables) rightly
 
       pub entered-of : {names′ constants′ elements′ code′ dos′ loops′ : List ℕ} {r s : Emitted} {m : Counts}
           → Filled (n .statements) f (D .held) (D .tables) code names′ constants′ elements′ code′ n r → r ≡ emitted.Counts m → m .statements ≡ n .statements
@@ -148,12 +150,12 @@ module _ {p : Plan} {first items names constants elements dos loops code rows ju
     pub jumping : Fit n → n .statements < 400 → length jumps ≡ 1424 → Jumping p items jumps (l .jumps)
     jumping h few long =
         record {
-          low = low-numbers f (g .plans) (g .passed .right-13);
+          low = low-numbers (lawful1401 k) f (g .plans) (g .passed .right-13);
           listed = λ z. listed-room p items f (of-kind p f (g .plans .plan) 2 z) (g .plans);
           room =
               omega (
                 arith,
-                ap length (book-numbers f (g .plans) (g .passed .right-13)),
+                ap length (book-numbers (lawful1401 k) f (g .plans) (g .passed .right-13)),
                 jump-count f,
                 exits-grow (g .kept) f 0 (matched D),
                 w .tables m e .exits-count,

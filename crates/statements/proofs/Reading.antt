@@ -9,6 +9,7 @@ use mathlib.Core.List.{List, []}
 use lib.Dec.{eqb, leb}
 use lib.ListN.{length, take, drop}
 use borrow.Author.Tests.{le-leb}
+use Rattle.rules_shared.specs.House.{house1401}
 use Rattle.rules_shared.specs.Refusals.{orElse}
 use Rattle.rules_deck.specs.Trees.{Form}
 use Rattle.rules_deck.specs.Cards.{rightDigits}
@@ -59,17 +60,17 @@ module _ {s : Statement} {items : List ℕ} (R : Reading s items) where
   pub exits-in : exitsIn s ≤ length items
   exits-in = subst (λ (x : Statement). exitsIn x ≤ length items) (sym (R .says)) (exits-fit (R .form) items (R .table))
 
-  lowest-is : (k : ℕ) → ofStatement k items s ≡ lowest (right11 (R .form)) (right12 k (R .form)) (right13 (R .form)) (right14 (R .form))
+  lowest-is : (k : ℕ) → ofStatement k items s ≡ lowest (right11 (house1401 k) (R .form)) (right12 (house1401 k) (R .form)) (right13 (house1401 k) (R .form)) (right14 (R .form))
   lowest-is k = ap (ofStatement k items) (R .says) ∙ of-form k (R .form) items (R .table)
 
-  pub refused-low : (k q w : ℕ) (t : Taken) → w ≡ ofStatement k items s → (w ≡ 0 → ⊥) → judgeForm k q (R .form) t ≡ some w
+  pub refused-low : (k q w : ℕ) (t : Taken) → w ≡ ofStatement k items s → (w ≡ 0 → ⊥) → judgeForm (house1401 k) q (R .form) t ≡ some w
   unfolding judgeForm
-  refused-low k q w t e h = first-lowest (right11 (R .form)) (right12 k (R .form)) (right13 (R .form)) (right14 (R .form)) w _ (e ∙ lowest-is k) h
+  refused-low k q w t e h = first-lowest (right11 (house1401 k) (R .form)) (right12 (house1401 k) (R .form)) (right13 (house1401 k) (R .form)) (right14 (R .form)) w _ (e ∙ lowest-is k) h
 
   pub passed-of : (k : ℕ) → 1 ≤ k → k ≤ 9 → 0 ≡ ofStatement k items s → Passed k (R .form)
   unfolding rightDigits
   passed-of k a b e =
-      let w = all-right (right11 (R .form)) (right12 k (R .form)) (right13 (R .form)) (right14 (R .form)) (sym (e ∙ lowest-is k)) in
+      let w = all-right (right11 (house1401 k) (R .form)) (right12 (house1401 k) (R .form)) (right13 (house1401 k) (R .form)) (right14 (R .form)) (sym (e ∙ lowest-is k)) in
       record {
         text = R .text;
         read = R .read;

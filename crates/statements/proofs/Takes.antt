@@ -42,7 +42,7 @@ module _ {p : Plan} {number : ℕ} {first items names constants elements dos loo
       let x₃ = o .statements m eu in
       record {
         right = judged-none (n .statements) t pa (as-15 g M (sym (is-15 g ra) ∙ ea)) (as-16 g M (sym (is-16 g rb) ∙ eb)) (fits-18 kept f number M filled eu x₁ s (c .fit l ev));
-        kept = kept-after kept f number pl (pa .right-13) x₁ x₂ x₃ s marks eu filled w ev entered;
-        fit = fit-after kept f number pl (pa .right-13) x₁ x₂ x₃ s marks eu filled M (c .fit l ev) fit few;
-        counted = r-statements kept f number pl (pa .right-13) x₁ x₂ x₃ s marks ∙ add-one (n .statements);
+        kept = kept-after kept f number pl k (pa .right-13) x₁ x₂ x₃ s marks eu filled w ev entered;
+        fit = fit-after kept f number pl k (pa .right-13) x₁ x₂ x₃ s marks eu filled M (c .fit l ev) fit few;
+        counted = r-statements kept f number pl k (pa .right-13) x₁ x₂ x₃ s marks ∙ add-one (n .statements);
       }

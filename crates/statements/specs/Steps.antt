@@ -7,6 +7,7 @@ use mathlib.Core.Option.{some}
 use mathlib.Core.List.{List, [], _∷_, _++_, map}
 use lib.ListN.{length, take}
 use Rattle.rules_shared.specs.Limits.{limits}
+use Rattle.rules_shared.specs.House.{house1401}
 use Rattle.rules_deck.specs.Trees.{Form, formNames, formLast}
 use Rattle.rules_deck.specs.Translation.{Held, Tables, isHidden, holds, brings, emit, tablesOf}
 use Rattle.rules_object.specs.Bytes.{concat}
@@ -61,17 +62,17 @@ pub record Filled (q : ℕ) (f : Form) (held : List Held) (T : Tables) (words na
       → (namesFit (brings q f held) && tablesFit (tablesOf T (draftCode (n .dos) (brings q f held) f)) (n .code + length (draftCode (n .dos) (brings q f held) f)) (n .dos + length (formLast f))) ≡ false
 
 -- what was judged before
-pub record Right (q : ℕ) (f : Form) (held : List Held) : Type 0 where
+pub record Right (digits q : ℕ) (f : Form) (held : List Held) : Type 0 where
   pub told : Each Told (formNames f)
-  pub right-13 : right13 f ≡ true
-  pub right-15 : right15 held f ≡ true
+  pub right-13 : right13 (house1401 digits) f ≡ true
+  pub right-15 : right15 (house1401 digits) held f ≡ true
   pub known-first : Known (brings q f held) (formFirst f)
   pub known-items : Known (brings q f held) (formItems f)
 
 abbrev pub Fills : Plan → List ℕ → List ℕ → List ℕ → List ℕ → List ℕ → List ℕ → List ℕ → List ℕ → List ℕ → List ℕ → Counts → Emitted → Type 0
 Fills p first items names constants elements words names′ constants′ elements′ words′ n r =
-    (q : ℕ) (f : Form) (held : List Held) (T : Tables) → Plans f items p → first ≡ itemsWords (formFirst f) → Lists held names (n .names) (n .cells)
-    → Tabled T constants elements n → Right q f held → Filled q f held T words names′ constants′ elements′ words′ n r
+    (digits q : ℕ) (f : Form) (held : List Held) (T : Tables) → Plans f items p → first ≡ itemsWords (formFirst f) → Lists held names (n .names) (n .cells)
+    → Tabled T constants elements n → Right digits q f held → Filled q f held T words names′ constants′ elements′ words′ n r
 
 -- ---- a DO's entries
 
@@ -143,8 +144,8 @@ pub record Marked (p : Plan) (number words : ℕ) (items rows jumps rows′ jump
 pub record Passed (k : ℕ) (f : Form) : Type 0 where
   pub text : List ℕ
   pub read : formOf text ≡ some f
-  pub digits : rightDigits k ≡ true
-  pub right-11 : right11 f ≡ true
-  pub right-12 : right12 k f ≡ true
-  pub right-13 : right13 f ≡ true
+  pub digits : rightDigits (house1401 k) ≡ true
+  pub right-11 : right11 (house1401 k) f ≡ true
+  pub right-12 : right12 (house1401 k) f ≡ true
+  pub right-13 : right13 (house1401 k) f ≡ true
   pub right-14 : right14 f ≡ true

@@ -6,6 +6,7 @@ use mathlib.Core.List.{List}
 use mathlib.Core.Option.{none, some}
 use Prim.Native.Nat.{ℕ, suc, _≤_, _<_}
 use lib.ListN.{length, take}
+use Rattle.rules_shared.specs.House.{house1401}
 use Rattle.rules_deck.specs.Trees.{Form}
 use Rattle.rules_deck.specs.Trees as trees
 use Rattle.rules_deck.specs.Grammar.{formOf}
@@ -48,7 +49,7 @@ pub record Ready (s : Statement) (number k : ℕ) (items names constants element
 
 -- the tables hold the draft with the statement
 pub record Took (k q : ℕ) (st : trees.Statement) (t : Taken) (D : Draft) (names constants elements dos loops code rows jumps : List ℕ) (n : Counts) : Type 0 where
-  pub right : judgeForm k q (st .form) t ≡ none
+  pub right : judgeForm (house1401 k) q (st .form) t ≡ none
   pub kept : Kept (drafts q st D) names constants elements dos loops code rows jumps n
   pub fit : Fit n
   pub counted : n .statements ≡ suc q
@@ -56,7 +57,7 @@ pub record Took (k q : ℕ) (st : trees.Statement) (t : Taken) (D : Draft) (name
 -- where it is refused, the tables are free
 unfoldable pub Judged :
     (k q : ℕ) (st : trees.Statement) (t : Taken) (D : Draft) (names constants elements dos loops code rows jumps : List ℕ) → Outcome → Type 0
-Judged k q st t D names constants elements dos loops code rows jumps (outcome.Refused m) = judgeForm k q (st .form) t ≡ some m
+Judged k q st t D names constants elements dos loops code rows jumps (outcome.Refused m) = judgeForm (house1401 k) q (st .form) t ≡ some m
 Judged k q st t D names constants elements dos loops code rows jumps (outcome.Taken n) =
     Took k q st t D names constants elements dos loops code rows jumps n
 

@@ -8,6 +8,7 @@ use native.Mathlib.Omega.{arith}
 use native.Mathlib.Numerals.{add-one}
 use lib.ListN.{length, take, drop, length-drop, length-take}
 use lib.Seq.{drop-drop, length-sets}
+use Rattle.rules_shared.specs.House.{house1401}
 use Rattle.rules_shared.specs.Lists.{Each}
 use Rattle.rules_shared.proofs.EachLaws.{each-head}
 use Rattle.rules_deck.specs.Cards.{cardsOf, textColumns, textOf, Punched, numberOf, following, grouped}
@@ -24,7 +25,7 @@ use Rattle.texts.proofs.StatementLaws.{group-first, group-skip, skip-st
 
 -- all of them are to be taken from card 0 on
 pub from-start : (deck : List ℕ) (a : Accepted deck) → a .all ≡ grouped (drop 0 (cardsOf deck))
-from-start deck a = statements-grouped (a .digits) deck (a .all) (a .is)
+from-start deck a = statements-grouped (house1401 (a .digits)) deck (a .all) (a .is)
 
 -- ---- what `statement` leaves
 
@@ -87,7 +88,7 @@ module _ (content : Punched → List ℕ) where
           let s : Statement number n next ≡ Statement (record { 0 = p .number }) (length (content p)) (card + passed (drop card cards)) = sym f ∙ t .says ∙ ap (λ (ps : List Punched). firstOf content ps (card + passed (drop card cards))) e in
           let m : n ≡ length (content p) = cc in
           let k : card + passed (drop card cards) ≡ next = cc in
-          let fine = room p (each-head (subst (Each RightStatement) e (each-from card cards (all-right deck a)))) in
+          let fine = room p (each-head (subst (Each (RightStatement (house1401 (a .digits)))) e (each-from card cards (all-right deck a)))) in
           let o : table′ ≡ over 0 (content p) table = t .put ∙ ap (λ (ps : List Punched). over 0 (firstContent content ps) table) e in
           record {
             taken = p;

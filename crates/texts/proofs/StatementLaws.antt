@@ -10,6 +10,7 @@ use lib.ListN.{length, drop, length-append}
 use lib.Seq.{drop-nil, drop-drop}
 use borrow.Author.Tests.{eqb-true}
 use Rattle.rules_shared.specs.Limits.{limits}
+use Rattle.rules_shared.specs.House.{House, house1401}
 use Rattle.rules_shared.specs.Lists.{Each}
 use Rattle.rules_shared.proofs.EachLaws.{each-head, each-tail}
 use Rattle.rules_deck.specs.Cards.{cardsOf, textColumns, comment, firstCard, Punched, numberOf, rightNumber, Reading, nothingRead, wrongCard, afterCard, Carded, cardsRefused, statements, cardByCard, rightDigits, rightLength, counted, carded, following, grouped}
@@ -66,16 +67,16 @@ record Fine (card : List ℕ) : Type 0 where
   room : ℕ
   is : Stands room card
 
-each-stands : (place : ℕ) (r : Reading) (cards : List (List ℕ)) (ps : List Punched) → cardByCard place r cards ≡ statements ps → (i : ℕ) (card : List ℕ) (rest : List (List ℕ)) → drop i cards ≡ card ∷ rest → Fine card
-each-stands place r [] ps e i card rest d = let z : _≡_ {A = List (List ℕ)} [] (card ∷ rest) = sym (drop-nil i) ∙ d in let y : _≡_ {A = ℕ} 0 1 = cc in absurd (omega arith)
-each-stands place r (first ∷ cards) ps e zero card rest d = let s : first ≡ card = cc in subst Fine s (record { room = r .room; is = stands (r .room) first (eqb-true _ _ (go (eqb (wrongCard (r .room) first) 0) e)) })
+each-stands : (house : House) (place : ℕ) (r : Reading) (cards : List (List ℕ)) (ps : List Punched) → cardByCard house place r cards ≡ statements ps → (i : ℕ) (card : List ℕ) (rest : List (List ℕ)) → drop i cards ≡ card ∷ rest → Fine card
+each-stands house place r [] ps e i card rest d = let z : _≡_ {A = List (List ℕ)} [] (card ∷ rest) = sym (drop-nil i) ∙ d in let y : _≡_ {A = ℕ} 0 1 = cc in absurd (omega arith)
+each-stands house place r (first ∷ cards) ps e zero card rest d = let s : first ≡ card = cc in subst Fine s (record { room = r .room; is = stands (r .room) first (eqb-true _ _ (go (eqb (wrongCard (r .room) first) 0) e)) })
   where
-    go : (b : Bool) → cond b (cardByCard (suc place) (afterCard r first) cards) (cardsRefused (wrongCard (r .room) first) place) ≡ statements ps → b ≡ true
+    go : (b : Bool) → cond b (cardByCard house (suc place) (afterCard house r first) cards) (cardsRefused (wrongCard (r .room) first) place) ≡ statements ps → b ≡ true
     go true h = refl
     go false h = cc
-each-stands place r (first ∷ cards) ps e (suc i) card rest d = each-stands (suc place) (afterCard r first) cards ps (go (eqb (wrongCard (r .room) first) 0) e) i card rest d
+each-stands house place r (first ∷ cards) ps e (suc i) card rest d = each-stands house (suc place) (afterCard house r first) cards ps (go (eqb (wrongCard (r .room) first) 0) e) i card rest d
   where
-    go : (b : Bool) → cond b (cardByCard (suc place) (afterCard r first) cards) (cardsRefused (wrongCard (r .room) first) place) ≡ statements ps → cardByCard (suc place) (afterCard r first) cards ≡ statements ps
+    go : (b : Bool) → cond b (cardByCard house (suc place) (afterCard house r first) cards) (cardsRefused (wrongCard (r .room) first) place) ≡ statements ps → cardByCard house (suc place) (afterCard house r first) cards ≡ statements ps
     go true h = h
     go false h = cc
 
@@ -87,11 +88,11 @@ uncounted (statements qs) ps h = go (leb (length qs) (limits .statements)) h
     go true h = h
     go false h = cc
 
-by-cards : (deck : List ℕ) (a : Accepted deck) → cardByCard 1 nothingRead (cardsOf deck) ≡ statements (a .all)
+by-cards : (deck : List ℕ) (a : Accepted deck) → cardByCard (house1401 (a .digits)) 1 nothingRead (cardsOf deck) ≡ statements (a .all)
 unfolding carded
-by-cards deck a = uncounted _ _ (go (rightDigits (a .digits)) (rightLength deck) (a .is))
+by-cards deck a = uncounted _ _ (go (rightDigits (house1401 (a .digits))) (rightLength deck) (a .is))
   where
-    go : (k l : Bool) → cond k (cond l (counted (cardByCard 1 nothingRead (cardsOf deck))) (cardsRefused 2 0)) (cardsRefused 1 0) ≡ statements (a .all) → counted (cardByCard 1 nothingRead (cardsOf deck)) ≡ statements (a .all)
+    go : (k l : Bool) → cond k (cond l (counted (cardByCard (house1401 (a .digits)) 1 nothingRead (cardsOf deck))) (cardsRefused 2 0)) (cardsRefused 1 0) ≡ statements (a .all) → counted (cardByCard (house1401 (a .digits)) 1 nothingRead (cardsOf deck)) ≡ statements (a .all)
     go true true h = h
     go true false h = cc
     go false l h = cc
@@ -116,8 +117,8 @@ each-from {P = P} (suc i) (card ∷ cards) h = each-from i cards (go (begins car
     go true b = each-tail (subst (Each P) (group-first card cards b) h)
     go false b = subst (Each P) (group-other card cards b) h
 
-pub all-right : (deck : List ℕ) → Accepted deck → Each RightStatement (grouped (cardsOf deck))
-all-right deck a = subst (Each RightStatement) (statements-grouped (a .digits) deck (a .all) (a .is)) (statements-right (a .digits) deck (a .all) (a .is))
+pub all-right : (deck : List ℕ) (a : Accepted deck) → Each (RightStatement (house1401 (a .digits))) (grouped (cardsOf deck))
+all-right deck a = subst (Each (RightStatement (house1401 (a .digits)))) (statements-grouped (house1401 (a .digits)) deck (a .all) (a .is)) (statements-right (house1401 (a .digits)) deck (a .all) (a .is))
 
 -- ---- the statement taken
 
@@ -155,8 +156,8 @@ module _ (deck : List ℕ) (card first : ℕ) (f : first ≡ card + skipped (dro
     group-here : grouped (drop card cards) ≡ record { number = numberOf here; raw = textColumns here ++ following (drop (first + 1) cards) } ∷ grouped (drop (first + 1) cards)
     group-here = group-skip (drop card cards) ∙ ap grouped (from-first ∙ a .here) ∙ group-first here (drop (first + 1) cards) starts-here
 
-    right-here : RightStatement (record { number = numberOf here; raw = textColumns here ++ following (drop (first + 1) cards) })
-    right-here = each-head (subst (Each RightStatement) group-here (each-from card cards (all-right deck acc)))
+    right-here : RightStatement (house1401 (acc .digits)) (record { number = numberOf here; raw = textColumns here ++ following (drop (first + 1) cards) })
+    right-here = each-head (subst (Each (RightStatement (house1401 (acc .digits)))) group-here (each-from card cards (all-right deck acc)))
 
     pub first-is : First deck card first here
     unfolding passed
@@ -165,7 +166,7 @@ module _ (deck : List ℕ) (card first : ℕ) (f : first ≡ card + skipped (dro
         let l = length-append (textColumns here) (following (drop (first + 1) cards)) in
         record {
           group = group-here;
-          right = right-number here (each-stands 1 nothingRead cards (acc .all) (by-cards deck acc) first here (drop (first + 1) cards) (a .here)) starts-here;
+          right = right-number here (each-stands (house1401 (acc .digits)) 1 nothingRead cards (acc .all) (by-cards deck acc) first here (drop (first + 1) cards) (a .here)) starts-here;
           fits = omega (arith, right-here .raw-short);
           next = omega arith;
         }

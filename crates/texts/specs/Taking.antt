@@ -6,6 +6,7 @@ use mathlib.Core.Bool.{Bool, false, cond}
 use mathlib.Core.List.{List, [], _∷_}
 use lib.ListN.{length, drop}
 use lib.Seq.{sets}
+use Rattle.rules_shared.specs.House.{house1401}
 use Rattle.rules_deck.specs.Cards.{cardsOf, textColumns, comment, firstCard, textOf, Punched, statements, carded, following, grouped}
 use Rattle.texts.specs.declared.Reached.{Reached}
 use Rattle.texts.specs.declared.Taken.{Taken}
@@ -15,7 +16,7 @@ use Rattle.texts.specs.declared.Taken.the-variants.{Statement, End}
 pub record Accepted (deck : List ℕ) : Type 0 where
   pub digits : ℕ
   pub all : List Punched
-  pub is : carded digits deck ≡ statements all
+  pub is : carded (house1401 digits) deck ≡ statements all
 
 -- o with xs stored from a on, one byte after the other; what stands before and after stays
 unfoldable pub over : ℕ → List ℕ → List ℕ → List ℕ

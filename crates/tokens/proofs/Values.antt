@@ -54,7 +54,7 @@ cap-end ds v i h l =
 
 -- ---- the eight bytes
 
-pub filled-length : (v : List ℕ) → length (filled v) ≡ 8
+pub filled-length : (v : List ℕ) → length (filled 8 v) ≡ 8
 filled-length v = length-take-le 8 (v ++ replicate 8 32) (omega (arith, length-append v (replicate 8 32), length-replicate {A = ℕ} 8 32))
 
 padded : (v : List ℕ) (n i : ℕ) → i < n → getD (v ++ replicate n 32) i 0 ≡ getD v i 32
@@ -62,7 +62,7 @@ padded [] n i h = getD-replicate n i 32 0 h
 padded (c ∷ v) n zero h = refl
 padded (c ∷ v) n (suc i) h = padded v n i (omega arith)
 
-pub filled-at : (v : List ℕ) (i : ℕ) → i < 8 → getD (filled v) i 0 ≡ getD v i 32
+pub filled-at : (v : List ℕ) (i : ℕ) → i < 8 → getD (filled 8 v) i 0 ≡ getD v i 32
 filled-at v i h = getD-take 8 (v ++ replicate 8 32) i 0 h ∙ padded v 8 i h
 
 pub bytes-more : (s : List ℕ) (w i : ℕ) → i < length s → bytesFrom w (drop i s) ≡ bytesFrom (w * 256 + getD s i 0) (drop (i + 1) s)

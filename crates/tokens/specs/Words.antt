@@ -22,7 +22,7 @@ bytesFrom w (c ∷ s) = bytesFrom (w * 256 + c) s
 
 -- a name's first eight bytes, blank-filled
 unfoldable pub nameWord : Name → ℕ
-nameWord v = bytesFrom 0 (filled v)
+nameWord v = bytesFrom 0 (filled 8 v)
 
 unfoldable pub startsWord : List ℕ → List ℕ → Bool
 startsWord [] s = true

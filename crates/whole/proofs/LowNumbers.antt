@@ -5,6 +5,7 @@ use Prim.Native.Nat.{ℕ, suc, _≤_}
 use mathlib.Core.List.{List, [], _∷_}
 use mathlib.Core.Option.{Option, none, some}
 use Rattle.rules_shared.specs.Limits.{limits}
+use Rattle.rules_shared.specs.House.{House}
 use Rattle.rules_shared.specs.Refusals.{Refusal}
 use Rattle.rules_deck.specs.Trees.{Form, Statement}
 use Rattle.rules_deck.specs.Cards.{Punched, textOf, Carded, cardsRefused, statements, carded}
@@ -23,29 +24,29 @@ with-statement : (s : Statement) → LowNumber s → (rest : Read) → Low rest 
 with-statement s n (notRead r) refused = refused
 with-statement s n (read deck) (low a) = low (each-more n a)
 
-module _ (k q number : ℕ) (t : Taken) (n : number ≤ limits .statementNumber) (rest : Taken → Read) (h : (u : Taken) → Low (rest u)) where
+module _ (house : House) (q number : ℕ) (t : Taken) (n : number ≤ limits .statementNumber) (rest : Taken → Read) (h : (u : Taken) → Low (rest u)) where
   after-judging : (f : Form) (o : Option ℕ) → Low (afterJudging q (record { number = number; form = f }) (rest (takes q f t)) o)
   after-judging f (some refusal) = refused
   after-judging f none = with-statement (record { number = number; form = f }) n (rest (takes q f t)) (h (takes q f t))
 
-  after-reading : (o : Option Form) → Low (afterReading k q number t rest o)
+  after-reading : (o : Option Form) → Low (afterReading house q number t rest o)
   after-reading none = refused
-  after-reading (some f) = after-judging f (judgeForm k q f t)
+  after-reading (some f) = after-judging f (judgeForm house q f t)
 
-  read-text : (text : List ℕ) → Low (readText k q number t rest text)
+  read-text : (text : List ℕ) → Low (readText house q number t rest text)
   read-text [] = refused
   read-text (c ∷ text) = after-reading (formOf (c ∷ text))
 
-read-from : (k q : ℕ) (t : Taken) (ps : List Punched) → Each RightStatement ps → Low (readFrom k q t ps)
-read-from k q t [] each-none = low each-none
-read-from k q t (p ∷ ps) (each-more r h) = read-text k q (p .number) t (r .number-small) (λ u. readFrom k (suc q) u ps) (λ u. read-from k (suc q) u ps h) (textOf (p .raw))
+read-from : (house : House) (q : ℕ) (t : Taken) (ps : List Punched) → Each (RightStatement house) ps → Low (readFrom house q t ps)
+read-from house q t [] each-none = low each-none
+read-from house q t (p ∷ ps) (each-more r h) = read-text house q (p .number) t (r .number-small) (λ u. readFrom house (suc q) u ps) (λ u. read-from house (suc q) u ps h) (textOf (p .raw))
 
-read-carded : (k : ℕ) (bytes : List ℕ) (c : Carded) → carded k bytes ≡ c → Low (readCarded k c)
-read-carded k bytes (cardsRefused number place) e = refused
-read-carded k bytes (statements ps) e = read-from k 0 nothingTaken ps (statements-right k bytes ps e)
+read-carded : (house : House) (bytes : List ℕ) (c : Carded) → carded house bytes ≡ c → Low (readCarded house c)
+read-carded house bytes (cardsRefused number place) e = refused
+read-carded house bytes (statements ps) e = read-from house 0 nothingTaken ps (statements-right house bytes ps e)
 
 all-low : {deck : List Statement} → Low (read deck) → Each LowNumber deck
 all-low (low a) = a
 
-pub numbered : (k : ℕ) (bytes : List ℕ) (deck : List Statement) → readCarded k (carded k bytes) ≡ read deck → Each LowNumber deck
-numbered k bytes deck e = all-low (subst Low e (read-carded k bytes (carded k bytes) refl))
+pub numbered : (house : House) (bytes : List ℕ) (deck : List Statement) → readCarded house (carded house bytes) ≡ read deck → Each LowNumber deck
+numbered house bytes deck e = all-low (subst Low e (read-carded house bytes (carded house bytes) refl))

@@ -1,9 +1,10 @@
 -- `addresses::addresses` meets its contract: the addresses so far are the deck's. Assumes nothing.
 use mathlib.Core.Path.{_≡_, refl, _∙_}
 use native.Mathlib.Omega.{arith}
-use Prim.Native.Nat.{ℕ, _≤_, _-_, _+_, _*_}
+use Prim.Native.Nat.{_≤_, _-_, _+_, _*_}
 use mathlib.Core.List.{List}
 use lib.ListN.{length, length-set}
+use Rattle.rules_shared.specs.House.{House}
 use Rattle.rules_deck.specs.Trees.{Statement}
 use Rattle.addresses.specs.Given.{Judged}
 use Rattle.addresses.specs.Ends.{endsAt}
@@ -15,7 +16,7 @@ use Rattle.addresses.proofs.addresses.Statement.{statement}
 use Rattle.addresses.proofs.addresses.Tie as tie
 
 abbrev Inv-loop : tie.InvT-loop
-Inv-loop rows count loops n jumps starts₀ at₀ i₀ starts at i = (i ≤ count) × (length starts ≡ length starts₀) × ((k : ℕ) (deck : List Statement) → Judged k deck rows count loops n jumps → Passed deck starts at i)
+Inv-loop rows count loops n jumps starts₀ at₀ i₀ starts at i = (i ≤ count) × (length starts ≡ length starts₀) × ((house : House) (deck : List Statement) → Judged house deck rows count loops n jumps → Passed deck starts at i)
 
 abbrev μ-loop : tie.MeasureT-loop
 μ-loop rows count loops n jumps starts₀ at₀ i₀ starts at i = count - i
@@ -25,7 +26,7 @@ slice-write-starts c = search needs
 
 loop-holds : tie.Need-loop-holds Inv-loop μ-loop
 loop-holds c =
-    (search needs, refl, λ k deck told. passed-none deck (c .before .before .before .before .args .starts .now) (omega arith))
+    (search needs, refl, λ house deck told. passed-none deck (c .before .before .before .before .args .starts .now) (omega arith))
 
 mul-own : tie.Need-mul-own Inv-loop μ-loop
 mul-own c =
@@ -51,7 +52,7 @@ add-at : tie.Need-add-at Inv-loop μ-loop
 add-at c =
     let g = c .before .before .before .before .before .before .before .pre .0 in
     let i = c .before .before .loop .i in
-    let p = c .before .before .loop .inv .2 (g .k) (g .deck) (g .are) in
+    let p = c .before .before .loop .inv .2 (g .house) (g .deck) (g .are) in
     omega (arith, following-small (g .are) i (c .before .before .loop .at) (length (endsAt (c .before .before .before .before .before .before .before .args .loops .now) (c .before .before .before .before .before .before .before .args .jumps .now) i (c .before .before .before .before .before .before .before .args .n))) (c .before .loop-test .taken) refl (p .here))
 
 ending-requires : tie.Need-ending-requires Inv-loop μ-loop
@@ -63,7 +64,7 @@ add-at-2 : tie.Need-add-at-2 Inv-loop μ-loop
 add-at-2 c =
     let g = c .before .before .before .before .before .before .before .before .pre .0 in
     let i = c .before .before .before .loop .i in
-    let p = c .before .before .before .loop .inv .2 (g .k) (g .deck) (g .are) in
+    let p = c .before .before .before .loop .inv .2 (g .house) (g .deck) (g .are) in
     omega (arith, following-small (g .are) i (c .before .before .before .loop .at) (c .ending .result) (c .before .before .loop-test .taken) (c .ending .ensures) (p .here))
 
 add-i : tie.Need-add-i Inv-loop μ-loop
@@ -73,7 +74,7 @@ cast-starts : tie.Need-cast-starts Inv-loop μ-loop
 cast-starts c =
     let g = c .before .before .before .before .before .before .before .before .pre .0 in
     let i = c .before .before .before .loop .i in
-    let p = c .before .before .before .loop .inv .2 (g .k) (g .deck) (g .are) in
+    let p = c .before .before .before .loop .inv .2 (g .house) (g .deck) (g .are) in
     omega (arith, following-small (g .are) i (c .before .before .before .loop .at) (c .ending .result) (c .before .before .loop-test .taken) (c .ending .ensures) (p .here))
 
 mul-starts : tie.Need-mul-starts Inv-loop μ-loop
@@ -92,7 +93,7 @@ loop-again c =
     let v = c .before .before .before .loop .at + lib.ListN.getD (c .before .before .before .before .before .before .before .before .args .rows .now) (5 * c .before .before .before .loop .i + 3) 0 + c .ending .result in (
       search needs,
       length-set (c .before .before .before .loop .starts) (c .before .before .before .loop .i + 1) v ∙ c .before .before .before .loop .inv .1,
-      λ k deck told. passed-more told (c .before .before .before .loop .starts) (c .before .before .before .loop .i) (c .before .before .before .loop .at) (c .ending .result) (c .before .before .loop-test .taken) (omega (arith, c .before .before .before .loop .inv .1, c .before .before .before .before .before .before .before .before .pre .1, length-set (c .before .before .before .before .before .before .before .before .args .starts .now) 0 0)) (c .ending .ensures) (c .before .before .before .loop .inv .2 k deck told),
+      λ house deck told. passed-more told (c .before .before .before .loop .starts) (c .before .before .before .loop .i) (c .before .before .before .loop .at) (c .ending .result) (c .before .before .loop-test .taken) (omega (arith, c .before .before .before .loop .inv .1, c .before .before .before .before .before .before .before .before .pre .1, length-set (c .before .before .before .before .before .before .before .before .args .starts .now) 0 0)) (c .ending .ensures) (c .before .before .before .loop .inv .2 house deck told),
     )
 
 same-length : tie.Need-same-length Inv-loop μ-loop
@@ -101,7 +102,7 @@ same-length c =
 
 returns : tie.Need-returns Inv-loop μ-loop
 returns c =
-    λ k deck told. passed-all told (c .before .loop .starts) (c .before .loop .at) (c .before .loop .i) (omega (arith, c .loop-test .left)) (c .before .loop .inv .2 k deck told)
+    λ house deck told. passed-all told (c .before .loop .starts) (c .before .loop .at) (c .before .loop .i) (omega (arith, c .loop-test .left)) (c .before .loop .inv .2 house deck told)
 
 pub addresses-spec : {M : Type 1} → statement M
 addresses-spec =

@@ -26,7 +26,7 @@ addresses-requires c κs =
     let st = c .before .before .before .before .before .before .before .before .before .before in
     let f = st .pre .are in
     let d = st .pre .deck in
-    (record { k = _; deck = d; are = judged f }, omega (arith, f .fit .statements))
+    (record { house = _; deck = d; are = judged f }, omega (arith, f .fit .statements))
 
 slice-aggregate-code : tie.Need-slice-aggregate-code
 slice-aggregate-code c = search needs
@@ -39,7 +39,7 @@ code-requires c κs =
     let st = c .before .before .before .before .before .before .before .before .before .before .before .before .before .before in
     let f = st .pre .are in
     let d = st .pre .deck in
-    (record { k = _; deck = d; are = settling f (c .before .before .before .addresses .ensures _ d (judged f)) }, omega (arith, c .before .before .before .addresses .kept .1 .1 .1 .1 .1 .0), omega arith)
+    (record { house = _; deck = d; are = settling f (c .before .before .before .addresses .ensures _ d (judged f)) }, omega (arith, c .before .before .before .addresses .kept .1 .1 .1 .1 .1 .0), omega arith)
 
 slice-aggregate-exits : tie.Need-slice-aggregate-exits
 slice-aggregate-exits c = search needs
@@ -52,7 +52,7 @@ exits-requires c κs =
     let st = c .before .before .before .before .before .before .before .before .before .before .before .before .before .before .before .before .before .before in
     let f = st .pre .are in
     let d = st .pre .deck in
-    (record { k = _; deck = d; are = leading f (c .before .before .before .before .before .before .before .addresses .ensures _ d (judged f)) }, omega (arith, c .before .before .before .before .before .before .before .addresses .kept .1 .1 .1 .1 .1 .0), omega arith)
+    (record { house = _; deck = d; are = leading f (c .before .before .before .before .before .before .before .addresses .ensures _ d (judged f)) }, omega (arith, c .before .before .before .before .before .before .before .addresses .kept .1 .1 .1 .1 .1 .0), omega arith)
 
 slice-aggregate-bodies : tie.Need-slice-aggregate-bodies
 slice-aggregate-bodies c = search needs
@@ -62,7 +62,7 @@ bodies-requires c κs =
     let st = c .before .before .before .before .before .before .before .before .before .before .before .before .before .before .before .before .before .before .before .before .before .before in
     let f = st .pre .are in
     let d = st .pre .deck in
-    (record { k = _; deck = d; are = judged f .in-loops }, omega (arith, c .before .before .before .before .before .before .before .before .before .before .before .addresses .kept .1 .1 .1 .1 .1 .0), omega (arith, f .fit .dos, f .room .dos-long))
+    (record { house = _; deck = d; are = judged f .in-loops }, omega (arith, c .before .before .before .before .before .before .before .before .before .before .before .addresses .kept .1 .1 .1 .1 .1 .0), omega (arith, f .fit .dos, f .room .dos-long))
 
 slice-aggregate-lines : tie.Need-slice-aggregate-lines
 slice-aggregate-lines c = search needs
@@ -75,7 +75,7 @@ lines-requires c κs =
     let st = c .before .before .before .before .before .before .before .before .before .before .before .before .before .before .before .before .before .before .before .before .before .before .before .before .before .before .before in
     let f = st .pre .are in
     let d = st .pre .deck in
-    (record { k = _; deck = d; are = judged f .in-rows }, omega (arith, f .fit .statements, c .before .before .before .before .before .before .before .before .before .before .before .before .before .before .before .before .addresses .kept .1 .1 .1 .1 .1 .0), omega (arith, f .fit .statements))
+    (record { house = _; deck = d; are = judged f .in-rows }, omega (arith, f .fit .statements, c .before .before .before .before .before .before .before .before .before .before .before .before .before .before .before .before .addresses .kept .1 .1 .1 .1 .1 .0), omega (arith, f .fit .statements))
 
 slice-aggregate-names : tie.Need-slice-aggregate-names
 slice-aggregate-names c = search needs
@@ -85,7 +85,7 @@ names-requires c κs =
     let st = c .before .before .before .before .before .before .before .before .before .before .before .before .before .before .before .before .before .before .before .before .before .before .before .before .before .before .before .before .before .before in
     let f = st .pre .are in
     let d = st .pre .deck in
-    (record { k = _; deck = d; are = listing f }, omega (arith, f .fit .names))
+    (record { house = _; deck = d; are = listing f }, omega (arith, f .fit .names))
 
 mul-t42 : tie.Need-mul-t42
 mul-t42 c =

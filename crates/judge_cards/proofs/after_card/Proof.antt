@@ -15,7 +15,7 @@ returns : tie.Need-returns
 returns c =
     let s = c .before .before .before .before .args .card .now in
     let b = c .before .before .before .before .args .b in
-    after-comment s b (sym (c .before .before .is-comment .ensures) ∙ c .before .if1 .taken)
+    λ k. after-comment s k b (sym (c .before .before .is-comment .ensures) ∙ c .before .if1 .taken)
 
 starts-requires : tie.Need-starts-requires
 starts-requires c κs = search needs
@@ -30,7 +30,7 @@ returns-2 : tie.Need-returns-2
 returns-2 c =
     let s = c .before .before .before .before .before .before .before .args .card .now in
     let b = c .before .before .before .before .before .before .before .args .b in
-    after-first s b (sym (c .before .before .before .before .before .is-comment .ensures) ∙ c .before .before .before .before .if1 .left) (sym (c .before .before .before .starts .ensures) ∙ c .before .before .if2 .taken)
+    λ k. after-first s k b (sym (c .before .before .before .before .before .is-comment .ensures) ∙ c .before .before .before .before .if1 .left) (sym (c .before .before .before .starts .ensures) ∙ c .before .before .if2 .taken)
 
 add-t8 : tie.Need-add-t8
 add-t8 c = search needs
@@ -45,7 +45,7 @@ returns-3 : tie.Need-returns-3
 returns-3 c =
     let s = c .before .before .before .before .before .before .before .args .card .now in
     let b = c .before .before .before .before .before .before .before .args .b in
-    after-continuation s b (sym (c .before .before .before .before .before .is-comment .ensures) ∙ c .before .before .before .before .if1 .left) (sym (c .before .before .before .starts .ensures) ∙ c .before .before .if2 .left)
+    λ k. after-continuation s k b (sym (c .before .before .before .before .before .is-comment .ensures) ∙ c .before .before .before .before .if1 .left) (sym (c .before .before .before .starts .ensures) ∙ c .before .before .if2 .left)
 
 pub after-card-spec : {M : Type 1} → statement M
 after-card-spec =

@@ -1,6 +1,6 @@
 -- `judge_cards::card_by_card` meets its contract. Assumes nothing.
 use mathlib.Core.Path.{sym, _∙_, subst}
-use Prim.Native.Nat.{_-_, _/_, _+_}
+use Prim.Native.Nat.{ℕ, _-_, _/_, _+_}
 use native.Mathlib.Omega.{arith}
 use lib.ListN.{length}
 use Rattle.judge_cards.specs.declared.Begun.{Begun}
@@ -10,14 +10,14 @@ use Rattle.judge_cards.proofs.card_by_card.Statement.{statement}
 use Rattle.judge_cards.proofs.card_by_card.Tie as tie
 
 abbrev Inv-loop : tie.InvT-loop
-Inv-loop deck cards b₀ i₀ b i = Going deck b i
+Inv-loop deck cards b₀ i₀ b i = (k : ℕ) → Going k deck b i
 
 abbrev μ-loop : tie.MeasureT-loop
 μ-loop deck cards b₀ i₀ b i = length deck / 80 - i
 
 loop-holds : tie.Need-loop-holds Inv-loop μ-loop
 loop-holds c =
-    going-start (c .before .args .deck .now)
+    λ k. going-start k (c .before .args .deck .now)
 
 card-at-requires : tie.Need-card-at-requires Inv-loop μ-loop
 card-at-requires c κs = search needs
@@ -30,12 +30,12 @@ returns : tie.Need-returns Inv-loop μ-loop
 returns c =
     let d = c .before .before .before .before .before .before .args .deck .now in
     let lp = c .before .before .before .before .loop in
-    going-refused d _ (lp .b) (lp .i) (lp .inv) (c .before .before .card-at .ensures) _ (c .before .wrong-card .ensures) (c .if1 .taken)
+    λ k. going-refused k d _ (lp .b) (lp .i) (lp .inv k) (c .before .before .card-at .ensures) _ (c .before .wrong-card .ensures) (c .if1 .taken)
 
 after-card-requires : tie.Need-after-card-requires Inv-loop μ-loop
 after-card-requires c κs =
     let lp = c .before .before .before .before .loop in
-    (c .before .before .card-at .ensures .whole, (sym (c .before .wrong-card .ensures) ∙ c .if1 .left, (omega (arith, lp .inv .placed, c .before .before .before .before .before .before .pre), omega (arith, lp .inv .few, c .before .before .before .before .before .before .pre))))
+    (c .before .before .card-at .ensures .whole, (sym (c .before .wrong-card .ensures) ∙ c .if1 .left, (omega (arith, lp .inv 0 .placed, c .before .before .before .before .before .before .pre), omega (arith, lp .inv 0 .few, c .before .before .before .before .before .before .pre))))
 
 add-i : tie.Need-add-i Inv-loop μ-loop
 add-i c = search needs
@@ -48,13 +48,13 @@ loop-again c =
     let d = c .before .before .before .before .before .before .before .args .deck .now in
     let lp = c .before .before .before .before .before .loop in
     let h = c .before .before .before .before .loop-test .taken in
-    subst (λ (b : Begun). Going d b (lp .i + 1)) (sym (c .after-card .ensures)) (going-on d _ (lp .b) (lp .i) (lp .inv) (c .before .before .before .card-at .ensures) h (sym (c .before .before .wrong-card .ensures) ∙ c .before .if1 .left))
+    λ k. subst (λ (b : Begun). Going k d b (lp .i + 1)) (sym (c .after-card .ensures k)) (going-on k d _ (lp .b) (lp .i) (lp .inv k) (c .before .before .before .card-at .ensures) h (sym (c .before .before .wrong-card .ensures) ∙ c .before .if1 .left))
 
 returns-2 : tie.Need-returns-2 Inv-loop μ-loop
 returns-2 c =
     let d = c .before .before .before .args .deck .now in
     let lp = c .before .loop in
-    going-end d (lp .b) (lp .i) (lp .inv) (c .loop-test .left)
+    λ k. going-end k d (lp .b) (lp .i) (lp .inv k) (c .loop-test .left)
 
 pub card-by-card-spec : {M : Type 1} → statement M
 card-by-card-spec =

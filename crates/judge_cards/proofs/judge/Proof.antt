@@ -38,7 +38,7 @@ returns-3 c =
     let k = c .before .before .before .before .before .before .before .before .before .before .before .before .args .k in
     let lo : 1 ≤ k = omega arith in
     let hi : k ≤ 9 = ltb-false 9 k (c .before .before .before .before .before .before .before .before .before .if2 .left) in
-    deck-over k d lo hi (c .before .before .before .before .before .before .before .before .if3 .left) (eqb-true _ _ (not-false _ (c .before .before .before .before .before .before .before .if4 .left))) (ltb-false _ _ (c .before .before .before .before .before .before .if5 .left)) _ (sym (c .before .before .before .before .before .card-by-card .ensures) ∙ c .before .before .before .last .given .1) (c .if6 .taken)
+    deck-over k d lo hi (c .before .before .before .before .before .before .before .before .if3 .left) (eqb-true _ _ (not-false _ (c .before .before .before .before .before .before .before .if4 .left))) (ltb-false _ _ (c .before .before .before .before .before .before .if5 .left)) _ (sym (c .before .before .before .before .before .card-by-card .ensures k) ∙ c .before .before .before .last .given .1) (c .if6 .taken)
 
 returns-4 : tie.Need-returns-4
 returns-4 c =
@@ -46,7 +46,7 @@ returns-4 c =
     let k = c .before .before .before .before .before .before .before .before .before .before .args .k in
     let lo : 1 ≤ k = omega arith in
     let hi : k ≤ 9 = ltb-false 9 k (c .before .before .before .before .before .before .before .if2 .left) in
-    deck-refused k d lo hi (c .before .before .before .before .before .before .if3 .left) (eqb-true _ _ (not-false _ (c .before .before .before .before .before .if4 .left))) (ltb-false _ _ (c .before .before .before .before .if5 .left)) _ _ (sym (c .before .before .before .card-by-card .ensures) ∙ c .before .number .given .1)
+    deck-refused k d lo hi (c .before .before .before .before .before .before .if3 .left) (eqb-true _ _ (not-false _ (c .before .before .before .before .before .if4 .left))) (ltb-false _ _ (c .before .before .before .before .if5 .left)) _ _ (sym (c .before .before .before .card-by-card .ensures k) ∙ c .before .number .given .1)
 
 returns-5 : tie.Need-returns-5
 returns-5 c =
@@ -54,7 +54,7 @@ returns-5 c =
     let k = c .before .before .before .before .before .before .before .before .before .before .before .before .args .k in
     let lo : 1 ≤ k = omega arith in
     let hi : k ≤ 9 = ltb-false 9 k (c .before .before .before .before .before .before .before .before .before .if2 .left) in
-    deck-within k d lo hi (c .before .before .before .before .before .before .before .before .if3 .left) (eqb-true _ _ (not-false _ (c .before .before .before .before .before .before .before .if4 .left))) (ltb-false _ _ (c .before .before .before .before .before .before .if5 .left)) _ (sym (c .before .before .before .before .before .card-by-card .ensures) ∙ c .before .before .before .last .given .1) (c .if6 .left)
+    deck-within k d lo hi (c .before .before .before .before .before .before .before .before .if3 .left) (eqb-true _ _ (not-false _ (c .before .before .before .before .before .before .before .if4 .left))) (ltb-false _ _ (c .before .before .before .before .before .before .if5 .left)) _ (sym (c .before .before .before .before .before .card-by-card .ensures k) ∙ c .before .before .before .last .given .1) (c .if6 .left)
 
 pub judge-spec : {M : Type 1} → statement M
 judge-spec =

@@ -1,9 +1,10 @@
 -- `lines::bodies` meets its contract: the entries of the DOs passed have their bodies. Assumes nothing.
 use mathlib.Core.Path.{_≡_, refl, _∙_}
 use native.Mathlib.Omega.{arith}
-use Prim.Native.Nat.{ℕ, _≤_, _-_, _+_, _*_}
+use Prim.Native.Nat.{_≤_, _-_, _+_, _*_}
 use mathlib.Core.List.{List, map}
 use lib.ListN.{length, take, getD, length-set}
+use Rattle.rules_shared.specs.House.{House}
 use Rattle.rules_object.specs.Bytes.{concat, loopWords}
 use Rattle.rules_deck.specs.Trees.{Statement}
 use Rattle.rules_deck.specs.Deck.{dosOf}
@@ -16,14 +17,14 @@ use Rattle.lines.proofs.bodies.Statement.{statement}
 use Rattle.lines.proofs.bodies.Tie as tie
 
 abbrev Inv-loop : tie.InvT-loop
-Inv-loop loops n starts dos₀ i₀ dos i = (i ≤ n) × (length dos ≡ length dos₀) × ((k : ℕ) (deck : List Statement) → Loops k deck loops n → Starts deck starts → take (4 * n) dos₀ ≡ concat (map loopWords (map (openEntry deck) (dosOf deck))) → take (4 * n) dos ≡ concat (map loopWords (entered deck i (dosOf deck))))
+Inv-loop loops n starts dos₀ i₀ dos i = (i ≤ n) × (length dos ≡ length dos₀) × ((house : House) (deck : List Statement) → Loops house deck loops n → Starts deck starts → take (4 * n) dos₀ ≡ concat (map loopWords (map (openEntry deck) (dosOf deck))) → take (4 * n) dos ≡ concat (map loopWords (entered deck i (dosOf deck))))
 
 abbrev μ-loop : tie.MeasureT-loop
 μ-loop loops n starts dos₀ i₀ dos i = n - i
 
 loop-holds : tie.Need-loop-holds Inv-loop μ-loop
 loop-holds c =
-    (search needs, refl, λ k deck told at e. e)
+    (search needs, refl, λ house deck told at e. e)
 
 mul-wide : tie.Need-mul-wide Inv-loop μ-loop
 mul-wide c =
@@ -87,7 +88,7 @@ loop-again : tie.Need-loop-again Inv-loop μ-loop
 loop-again c = (
   search needs,
   length-set (c .before .before .before .before .loop .dos) (4 * c .before .before .before .before .loop .i + 3) (getD (c .before .before .before .before .before .before .before .before .args .starts .now) (c .before .wide .result + 1) 0) ∙ c .before .before .before .before .loop .inv .1,
-  λ k deck told at e. body-more told (c .before .before .before .before .loop .dos) (c .before .before .before .before .loop .i) (c .before .wide .result) (c .before .before .before .loop-test .taken) (c .before .wide .ensures) at (c .before .before .before .before .loop .inv .2 k deck told at e),
+  λ house deck told at e. body-more told (c .before .before .before .before .loop .dos) (c .before .before .before .before .loop .i) (c .before .wide .result) (c .before .before .before .loop-test .taken) (c .before .wide .ensures) at (c .before .before .before .before .loop .inv .2 house deck told at e),
 )
 
 same-length : tie.Need-same-length Inv-loop μ-loop
@@ -96,7 +97,7 @@ same-length c =
 
 returns : tie.Need-returns Inv-loop μ-loop
 returns c =
-    λ k deck told at e. body-all told (c .before .loop .dos) (c .before .loop .i) (omega (arith, c .loop-test .left)) (c .before .loop .inv .2 k deck told at e)
+    λ house deck told at e. body-all told (c .before .loop .dos) (c .before .loop .i) (omega (arith, c .loop-test .left)) (c .before .loop .inv .2 house deck told at e)
 
 pub bodies-spec : {M : Type 1} → statement M
 bodies-spec =

@@ -1,9 +1,10 @@
 -- `lines::lines` meets its contract: the lines so far are those of the statements passed. Assumes nothing.
 use mathlib.Core.Path.{_≡_, refl}
 use native.Mathlib.Omega.{arith}
-use Prim.Native.Nat.{ℕ, _≤_, _-_, _+_, _*_}
+use Prim.Native.Nat.{_≤_, _-_, _+_, _*_}
 use mathlib.Core.List.{List}
 use lib.ListN.{length, getD}
+use Rattle.rules_shared.specs.House.{House}
 use Rattle.rules_deck.specs.Trees.{Statement}
 use Rattle.addresses.specs.Given.{Rows, Starts, Holds}
 use Rattle.addresses.proofs.Told.{rows-long}
@@ -14,14 +15,14 @@ use Rattle.lines.proofs.lines.Statement.{statement}
 use Rattle.lines.proofs.lines.Tie as tie
 
 abbrev Inv-loop : tie.InvT-loop
-Inv-loop rows count starts out₀ top₀ i₀ out top i = (i ≤ count) × (top ≤ 3 * i) × (length out ≡ length out₀) × ((k : ℕ) (deck : List Statement) → Rows k deck rows count → Starts deck starts → Holds out top (linesTo deck i))
+Inv-loop rows count starts out₀ top₀ i₀ out top i = (i ≤ count) × (top ≤ 3 * i) × (length out ≡ length out₀) × ((house : House) (deck : List Statement) → Rows house deck rows count → Starts deck starts → Holds out top (linesTo deck i))
 
 abbrev μ-loop : tie.MeasureT-loop
 μ-loop rows count starts out₀ top₀ i₀ out top i = count - i
 
 loop-holds : tie.Need-loop-holds Inv-loop μ-loop
 loop-holds c =
-    (search needs, search needs, refl, λ k deck told at. holds-none (c .before .before .before .args .out .now))
+    (search needs, search needs, refl, λ house deck told at. holds-none (c .before .before .before .args .out .now))
 
 mul-narrow : tie.Need-mul-narrow Inv-loop μ-loop
 mul-narrow c =
@@ -99,7 +100,7 @@ loop-again c =
       search needs,
       omega (arith, c .before .before .before .before .before .before .before .before .before .loop .inv .1, c .before .before .put-statement .ensures .top, line-short (getD (s .rows .now) (5 * i + 1) 0) (i + 1) (c .before .before .before .before .before .before .narrow .result) (getD (s .starts .now) i 0)),
       search needs,
-      λ k deck told at. lines-put told at i (c .before .before .before .before .before .before .before .before .loop-test .taken) (c .before .before .before .before .before .before .narrow .ensures) (c .before .before .put-statement .ensures) (c .before .before .before .before .before .before .before .before .before .loop .inv .3 k deck told at),
+      λ house deck told at. lines-put told at i (c .before .before .before .before .before .before .before .before .loop-test .taken) (c .before .before .before .before .before .before .narrow .ensures) (c .before .before .put-statement .ensures) (c .before .before .before .before .before .before .before .before .before .loop .inv .3 house deck told at),
     )
 
 same-length : tie.Need-same-length Inv-loop μ-loop
@@ -108,7 +109,7 @@ same-length c =
 
 returns : tie.Need-returns Inv-loop μ-loop
 returns c =
-    λ k deck told at. lines-all told at (c .before .loop .i) (omega (arith, c .loop-test .left, c .before .loop .inv .0)) (c .before .loop .inv .3 k deck told at)
+    λ house deck told at. lines-all told at (c .before .loop .i) (omega (arith, c .loop-test .left, c .before .loop .inv .0)) (c .before .loop .inv .3 house deck told at)
 
 pub lines-spec : {M : Type 1} → statement M
 lines-spec =

@@ -1,9 +1,10 @@
 -- `lines::names` meets its contract: the entries so far are the first of body 7. Assumes nothing.
 use mathlib.Core.Path.{_≡_, refl}
 use native.Mathlib.Omega.{arith}
-use Prim.Native.Nat.{ℕ, _≤_, _-_, _*_}
+use Prim.Native.Nat.{_≤_, _-_, _*_}
 use mathlib.Core.List.{List, map}
 use lib.ListN.{length, take}
+use Rattle.rules_shared.specs.House.{House}
 use Rattle.rules_object.specs.Bytes.{concat, nameWords}
 use Rattle.rules_deck.specs.Trees.{Statement}
 use Rattle.rules_deck.specs.Translation.{heldOf, namesFrom}
@@ -14,14 +15,14 @@ use Rattle.lines.proofs.names.Statement.{statement}
 use Rattle.lines.proofs.names.Tie as tie
 
 abbrev Inv-loop : tie.InvT-loop
-Inv-loop table n out₀ i₀ out i = (i ≤ n) × (length out ≡ length out₀) × ((k : ℕ) (deck : List Statement) → Names k deck table n → take (5 * i) out ≡ concat (map nameWords (take i (namesFrom 0 (heldOf deck)))))
+Inv-loop table n out₀ i₀ out i = (i ≤ n) × (length out ≡ length out₀) × ((house : House) (deck : List Statement) → Names house deck table n → take (5 * i) out ≡ concat (map nameWords (take i (namesFrom house 0 (heldOf deck)))))
 
 abbrev μ-loop : tie.MeasureT-loop
 μ-loop table n out₀ i₀ out i = n - i
 
 loop-holds : tie.Need-loop-holds Inv-loop μ-loop
 loop-holds c =
-    (search needs, refl, λ k deck told. refl)
+    (search needs, refl, λ house deck told. refl)
 
 mul-narrow : tie.Need-mul-narrow Inv-loop μ-loop
 mul-narrow c =
@@ -134,7 +135,7 @@ loop-again : tie.Need-loop-again Inv-loop μ-loop
 loop-again c = (
   search needs,
   search needs,
-  λ k deck told. names-more told (c .before .before .before .before .before .before .before .before .before .before .before .before .loop .i) (c .before .before .before .before .before .before .before .before .before .before .before .loop-test .taken) (c .before .before .before .before .before .before .before .before .before .narrow .ensures) (c .before .before .before .before .before .before .before .narrow2 .ensures) (c .before .before .before .before .before .narrow3 .ensures) (c .before .before .put-name .ensures) (c .before .before .before .before .before .before .before .before .before .before .before .before .loop .inv .2 k deck told),
+  λ house deck told. names-more told (c .before .before .before .before .before .before .before .before .before .before .before .before .loop .i) (c .before .before .before .before .before .before .before .before .before .before .before .loop-test .taken) (c .before .before .before .before .before .before .before .before .before .narrow .ensures) (c .before .before .before .before .before .before .before .narrow2 .ensures) (c .before .before .before .before .before .narrow3 .ensures) (c .before .before .put-name .ensures) (c .before .before .before .before .before .before .before .before .before .before .before .before .loop .inv .2 house deck told),
 )
 
 same-length : tie.Need-same-length Inv-loop μ-loop
@@ -143,7 +144,7 @@ same-length c =
 
 returns : tie.Need-returns Inv-loop μ-loop
 returns c =
-    λ k deck told. names-all told (c .before .loop .out) (c .before .loop .i) (omega (arith, c .loop-test .left, c .before .loop .inv .0)) (c .before .loop .inv .2 k deck told)
+    λ house deck told. names-all told (c .before .loop .out) (c .before .loop .i) (omega (arith, c .loop-test .left, c .before .loop .inv .0)) (c .before .loop .inv .2 house deck told)
 
 pub names-spec : {M : Type 1} → statement M
 names-spec =

@@ -4,6 +4,7 @@ use mathlib.Core.Path.{_≡_, ap, _∙_}
 use mathlib.Core.List.{List}
 use native.Mathlib.Omega.{arith}
 use lib.ListN.{replicate}
+use Rattle.rules_shared.specs.House.{house1401}
 use Rattle.rules_deck.specs.Compile.{compiling}
 use Rattle.rules_program.specs.Program.{mostBytes, compiledLines}
 use Rattle.rules_program.proofs.Lengths.{refused-length}
@@ -68,7 +69,7 @@ returns-2 c =
     let s = c .before .before .before .before .before .before .before .before .before .before .before .args .input .now in
     let k = c .before .before .before .before .before .before .before .before .control .result in
     let is = c .before .before .before .before .before .before .before .before .control .ensures .0 in
-    (puts-as (ap (λ (x : List ℕ). compiledLines (compiling k x (replicate mostBytes 0))) (part-rest 80 s) ∙ printed-deck s k is (c .before .before .before .before .before .before .before .if1 .left)) (c .before .before .before .print-deck .ensures .0), c .before .before .before .print-deck .ensures .1)
+    (puts-as (ap (λ (x : List ℕ). compiledLines (compiling (house1401 k) x (replicate mostBytes 0))) (part-rest 80 s) ∙ printed-deck s k is (c .before .before .before .before .before .before .before .if1 .left)) (c .before .before .before .print-deck .ensures .0), c .before .before .before .print-deck .ensures .1)
 
 pub answer-spec : {M : Type 1} → statement M
 answer-spec =

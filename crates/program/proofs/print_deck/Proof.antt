@@ -2,6 +2,7 @@
 use Prim.Native.Nat.{ℕ}
 use mathlib.Core.Path.{ap, _∙_}
 use mathlib.Core.List.{List}
+use Rattle.rules_shared.specs.House.{house1401}
 use Rattle.rules_shared.specs.Output.{Written}
 use Rattle.rules_deck.specs.Compile.{compiling}
 use Rattle.rules_program.specs.Program.{compiledLines}
@@ -60,7 +61,7 @@ returns c =
     let k = c .before .before .before .before .before .before .before .before .before .before .before .before .before .before .before .args .k in
     let d = c .before .before .before .before .before .before .before .before .before .before .before .before .before .before .before .args .deck .now in
     let e = as-written _ _ _ _ (c .before .before .before .before .before .before .compiled .given .1) (c .before .before .before .before .before .before .before .before .before .before .compile .ensures) in
-    (puts-as (ap compiledLines (e ∙ ap (λ (x : List ℕ). compiling k d x) (c .before .before .before .before .before .before .before .before .before .before .before .before .before .before .before .pre .0 .bytes))) (c .before .before .print-compiled .ensures .0), c .before .before .print-compiled .ensures .1)
+    (puts-as (ap compiledLines (e ∙ ap (λ (x : List ℕ). compiling (house1401 k) d x) (c .before .before .before .before .before .before .before .before .before .before .before .before .before .before .before .pre .0 .bytes))) (c .before .before .print-compiled .ensures .0), c .before .before .print-compiled .ensures .1)
 
 same-length-3 : tie.Need-same-length-3
 same-length-3 c = search needs
@@ -73,7 +74,7 @@ returns-2 c =
     let k = c .before .before .before .before .before .before .before .before .before .before .before .before .before .before .before .args .k in
     let d = c .before .before .before .before .before .before .before .before .before .before .before .before .before .before .before .args .deck .now in
     let e = as-written _ _ _ _ (c .before .before .before .before .before .before .compiled2 .given .1) (c .before .before .before .before .before .before .before .before .before .before .compile .ensures) in
-    (puts-as (ap compiledLines (e ∙ ap (λ (x : List ℕ). compiling k d x) (c .before .before .before .before .before .before .before .before .before .before .before .before .before .before .before .pre .0 .bytes))) (c .before .before .print-compiled2 .ensures .0), c .before .before .print-compiled2 .ensures .1)
+    (puts-as (ap compiledLines (e ∙ ap (λ (x : List ℕ). compiling (house1401 k) d x) (c .before .before .before .before .before .before .before .before .before .before .before .before .before .before .before .pre .0 .bytes))) (c .before .before .print-compiled2 .ensures .0), c .before .before .print-compiled2 .ensures .1)
 
 same-length-5 : tie.Need-same-length-5
 same-length-5 c = search needs
@@ -86,7 +87,7 @@ returns-3 c =
     let k = c .before .before .before .before .before .before .before .before .before .before .before .before .before .before .args .k in
     let d = c .before .before .before .before .before .before .before .before .before .before .before .before .before .before .args .deck .now in
     let e = as-written _ _ _ _ (c .before .before .before .before .before .enum-told .given .1) (c .before .before .before .before .before .before .before .before .before .compile .ensures) in
-    (puts-as (ap compiledLines (e ∙ ap (λ (x : List ℕ). compiling k d x) (c .before .before .before .before .before .before .before .before .before .before .before .before .before .before .pre .0 .bytes))) (c .before .before .print-compiled3 .ensures .0), c .before .before .print-compiled3 .ensures .1)
+    (puts-as (ap compiledLines (e ∙ ap (λ (x : List ℕ). compiling (house1401 k) d x) (c .before .before .before .before .before .before .before .before .before .before .before .before .before .before .pre .0 .bytes))) (c .before .before .print-compiled3 .ensures .0), c .before .before .print-compiled3 .ensures .1)
 
 pub print-deck-spec : {M : Type 1} → statement M
 print-deck-spec =

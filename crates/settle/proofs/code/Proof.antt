@@ -1,9 +1,10 @@
 -- `settle::code` meets its contract: the code so far is that of the statements passed. Assumes nothing.
 use mathlib.Core.Path.{_≡_, refl}
 use native.Mathlib.Omega.{arith}
-use Prim.Native.Nat.{ℕ, _≤_, _-_}
+use Prim.Native.Nat.{_≤_, _-_}
 use mathlib.Core.List.{List}
 use lib.ListN.{length}
+use Rattle.rules_shared.specs.House.{House}
 use Rattle.rules_deck.specs.Trees.{Statement}
 use Rattle.addresses.proofs.Told.{rows-long}
 use Rattle.addresses.proofs.DeckEnds.{lasts-inside, dos-few}
@@ -14,14 +15,14 @@ use Rattle.settle.proofs.code.Statement.{statement}
 use Rattle.settle.proofs.code.Tie as tie
 
 abbrev Inv-loop : tie.InvT-loop
-Inv-loop rows count loops n jumps starts draft out₀ from₀ j₀ top₀ i₀ out from j top i = (i ≤ count) × (length out ≡ length out₀) × ((k : ℕ) (deck : List Statement) → Settling k deck rows count loops n jumps starts draft → Reached deck from j top out i)
+Inv-loop rows count loops n jumps starts draft out₀ from₀ j₀ top₀ i₀ out from j top i = (i ≤ count) × (length out ≡ length out₀) × ((house : House) (deck : List Statement) → Settling house deck rows count loops n jumps starts draft → Reached deck from j top out i)
 
 abbrev μ-loop : tie.MeasureT-loop
 μ-loop rows count loops n jumps starts draft out₀ from₀ j₀ top₀ i₀ out from j top i = count - i
 
 loop-holds : tie.Need-loop-holds Inv-loop μ-loop
 loop-holds c =
-    (search needs, refl, λ k deck told. reached-none deck (c .before .before .before .before .before .before .args .out .now))
+    (search needs, refl, λ house deck told. reached-none deck (c .before .before .before .before .before .before .args .out .now))
 
 mul-own : tie.Need-mul-own Inv-loop μ-loop
 mul-own c =
@@ -66,19 +67,19 @@ shared-slice-read-put-own c =
 put-own-requires : tie.Need-put-own-requires Inv-loop μ-loop
 put-own-requires c κs =
     let g = c .before .before .before .before .before .before .before .before .before .before .before .pre .0 in
-    let room = room-here (g .are) (c .before .before .before .loop-test .taken) (c .before .before .before .before .before .before .before .before .before .before .before .pre .1) (c .before .before .before .before .loop .inv .2 (g .k) (g .deck) (g .are)) in
+    let room = room-here (g .are) (c .before .before .before .loop-test .taken) (c .before .before .before .before .before .before .before .before .before .before .before .pre .1) (c .before .before .before .before .loop .inv .2 (g .house) (g .deck) (g .are)) in
     (omega (arith, room .fits, c .before .before .before .before .before .before .before .before .before .before .before .pre .2, c .before .before .before .before .loop .inv .1), room .drafted, room .aimed)
 
 put-ends-requires : tie.Need-put-ends-requires Inv-loop μ-loop
 put-ends-requires c κs =
     let g = c .before .before .before .before .before .before .before .before .before .before .before .before .before .before .before .pre .0 in
-    let room = room-here (g .are) (c .before .before .before .before .before .before .before .loop-test .taken) (c .before .before .before .before .before .before .before .before .before .before .before .before .before .before .before .pre .1) (c .before .before .before .before .before .before .before .before .loop .inv .2 (g .k) (g .deck) (g .are)) in
+    let room = room-here (g .are) (c .before .before .before .before .before .before .before .loop-test .taken) (c .before .before .before .before .before .before .before .before .before .before .before .before .before .before .before .pre .1) (c .before .before .before .before .before .before .before .before .loop .inv .2 (g .house) (g .deck) (g .are)) in
     (lasts-inside (g .are .judged), dos-few (g .are .judged .in-loops), omega (arith, room .fits, c .before .before .before .before .before .before .before .before .before .before .before .before .before .before .before .pre .2, c .before .before .before .before .before .before .before .before .loop .inv .1, own-size room (c .before .before .before .put-own .ensures)))
 
 add-from : tie.Need-add-from Inv-loop μ-loop
 add-from c =
     let g = c .before .before .before .before .before .before .before .before .before .before .before .before .before .before .before .before .before .before .pre .0 in
-    let room = room-here (g .are) (c .before .before .before .before .before .before .before .before .before .before .loop-test .taken) (c .before .before .before .before .before .before .before .before .before .before .before .before .before .before .before .before .before .before .pre .1) (c .before .before .before .before .before .before .before .before .before .before .before .loop .inv .2 (g .k) (g .deck) (g .are)) in
+    let room = room-here (g .are) (c .before .before .before .before .before .before .before .before .before .before .loop-test .taken) (c .before .before .before .before .before .before .before .before .before .before .before .before .before .before .before .before .before .before .pre .1) (c .before .before .before .before .before .before .before .before .before .before .before .loop .inv .2 (g .house) (g .deck) (g .are)) in
     omega (arith, room .drafted, c .before .before .before .before .before .before .before .before .before .before .before .before .before .before .before .before .before .before .good .1 .1 .1 .1 .1 .1 .0)
 
 mul-j : tie.Need-mul-j Inv-loop μ-loop
@@ -104,7 +105,7 @@ shared-slice-read-j c =
 add-j-2 : tie.Need-add-j-2 Inv-loop μ-loop
 add-j-2 c =
     let g = c .before .before .before .before .before .before .before .before .before .before .before .before .before .before .before .before .before .before .before .pre .0 in
-    let room = room-here (g .are) (c .before .before .before .before .before .before .before .before .before .before .before .loop-test .taken) (c .before .before .before .before .before .before .before .before .before .before .before .before .before .before .before .before .before .before .before .pre .1) (c .before .before .before .before .before .before .before .before .before .before .before .before .loop .inv .2 (g .k) (g .deck) (g .are)) in
+    let room = room-here (g .are) (c .before .before .before .before .before .before .before .before .before .before .before .loop-test .taken) (c .before .before .before .before .before .before .before .before .before .before .before .before .before .before .before .before .before .before .before .pre .1) (c .before .before .before .before .before .before .before .before .before .before .before .before .loop .inv .2 (g .house) (g .deck) (g .are)) in
     omega (arith, room .jumped, c .before .before .before .before .before .before .before .before .before .before .before .before .before .before .before .before .before .before .before .good .1 .1 .1 .1 .0)
 
 add-i : tie.Need-add-i Inv-loop μ-loop
@@ -117,7 +118,7 @@ loop-again : tie.Need-loop-again Inv-loop μ-loop
 loop-again c = (
   search needs,
   search needs,
-  λ k deck told. reached-more told (c .before .before .before .before .before .before .before .before .before .before .before .loop-test .taken) (c .before .before .before .before .before .before .before .before .before .before .before .before .loop .inv .2 k deck told) (c .before .before .before .before .before .before .before .put-own .ensures) (c .before .before .before .put-ends .ensures),
+  λ house deck told. reached-more told (c .before .before .before .before .before .before .before .before .before .before .before .loop-test .taken) (c .before .before .before .before .before .before .before .before .before .before .before .before .loop .inv .2 house deck told) (c .before .before .before .before .before .before .before .put-own .ensures) (c .before .before .before .put-ends .ensures),
 )
 
 same-length : tie.Need-same-length Inv-loop μ-loop
@@ -126,7 +127,7 @@ same-length c =
 
 returns : tie.Need-returns Inv-loop μ-loop
 returns c =
-    λ k deck told. reached-all told (omega (arith, c .loop-test .left, c .before .loop .inv .0)) (c .before .loop .inv .2 k deck told)
+    λ house deck told. reached-all told (omega (arith, c .loop-test .left, c .before .loop .inv .0)) (c .before .loop .inv .2 house deck told)
 
 pub code-spec : {M : Type 1} → statement M
 code-spec =

@@ -1,9 +1,10 @@
 -- `settle::exits` meets its contract: the exits so far are those of the statements passed. Assumes nothing.
 use mathlib.Core.Path.{_≡_, refl}
 use native.Mathlib.Omega.{arith}
-use Prim.Native.Nat.{ℕ, _≤_, _-_}
+use Prim.Native.Nat.{_≤_, _-_}
 use mathlib.Core.List.{List}
 use lib.ListN.{length, take}
+use Rattle.rules_shared.specs.House.{House}
 use Rattle.rules_deck.specs.Trees.{Statement}
 use Rattle.draft.specs.Sketch.{deckJumps}
 use Rattle.addresses.specs.Given.{Holds}
@@ -16,14 +17,14 @@ use Rattle.settle.proofs.exits.Statement.{statement}
 use Rattle.settle.proofs.exits.Tie as tie
 
 abbrev Inv-loop : tie.InvT-loop
-Inv-loop rows count jumps starts out₀ j₀ top₀ i₀ out j top i = (i ≤ count) × (length out ≡ length out₀) × ((k : ℕ) (deck : List Statement) → Leading k deck rows count jumps starts → (j ≡ length (deckJumps (take i deck))) × Holds out top (exitsTo deck i))
+Inv-loop rows count jumps starts out₀ j₀ top₀ i₀ out j top i = (i ≤ count) × (length out ≡ length out₀) × ((house : House) (deck : List Statement) → Leading house deck rows count jumps starts → (j ≡ length (deckJumps (take i deck))) × Holds out top (exitsTo deck i))
 
 abbrev μ-loop : tie.MeasureT-loop
 μ-loop rows count jumps starts out₀ j₀ top₀ i₀ out j top i = count - i
 
 loop-holds : tie.Need-loop-holds Inv-loop μ-loop
 loop-holds c =
-    (search needs, refl, λ k deck told. (refl, holds-none (c .before .before .before .before .args .out .now)))
+    (search needs, refl, λ house deck told. (refl, holds-none (c .before .before .before .before .args .out .now)))
 
 mul-many : tie.Need-mul-many Inv-loop μ-loop
 mul-many c =
@@ -69,7 +70,7 @@ put-exits-requires : tie.Need-put-exits-requires Inv-loop μ-loop
 put-exits-requires c κs =
     let g = c .before .before .before .before .before .before .before .before .before .pre .0 in
     let i = c .before .before .before .before .loop .i in
-    let h = c .before .before .before .before .loop .inv .2 (g .k) (g .deck) (g .are) in
+    let h = c .before .before .before .before .loop .inv .2 (g .house) (g .deck) (g .are) in
     let room = exits-room (g .are) i (c .before .before .before .before .loop .j) (c .before .before .before .loop-test .taken) (c .before .before .before .before .before .before .before .before .before .pre .1) (h .0) (h .1) in
     (room .0, omega (arith, c .before .before .before .before .before .before .before .before .before .pre .2, c .before .before .before .before .loop .inv .1), room .1)
 
@@ -77,7 +78,7 @@ add-j : tie.Need-add-j Inv-loop μ-loop
 add-j c =
     let g = c .before .before .before .before .before .before .before .before .before .before .before .before .pre .0 in
     let i = c .before .before .before .before .before .before .before .loop .i in
-    let h = c .before .before .before .before .before .before .before .loop .inv .2 (g .k) (g .deck) (g .are) in
+    let h = c .before .before .before .before .before .before .before .loop .inv .2 (g .house) (g .deck) (g .are) in
     let room = exits-room (g .are) i (c .before .before .before .before .before .before .before .loop .j) (c .before .before .before .before .before .before .loop-test .taken) (c .before .before .before .before .before .before .before .before .before .before .before .before .pre .1) (h .0) (h .1) in
     omega (arith, room .1 .long)
 
@@ -91,8 +92,8 @@ loop-again : tie.Need-loop-again Inv-loop μ-loop
 loop-again c = (
   search needs,
   search needs,
-  λ k deck told.
-      let h = c .before .before .before .before .before .before .before .loop .inv .2 k deck told in
+  λ house deck told.
+      let h = c .before .before .before .before .before .before .before .loop .inv .2 house deck told in
       (jumps-after told (c .before .before .before .before .before .before .before .loop .i) (c .before .before .before .before .before .before .before .loop .j) (c .before .before .before .before .before .before .loop-test .taken) (h .0), exits-put told (c .before .before .before .before .before .before .before .loop .i) (c .before .before .before .before .before .before .before .loop .j) (c .before .before .before .before .before .before .loop-test .taken) (h .0) (c .before .before .put-exits .ensures) (h .1)),
 )
 
@@ -102,7 +103,7 @@ same-length c =
 
 returns : tie.Need-returns Inv-loop μ-loop
 returns c =
-    λ k deck told. exits-all told (c .before .loop .i) (omega (arith, c .loop-test .left, c .before .loop .inv .0)) (c .before .loop .inv .2 k deck told .1)
+    λ house deck told. exits-all told (c .before .loop .i) (omega (arith, c .loop-test .left, c .before .loop .inv .0)) (c .before .loop .inv .2 house deck told .1)
 
 pub exits-spec : {M : Type 1} → statement M
 exits-spec =

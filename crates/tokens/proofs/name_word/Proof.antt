@@ -11,7 +11,7 @@ use Rattle.tokens.proofs.name_word.Statement.{statement}
 use Rattle.tokens.proofs.name_word.Tie as tie
 
 abbrev Inv-loop : tie.InvT-loop
-Inv-loop s from k w₀ i₀ w i = (i ≤ 8) × (nameWord (take k (drop from s)) ≡ bytesFrom w (drop i (filled (take k (drop from s))))) × (w < 256 ^ i)
+Inv-loop s from k w₀ i₀ w i = (i ≤ 8) × (nameWord (take k (drop from s)) ≡ bytesFrom w (drop i (filled 8 (take k (drop from s))))) × (w < 256 ^ i)
 
 abbrev μ-loop : tie.MeasureT-loop
 μ-loop s from k w₀ i₀ w i = 8 - i
@@ -47,15 +47,15 @@ loop-again c =
     let st = c .before .before .before .before in
     let v = take (st .args .k) (drop (st .args .from) (st .args .s .now)) in
     let lp = c .before .before .loop in
-    let b : c .blank-filled .result ≡ getD (filled v) (lp .i) 0 = c .blank-filled .ensures .0 ∙ sym (filled-at v (lp .i) (c .before .loop-test .taken)) in
-    (omega (arith, c .before .loop-test .taken), lp .inv .1 ∙ bytes-more (filled v) (lp .w) (lp .i) (omega (arith, filled-length v, c .before .loop-test .taken)) ∙ ap (λ (x : ℕ). bytesFrom (lp .w * 256 + x) (drop (lp .i + 1) (filled v))) (sym b), grown (lp .w) _ (lp .i) (lp .inv .2) (c .blank-filled .ensures .1))
+    let b : c .blank-filled .result ≡ getD (filled 8 v) (lp .i) 0 = c .blank-filled .ensures .0 ∙ sym (filled-at v (lp .i) (c .before .loop-test .taken)) in
+    (omega (arith, c .before .loop-test .taken), lp .inv .1 ∙ bytes-more (filled 8 v) (lp .w) (lp .i) (omega (arith, filled-length v, c .before .loop-test .taken)) ∙ ap (λ (x : ℕ). bytesFrom (lp .w * 256 + x) (drop (lp .i + 1) (filled 8 v))) (sym b), grown (lp .w) _ (lp .i) (lp .inv .2) (c .blank-filled .ensures .1))
 
 returns : tie.Need-returns Inv-loop μ-loop
 returns c =
     let st = c .before .before .before in
     let v = take (st .args .k) (drop (st .args .from) (st .args .s .now)) in
     let lp = c .before .loop in
-    sym (lp .inv .1 ∙ bytes-end (filled v) (lp .w) (lp .i) (omega (arith, filled-length v, c .loop-test .left)))
+    sym (lp .inv .1 ∙ bytes-end (filled 8 v) (lp .w) (lp .i) (omega (arith, filled-length v, c .loop-test .left)))
 
 pub name-word-spec : {M : Type 1} → statement M
 name-word-spec =
