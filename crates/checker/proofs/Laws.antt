@@ -4,12 +4,12 @@ use mathlib.Core.Path.{_≡_, refl, sym, ap, _∙_, subst}
 use mathlib.Core.Bool.{Bool, true, false, cond}
 use mathlib.Core.List.{List, [], _∷_}
 use mathlib.Core.Option.{Option, none, some}
-use Prim.Native.Nat.{ℕ, zero, suc, _+_, _^_, _≤_, _<_}
+use Prim.Native.Nat.{ℕ, zero, suc, _+_, _≤_, _<_}
 use native.Mathlib.Omega.{arith}
 use lib.Dec.{leb}
 use lib.ListN.{length, getD}
 use borrow.Author.Tests.{leb-true}
-use Rattle.number.specs.Number.{ceiling}
+use Rattle.number.specs.Number.{digitsRule}
 use Rattle.rules_shared.specs.Limits.{limits}
 use Rattle.rules_object.specs.Object.{Object, ruleOf}
 use Rattle.rules_object.specs.Check.{right41, rightConstant, rightElement, rightLoop, rightLine, rightNamed}
@@ -119,10 +119,10 @@ pub digits-low : (e : Layout) (s : List ℕ) → right41 (objectAt e s) ≡ true
 unfolding objectAt
 digits-low e s h = let l = limited (objectAt e s) h in omega (arith, l .digits)
 
--- the ceiling by the layout's digits
-pub ceiling-is : (e : Layout) (s : List ℕ) → 10 ^ e .digits ≡ ceiling (ruleOf (objectAt e s))
-unfolding ceiling objectAt
-ceiling-is e s = refl
+-- the rule by the layout's digits
+pub rule-is : (e : Layout) (s : List ℕ) → digitsRule (e .digits) ≡ ruleOf (objectAt e s)
+unfolding objectAt
+rule-is e s = refl
 
 low-42 : (o : Object) → Limited o → If Low (refused42 o)
 unfolding refused42

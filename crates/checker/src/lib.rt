@@ -99,8 +99,8 @@ fn check_bodies(o: &[u8], e: Layout, table: &mut Table) -> Verdict
     if !judge::limits_right(e) {
         return refuse(41, 0, 0);
     }
-    let p = number::ten(word::index(e.digits));
-    let found = judge::entries(o, e, p);
+    let rule = number::of_digits(word::index(e.digits));
+    let found = judge::entries(o, e, rule);
     match found {
         Found::At(kind, i) => refuse(42, i, kind),
         Found::Nothing => check_code(o, e, table),

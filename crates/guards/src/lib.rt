@@ -1,12 +1,15 @@
 // The tests of a bench run, before each instruction: 8 where it is not right, 7 where the stack has too few numbers or too little room, else 0.
 ghost use mathlib.Core.Path.{_≡_};
 ghost use mathlib.Core.Bool.{false};
-ghost use Prim.Native.Nat.{_+_, _^_, _≤_, _<_};
+ghost use Prim.Native.Nat.{_+_, _≤_, _<_};
+ghost use Rattle.number.specs.Code.{ruled};
+ghost use Rattle.rules_object.specs.Object.{ruleOf};
 ghost use Rattle.rules_object.specs.Operations.{operationAt};
 ghost use Rattle.object.specs.Layout.{objectAt, Placed};
 ghost use Rattle.guards.specs.Guarding.{roomFor, guardOf, Sees};
-use arithmetic::Regs;
+use number::Rule;
 use object::Layout;
+use registers::Regs;
 
 // For each instruction 1 more than a height at which all is right, or 0.
 pub type Seen = [u8; 4096];
@@ -32,8 +35,8 @@ fn room(op: usize, h: usize) -> u32
     }
 }
 
-fn guard(o: &[u8], e: Layout, p: u64, r: Regs) -> u32
-    requires { ⌜ Placed e (now o) × (p ≡ 10 ^ e .digits) ⌝ }
+fn guard(o: &[u8], e: Layout, rule: Rule, r: Regs) -> u32
+    requires { ⌜ Placed e (now o) × (ruled rule ≡ ruleOf (objectAt e (now o))) ⌝ }
     requires { ⌜ r .height ≤ 40 ⌝ }
     ensures { λ g. ⌜ g ≡ guardOf (objectAt e (now (o .entry))) (r .index) (r .height) ⌝ }
 {
@@ -45,7 +48,7 @@ fn guard(o: &[u8], e: Layout, p: u64, r: Regs) -> u32
     if !operands::word_right(o, e, w) {
         return opcodes::BAD_INSTRUCTION;
     }
-    if !operands::entry_right(o, e, p, w) {
+    if !operands::entry_right(o, e, rule, w) {
         return opcodes::BAD_INSTRUCTION;
     }
     room(word::index(word::operation(w)), r.height)
@@ -59,8 +62,8 @@ fn tag(h: usize) -> u8
 }
 
 // The same, where an instruction that was once right at its height is not looked at again.
-fn guard_again(o: &[u8], e: Layout, p: u64, r: Regs, seen: &mut Seen) -> u32
-    requires { ⌜ Placed e (now o) × ((p ≡ 10 ^ e .digits) × (e .«code_count» ≤ 4096)) ⌝ }
+fn guard_again(o: &[u8], e: Layout, rule: Rule, r: Regs, seen: &mut Seen) -> u32
+    requires { ⌜ Placed e (now o) × ((ruled rule ≡ ruleOf (objectAt e (now o))) × (e .«code_count» ≤ 4096)) ⌝ }
     requires { ⌜ r .height ≤ 40 ⌝ }
     requires { ⌜ Sees (objectAt e (now o)) (now seen) ⌝ }
     ensures { λ g. ⌜ (g ≡ guardOf (objectAt e (now (o .entry))) (r .index) (r .height)) × Sees (objectAt e (now (o .entry))) (now (seen .exit)) ⌝ }
@@ -73,7 +76,7 @@ fn guard_again(o: &[u8], e: Layout, p: u64, r: Regs, seen: &mut Seen) -> u32
     if seen[index] == t {
         return 0;
     }
-    let g = guard(o, e, p, r);
+    let g = guard(o, e, rule, r);
     if g != 0 {
         return g;
     }
@@ -82,15 +85,15 @@ fn guard_again(o: &[u8], e: Layout, p: u64, r: Regs, seen: &mut Seen) -> u32
 }
 
 // The guard's answer. Where the caller knows that it is 0, nothing is tested.
-pub fn test(guarded: bool, o: &[u8], e: Layout, p: u64, r: Regs, seen: &mut Seen) -> u32
-    requires { ⌜ Placed e (now o) × ((p ≡ 10 ^ e .digits) × (e .«code_count» ≤ 4096)) ⌝ }
+pub fn test(guarded: bool, o: &[u8], e: Layout, rule: Rule, r: Regs, seen: &mut Seen) -> u32
+    requires { ⌜ Placed e (now o) × ((ruled rule ≡ ruleOf (objectAt e (now o))) × (e .«code_count» ≤ 4096)) ⌝ }
     requires { ⌜ r .height ≤ 40 ⌝ }
     requires { ⌜ Sees (objectAt e (now o)) (now seen) ⌝ }
     requires { ⌜ (guarded ≡ false → guardOf (objectAt e (now o)) (r .index) (r .height) ≡ 0) ⌝ }
     ensures { λ g. ⌜ (g ≡ guardOf (objectAt e (now (o .entry))) (r .index) (r .height)) × Sees (objectAt e (now (o .entry))) (now (seen .exit)) ⌝ }
 {
     if guarded {
-        return guard_again(o, e, p, r, seen);
+        return guard_again(o, e, rule, r, seen);
     }
     0
 }

@@ -8,9 +8,9 @@ use mathlib.Core.Bool.{Bool, _&&_}
 use mathlib.Core.List.{List}
 use lib.Dec.{ltb, leb}
 use lib.ListN.{getD}
-use lib.IntN.{natAbs}
+use lib.IntN.{pos, natAbs}
 use borrow.Author.Tests.{lt-ltb, le-ltb}
-use Rattle.number.specs.Number.{ceiling, fits}
+use Rattle.number.specs.Number.{Rule, fits}
 use Rattle.rules_object.specs.Bytes.{signedOf}
 use Rattle.rules_object.specs.Object.{ruleOf}
 use Rattle.rules_object.specs.Check.{rightConstant, rightElement, rightLoop, rightLine}
@@ -30,32 +30,32 @@ unfolding signedOf
 high-magnitude w h k = rw (le-ltb w 2147483648 h) (omega arith)
 
 module _ (e : Layout) (s : List ℕ) (i : ℕ) where
-  pub constant-says : (p : ℕ) → p ≡ ceiling (ruleOf (objectAt e s)) → i < e .«constant_count»
-      → ltb (wordAt s (e .constants + 4 * i)) p ≡ rightConstant (objectAt e s) (getD (objectAt e s .constants) i 0)
-  unfolding rightConstant fits
-  constant-says p q h = rw (q, constant-at e s i h)
+  pub constant-says : (k : Rule) → k ≡ ruleOf (objectAt e s) → i < e .«constant_count»
+      → fits k (pos (wordAt s (e .constants + 4 * i))) ≡ rightConstant (objectAt e s) (getD (objectAt e s .constants) i 0)
+  unfolding rightConstant
+  constant-says k q h = rw (q, constant-at e s i h)
 
   -- the tests that element_right joins, at the entry's first byte b
-  elementTests : ℕ → ℕ → Bool
-  elementTests b p =
+  elementTests : ℕ → Rule → Bool
+  elementTests b k =
       leb 1 (wordAt s (b + 4)) && (leb 1 (wordAt s (b + 8)) && (leb (wordAt s b + wordAt s (b + 4) * wordAt s (b + 8)) (e .cells) &&
-      (subscriptAt s (b + 12) (e .cells) p && subscriptAt s (b + 24) (e .cells) p)))
+      (subscriptAt s (b + 12) (e .cells) k && subscriptAt s (b + 24) (e .cells) k)))
 
-  element-tests : (b p : ℕ) → p ≡ ceiling (ruleOf (objectAt e s)) → elementTests b p ≡ rightElement (objectAt e s) (elementAt s b)
-  unfolding elementTests rightElement elementAt objectAt subscriptAt fits
-  element-tests b p q = rw (q, add-assoc b 12 8, add-assoc b 12 4, add-assoc b 24 8, add-assoc b 24 4)
+  element-tests : (b : ℕ) (k : Rule) → k ≡ ruleOf (objectAt e s) → elementTests b k ≡ rightElement (objectAt e s) (elementAt s b)
+  unfolding elementTests rightElement elementAt objectAt subscriptAt
+  element-tests b k q = rw (q, add-assoc b 12 8, add-assoc b 12 4, add-assoc b 24 8, add-assoc b 24 4)
 
-  pub element-says : (p : ℕ) → p ≡ ceiling (ruleOf (objectAt e s)) → i < e .«element_count»
+  pub element-says : (k : Rule) → k ≡ ruleOf (objectAt e s) → i < e .«element_count»
       → (rows columns : ℕ) (in₁ in₂ in₃ : Bool)
       → rows ≡ wordAt s (e .elements + 36 * i + 4)
       → columns ≡ wordAt s (e .elements + 36 * i + 8)
       → in₁ ≡ leb (wordAt s (e .elements + 36 * i) + rows * columns) (e .cells)
-      → in₂ ≡ subscriptAt s (e .elements + 36 * i + 12) (e .cells) p
-      → in₃ ≡ subscriptAt s (e .elements + 36 * i + 24) (e .cells) p
+      → in₂ ≡ subscriptAt s (e .elements + 36 * i + 12) (e .cells) k
+      → in₃ ≡ subscriptAt s (e .elements + 36 * i + 24) (e .cells) k
       → (leb 1 rows && (leb 1 columns && (in₁ && (in₂ && in₃)))) ≡ rightElement (objectAt e s) (getD (objectAt e s .elements) i noElement)
   unfolding elementTests
-  element-says p q h rows columns in₁ in₂ in₃ r c a b d =
-      rw (element-at e s i noElement h, ← element-tests (e .elements + 36 * i) p q, a, b, d, r, c)
+  element-says k q h rows columns in₁ in₂ in₃ r c a b d =
+      rw (element-at e s i noElement h, ← element-tests (e .elements + 36 * i) k q, a, b, d, r, c)
 
   pub loop-says : i < e .«do_count» → (in₁ in₂ in₃ in₄ : Bool)
       → in₁ ≡ ltb (wordAt s (e .dos + 16 * i)) (e .cells)

@@ -6,7 +6,8 @@ use mathlib.Core.List.{List, [], _∷_}
 use mathlib.Core.Option.{Option, none, some}
 use lib.Dec.{ltb}
 use lib.ListN.{getD}
-use lib.IntN.{natAbs}
+use lib.IntN.{pos}
+use Rattle.number.specs.Number.{Rule, fits}
 use Rattle.rules_object.specs.Object.{Line, Object}
 use Rattle.rules_object.specs.Check.{rightConstant, rightElement, rightLoop, rightLine, rightNamed}
 use Rattle.rules_object.specs.Operations.{noElement, noLoop, noEntry}
@@ -22,9 +23,9 @@ use Rattle.judge.specs.declared.Found.the-variants.{Nothing, At}
 abbrev pub noLine : Line
 noLine = record { sequence = 0; number = 0; address = 0 }
 
--- the subscript at b: its multiplier and its addend below p, its cell inside
-unfoldable pub subscriptAt : List ℕ → ℕ → ℕ → ℕ → Bool
-subscriptAt s b cells p = ltb (wordAt s b) p && (ltb (natAbs (signedOf (wordAt s (b + 8)))) p && ltb (wordAt s (b + 4)) cells)
+-- the subscript at b: its multiplier and its addend fit, its cell is inside
+unfoldable pub subscriptAt : List ℕ → ℕ → ℕ → Rule → Bool
+subscriptAt s b cells k = fits k (pos (wordAt s b)) && (fits k (signedOf (wordAt s (b + 8))) && ltb (wordAt s (b + 4)) cells)
 
 -- an answer as the book says it
 unfoldable pub refusalOf : ℕ → Found → Option Refusal

@@ -4,8 +4,9 @@ ghost use mathlib.Core.List.{List};
 ghost use Prim.Native.Nat.{ℕ, _+_, _≤_, _<_};
 ghost use lib.Dec.{ltb};
 ghost use lib.ListN.{length, getD};
-ghost use lib.IntN.{natAbs};
-ghost use Rattle.number.specs.Number.{ceiling};
+ghost use lib.IntN.{pos, natAbs};
+ghost use Rattle.number.specs.Number as number;
+ghost use Rattle.number.specs.Code.{ruled};
 ghost use Rattle.rules_object.specs.Bytes.{signedOf};
 ghost use Rattle.rules_object.specs.Object.{ruleOf};
 ghost use Rattle.rules_object.specs.Check.{right41, rightConstant, rightElement, rightLoop, rightLine};
@@ -16,6 +17,7 @@ ghost use Rattle.word.specs.Word.{wordAt};
 ghost use Rattle.object.specs.Layout.{Placed, objectAt};
 ghost use Rattle.judge.specs.Judge.{noLine, subscriptAt, refusalOf, countOf, passes, firstFrom};
 use named::wide;
+use number::Rule;
 use object::Layout;
 
 // The kind of the table, and the entry in it.
@@ -81,46 +83,46 @@ pub fn in_code(o: &[u8], at: usize, n: usize) -> bool
     word::index(word::load(o, at)) < n
 }
 
-fn fits(o: &[u8], at: usize, p: u64) -> bool
+fn fits(o: &[u8], at: usize, rule: Rule) -> bool
     requires { ⌜ at + 4 ≤ length (now o) ⌝ }
-    ensures { λ r. ⌜ r ≡ ltb (wordAt (now (o .entry)) at) p ⌝ }
+    ensures { λ r. ⌜ r ≡ number.fits (ruled rule) (pos (wordAt (now (o .entry)) at)) ⌝ }
 {
-    wide(word::load(o, at)) < p
+    number::below(rule, wide(word::load(o, at)))
 }
 
-fn signed_fits(o: &[u8], at: usize, p: u64) -> bool
+fn signed_fits(o: &[u8], at: usize, rule: Rule) -> bool
     requires { ⌜ at + 4 ≤ length (now o) ⌝ }
-    ensures { λ r. ⌜ r ≡ ltb (natAbs (signedOf (wordAt (now (o .entry)) at))) p ⌝ }
+    ensures { λ r. ⌜ r ≡ number.fits (ruled rule) (signedOf (wordAt (now (o .entry)) at)) ⌝ }
 {
-    magnitude(word::load(o, at)) < p
+    number::below(rule, magnitude(word::load(o, at)))
 }
 
-pub fn constant_right(o: &[u8], e: Layout, p: u64, i: usize) -> bool
-    requires { ⌜ p ≡ ceiling (ruleOf (objectAt e (now o))) ⌝ }
+pub fn constant_right(o: &[u8], e: Layout, rule: Rule, i: usize) -> bool
+    requires { ⌜ ruled rule ≡ ruleOf (objectAt e (now o)) ⌝ }
     requires { ⌜ Placed e (now o) × (i < e .«constant_count») ⌝ }
     ensures { λ r. ⌜ r ≡ rightConstant (objectAt e (now (o .entry))) (getD (objectAt e (now (o .entry)) .constants) i 0) ⌝ }
 {
-    fits(o, e.constants + 4 * i, p)
+    fits(o, e.constants + 4 * i, rule)
 }
 
 // Multiplier, cell and addend.
-fn subscript_right(o: &[u8], b: usize, cells: u32, p: u64) -> bool
+fn subscript_right(o: &[u8], b: usize, cells: u32, rule: Rule) -> bool
     requires { ⌜ b + 12 ≤ length (now o) ⌝ }
-    ensures { λ r. ⌜ r ≡ subscriptAt (now (o .entry)) b cells p ⌝ }
+    ensures { λ r. ⌜ r ≡ subscriptAt (now (o .entry)) b cells (ruled rule) ⌝ }
 {
-    fits(o, b, p) & (signed_fits(o, b + 8, p) & in_cells(o, b + 4, cells))
+    fits(o, b, rule) & (signed_fits(o, b + 8, rule) & in_cells(o, b + 4, cells))
 }
 
-pub fn element_right(o: &[u8], e: Layout, p: u64, i: usize) -> bool
-    requires { ⌜ p ≡ ceiling (ruleOf (objectAt e (now o))) ⌝ }
+pub fn element_right(o: &[u8], e: Layout, rule: Rule, i: usize) -> bool
+    requires { ⌜ ruled rule ≡ ruleOf (objectAt e (now o)) ⌝ }
     requires { ⌜ Placed e (now o) × (i < e .«element_count») ⌝ }
     ensures { λ r. ⌜ r ≡ rightElement (objectAt e (now (o .entry))) (getD (objectAt e (now (o .entry)) .elements) i noElement) ⌝ }
 {
     let b = e.elements + 36 * i;
     let rows = word::load(o, b + 4);
     let columns = word::load(o, b + 8);
-    let subscripts = subscript_right(o, b + 12, e.cells, p)
-        & subscript_right(o, b + 24, e.cells, p);
+    let subscripts = subscript_right(o, b + 12, e.cells, rule)
+        & subscript_right(o, b + 24, e.cells, rule);
     (1 <= rows)
         & ((1 <= columns) & (named::inside(word::load(o, b), rows, columns, e.cells) & subscripts))
 }
@@ -141,14 +143,14 @@ pub fn line_right(o: &[u8], e: Layout, i: usize) -> bool
     in_code(o, e.lines + 12 * i + 8, e.code_count)
 }
 
-fn entry_passes(o: &[u8], e: Layout, p: u64, kind: u32, i: usize) -> bool
-    requires { ⌜ p ≡ ceiling (ruleOf (objectAt e (now o))) ⌝ }
+fn entry_passes(o: &[u8], e: Layout, rule: Rule, kind: u32, i: usize) -> bool
+    requires { ⌜ ruled rule ≡ ruleOf (objectAt e (now o)) ⌝ }
     requires { ⌜ Placed e (now o) × (i < countOf e kind) ⌝ }
     ensures { λ r. ⌜ r ≡ passes (objectAt e (now (o .entry))) kind i ⌝ }
 {
     match kind {
-        1 => constant_right(o, e, p, i),
-        2 => element_right(o, e, p, i),
+        1 => constant_right(o, e, rule, i),
+        2 => element_right(o, e, rule, i),
         4 => loop_right(o, e, i),
         6 => line_right(o, e, i),
         7 => named::named_right(o, e, i),
@@ -157,14 +159,14 @@ fn entry_passes(o: &[u8], e: Layout, p: u64, kind: u32, i: usize) -> bool
 }
 
 // The first of the `n` entries of a kind that fails.
-fn first_bad(o: &[u8], e: Layout, p: u64, kind: u32, n: usize) -> Found
-    requires { ⌜ p ≡ ceiling (ruleOf (objectAt e (now o))) ⌝ }
+fn first_bad(o: &[u8], e: Layout, rule: Rule, kind: u32, n: usize) -> Found
+    requires { ⌜ ruled rule ≡ ruleOf (objectAt e (now o)) ⌝ }
     requires { ⌜ Placed e (now o) × (n ≡ countOf e kind) ⌝ }
     ensures { λ r. ⌜ refusalOf 42 r ≡ atEntry 42 kind (firstFrom (passes (objectAt e (now (o .entry))) kind) n 0) ⌝ }
 {
     let mut i: usize = 0;
     while i < n {
-        if !entry_passes(o, e, p, kind, i) {
+        if !entry_passes(o, e, rule, kind, i) {
             return Found::At(kind, i);
         }
         i += 1;
@@ -182,16 +184,16 @@ fn or_else(a: Found, b: Found) -> Found
 }
 
 // The lowest kind first. Exits and code are judged by 43.
-pub fn entries(o: &[u8], e: Layout, p: u64) -> Found
-    requires { ⌜ p ≡ ceiling (ruleOf (objectAt e (now o))) ⌝ }
+pub fn entries(o: &[u8], e: Layout, rule: Rule) -> Found
+    requires { ⌜ ruled rule ≡ ruleOf (objectAt e (now o)) ⌝ }
     requires { ⌜ Placed e (now o) ⌝ }
     ensures { λ r. ⌜ refusalOf 42 r ≡ refused42 (objectAt e (now (o .entry))) ⌝ }
 {
-    let constants = first_bad(o, e, p, 1, e.constant_count);
-    let elements = first_bad(o, e, p, 2, e.element_count);
-    let dos = first_bad(o, e, p, 4, e.do_count);
-    let lines = first_bad(o, e, p, 6, e.line_count);
-    let names = first_bad(o, e, p, 7, e.name_count);
+    let constants = first_bad(o, e, rule, 1, e.constant_count);
+    let elements = first_bad(o, e, rule, 2, e.element_count);
+    let dos = first_bad(o, e, rule, 4, e.do_count);
+    let lines = first_bad(o, e, rule, 6, e.line_count);
+    let names = first_bad(o, e, rule, 7, e.name_count);
     or_else(
         constants,
         or_else(elements, or_else(dos, or_else(lines, names))),

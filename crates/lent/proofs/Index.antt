@@ -11,7 +11,7 @@ use lib.ListN.{length, getD, getElem?, take, drop, length-drop}
 use lib.Seq.{length-take-le, getD-take, getD-drop}
 use lib.IntN.{ℤ, pos, negsuc, negℤ}
 use borrow.Author.Tests.{ltb-true, leb-true}
-use Rattle.number.specs.Number.{Rule, Op, add, sub, mul, div, Result, value, byZero, apply}
+use Rattle.number.specs.Number.{Rule, Op, add, sub, mul, div, Result, value, trouble, apply}
 use Rattle.rules_shared.specs.Limits.{limits}
 use Rattle.rules_shared.specs.Lists.{Each, each-none, each-more}
 use Rattle.rules_object.specs.Object.{Element, Loop, Object, ruleOf}
@@ -91,7 +91,7 @@ module _ (o : Object) where
 
     operated-in : (r : Result) (s : List ℤ) → suc (length s) ≤ 40 → Inside (operated r t s)
     operated-in (value v lost) s h = onward (v ∷ s) _ _ h
-    operated-in byZero s h = stays
+    operated-in (trouble w) s h = stays
 
     loaded-in : (p : Option ℕ) (e : Element) → suc (length (t .stack)) ≤ 40 → Inside (elementLoaded p e t)
     loaded-in none e h = stays

@@ -10,9 +10,9 @@ use native.Mathlib.Omega.{arith}
 use lib.Dec.{ltb, leb}
 use lib.ListN.{length, getD, take, drop, set, replicate, length-set, length-take, length-replicate, getD-replicate, List·getD-eq-default}
 use lib.Seq.{drop-cons, getD-take, getD-set-same, getD-set-other, ext-getD}
-use lib.IntN.{ℤ, pos, natAbs}
+use lib.IntN.{ℤ, pos}
 use borrow.Author.Tests.{lt-ltb, le-ltb, le-leb, lt-leb, eq-eqb, ne-eqb}
-use Rattle.number.specs.Number.{Rule, ceiling, fits}
+use Rattle.number.specs.Number.{Rule, fits}
 use Rattle.rules_object.specs.Object.{Object, ruleOf}
 use Rattle.rules_object.specs.Machine.{cell}
 use Rattle.rules_object.specs.Flow.{heightAt}
@@ -40,25 +40,28 @@ pub fit-all : (test : ℤ → Bool) (l : List ℤ) (n i : ℕ) → n ≤ i → a
 fit-all test l n i h = let m : n - i ≡ 0 = omega arith in rw m
 
 -- what is known at i
-abbrev pub Fitting : List ℤ → ℕ → ℕ → ℕ → Type 0
-Fitting l n p i = (k : Rule) → p ≡ ceiling k → all (fits k) (take n l) ≡ all (fits k) (take (n - i) (drop i l))
+abbrev pub Fitting : List ℤ → ℕ → Rule → ℕ → Type 0
+Fitting l n k i = all (fits k) (take n l) ≡ all (fits k) (take (n - i) (drop i l))
 
-pub fitting-none : (l : List ℤ) (n p : ℕ) → Fitting l n p 0
-fitting-none l n p k e = fit-none (fits k) l n
+pub fitting-none : (l : List ℤ) (n : ℕ) (k : Rule) → Fitting l n k 0
+fitting-none l n k = fit-none (fits k) l n
 
-one-fits : (k : Rule) (z : ℤ) (p : ℕ) (b : Bool) → p ≡ ceiling k → b ≡ ltb (natAbs z) p → b ≡ fits k z
-unfolding fits
-one-fits k z p b e q = q ∙ ap (ltb (natAbs z)) e
+module _ (l : List ℤ) (n : ℕ) (k : Rule) (i : ℕ) (h : i < n) (room : n ≤ length l) (f : Fitting l n k i) (b : Bool) (told : b ≡ fits k (getD l i (pos 0))) where
+  fitting-one : {t : Bool} → b ≡ t → all (fits k) (take n l) ≡ (t && all (fits k) (take (n - (i + 1)) (drop (i + 1) l)))
+  fitting-one q = f ∙ fit-one (fits k) l n i h room ∙ ap (λ (c : Bool). c && all (fits k) (take (n - (i + 1)) (drop (i + 1) l))) (sym told ∙ q)
 
-module _ (l : List ℤ) (n p i : ℕ) (h : i < n) (room : n ≤ length l) (f : Fitting l n p i) (b : Bool) (told : b ≡ ltb (natAbs (getD l i (pos 0))) p) where
-  pub fitting-more : b ≡ true → Fitting l n p (i + 1)
-  fitting-more q k e = f k e ∙ fit-one (fits k) l n i h room ∙ ap (λ (c : Bool). c && all (fits k) (take (n - (i + 1)) (drop (i + 1) l))) (sym (one-fits k _ p b e told) ∙ q)
+  pub fitting-more : b ≡ true → Fitting l n k (i + 1)
+  fitting-more q = fitting-one q
 
-  pub not-fitting : b ≡ false → (k : Rule) → p ≡ ceiling k → false ≡ all (fits k) (take n l)
-  not-fitting q k e = sym (f k e ∙ fit-one (fits k) l n i h room ∙ ap (λ (c : Bool). c && all (fits k) (take (n - (i + 1)) (drop (i + 1) l))) (sym (one-fits k _ p b e told) ∙ q))
+  pub not-fitting : b ≡ false → false ≡ all (fits k) (take n l)
+  not-fitting q = sym (fitting-one q)
 
-pub all-fitting : (l : List ℤ) (n p i : ℕ) → n ≤ i → Fitting l n p i → (k : Rule) → p ≡ ceiling k → true ≡ all (fits k) (take n l)
-all-fitting l n p i h f k e = sym (f k e ∙ fit-all (fits k) l n i h)
+pub all-fitting : (l : List ℤ) (n : ℕ) (k : Rule) (i : ℕ) → n ≤ i → Fitting l n k i → true ≡ all (fits k) (take n l)
+all-fitting l n k i h f = sym (f ∙ fit-all (fits k) l n i h)
+
+-- by another name of the rule
+pub fit-same : (l : List ℤ) {k k′ : Rule} {b : Bool} → b ≡ all (fits k) l → k ≡ k′ → b ≡ all (fits k′) l
+fit-same l e q = e ∙ ap (λ k. all (fits k) l) q
 
 -- ---- 50 and 51
 

@@ -4,25 +4,27 @@ ghost use mathlib.Core.List.{List, _++_};
 ghost use Prim.Native.Nat.{ℕ, _+_, _≤_};
 ghost use lib.ListN.{length, take, drop};
 ghost use lib.IntN.{ℤ};
-ghost use Rattle.number.specs.Number.{Rule, ceiling, fits};
+ghost use Rattle.number.specs.Number.{fits};
+ghost use Rattle.number.specs.Code.{ruled};
 ghost use Rattle.rules_object.specs.Object.{ruleOf};
 ghost use Rattle.rules_shared.specs.Lists.{all};
 ghost use Rattle.rules_object.specs.Calls.{right52, refused50to52};
 ghost use Rattle.object.specs.Layout.{objectAt};
-ghost use Rattle.arithmetic.specs.Performed.{lentOf};
+ghost use Rattle.registers.specs.Registers.{lentOf};
 ghost use Rattle.lent.specs.Lending.{lent, numbered, refusedStore, Cleared};
-use arithmetic::Regs;
 use meeting::Table;
+use number::Rule;
 use object::Layout;
+use registers::Regs;
 
-// The first n are of at most k digits, p being 10 to the k.
-fn fit(numbers: &[i64], n: usize, p: u64) -> bool
+// The first n fit.
+fn fit(numbers: &[i64], n: usize, rule: Rule) -> bool
     requires { ⌜ n ≤ length (now numbers) ⌝ }
-    ensures { λ r. ⌜ ((k : Rule) → p ≡ ceiling k → r ≡ all (fits k) (take n (now (numbers .entry)))) ⌝ }
+    ensures { λ r. ⌜ r ≡ all (fits (ruled rule)) (take n (now (numbers .entry))) ⌝ }
 {
     let mut i: usize = 0;
     while i < n {
-        if !number::fits(numbers[i], p) {
+        if !number::fits(rule, numbers[i]) {
             return false;
         }
         i += 1;
@@ -31,14 +33,14 @@ fn fit(numbers: &[i64], n: usize, p: u64) -> bool
 }
 
 // 50 and 51: the number of the refusal, or 0.
-pub fn store_wrong(e: Layout, p: u64, store: &[i64]) -> u32
-    ensures { λ r. ⌜ ((s : List ℕ) → p ≡ ceiling (ruleOf (objectAt e s)) → numbered r ≡ refusedStore (objectAt e s) (now (store .entry))) ⌝ }
+pub fn store_wrong(e: Layout, rule: Rule, store: &[i64]) -> u32
+    ensures { λ r. ⌜ ((s : List ℕ) → ruled rule ≡ ruleOf (objectAt e s) → numbered r ≡ refusedStore (objectAt e s) (now (store .entry))) ⌝ }
 {
     let n = word::index(e.cells);
     if store.len() < n {
         return 50;
     }
-    if fit(store, n, p) { 0 } else { 51 }
+    if fit(store, n, rule) { 0 } else { 51 }
 }
 
 fn wide(h: u8) -> u32
@@ -50,7 +52,7 @@ fn wide(h: u8) -> u32
 // 52.
 fn state_right(
     e: Layout,
-    p: u64,
+    rule: Rule,
     table: &Table,
     index: u32,
     height: u32,
@@ -58,7 +60,7 @@ fn state_right(
     places: &[i64],
 ) -> bool
     requires { ⌜ (e .«code_count» ≤ 4096) × (length (now places) ≡ 40) ⌝ }
-    ensures { λ r. ⌜ ((s : List ℕ) → p ≡ ceiling (ruleOf (objectAt e s)) → r ≡ right52 (objectAt e s) (take (e .«code_count») (now (table .entry))) (lent index height mark (now (places .entry)))) ⌝ }
+    ensures { λ r. ⌜ ((s : List ℕ) → ruled rule ≡ ruleOf (objectAt e s) → r ≡ right52 (objectAt e s) (take (e .«code_count») (now (table .entry))) (lent index height mark (now (places .entry)))) ⌝ }
 {
     let i = word::index(index);
     if e.code_count <= i {
@@ -71,7 +73,7 @@ fn state_right(
     if height != h {
         return false;
     }
-    if !fit(places, word::index(height), p) {
+    if !fit(places, word::index(height), rule) {
         return false;
     }
     word::index(mark) <= e.code_count
@@ -80,7 +82,7 @@ fn state_right(
 // 50 to 52: the number of the refusal, or 0.
 pub fn lent_wrong(
     e: Layout,
-    p: u64,
+    rule: Rule,
     table: &Table,
     store: &[i64],
     index: u32,
@@ -89,13 +91,13 @@ pub fn lent_wrong(
     places: &[i64],
 ) -> u32
     requires { ⌜ (e .«code_count» ≤ 4096) × (length (now places) ≡ 40) ⌝ }
-    ensures { λ r. ⌜ ((s : List ℕ) → p ≡ ceiling (ruleOf (objectAt e s)) → numbered r ≡ refused50to52 (objectAt e s) (take (e .«code_count») (now (table .entry))) (now (store .entry)) (lent index height mark (now (places .entry)))) ⌝ }
+    ensures { λ r. ⌜ ((s : List ℕ) → ruled rule ≡ ruleOf (objectAt e s) → numbered r ≡ refused50to52 (objectAt e s) (take (e .«code_count») (now (table .entry))) (now (store .entry)) (lent index height mark (now (places .entry)))) ⌝ }
 {
-    let wrong = store_wrong(e, p, store);
+    let wrong = store_wrong(e, rule, store);
     if wrong != 0 {
         return wrong;
     }
-    if state_right(e, p, table, index, height, mark, places) {
+    if state_right(e, rule, table, index, height, mark, places) {
         0
     } else {
         52

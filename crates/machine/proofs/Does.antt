@@ -10,10 +10,10 @@ use lib.ListN.{length, set, take, length-set}
 use lib.Seq.{getD-set-other}
 use lib.IntN.{ℤ, pos, negsuc, natAbs, negℤ, subℕ, _+ℤ_}
 use lib.Signed.{leZ}
-use Rattle.number.specs.Number.{Rule, Op, add, sub, mul, div, Result, value, byZero, ceiling, apply}
-use Rattle.number.proofs.Laws.{ResultFits, apply-fits, neg-fits, ceiling-pos}
+use Rattle.number.specs.Number.{Rule, Op, add, sub, mul, div, Result, value, trouble, apply}
+use Rattle.number.proofs.Laws.{ResultFits, apply-fits, neg-fits}
 use Rattle.rules_shared.specs.Runs.{go, halt}
-use Rattle.rules_object.specs.Halts.{Halt, atStop, atEnd, divideByZero, badSubscript, badExit, badParameter, haltNumber, Out}
+use Rattle.rules_object.specs.Halts.{Halt, atStop, atEnd, badSubscript, badExit, badParameter, haltNumber, Out}
 use Rattle.rules_shared.specs.Choose as choose
 use Rattle.rules_shared.specs.Choose.{sign3, exit, positive, allPositive, again, over, turn, marked}
 use Rattle.rules_object.specs.Object.{Element, Loop}
@@ -22,10 +22,11 @@ use Rattle.rules_object.specs.Machine.{State, cell, top, under, placeOf, act}
 use Rattle.rules_object.proofs.States.{state}
 use Rattle.rules_object.specs.Machine as book
 use Rattle.rules_object.specs.Calls.{taken}
-use Rattle.arithmetic.specs.declared.Regs.{Regs}
-use Rattle.arithmetic.specs.declared.Turn.{Turn}
-use Rattle.arithmetic.specs.declared.Turn.the-variants.{Next, Halt as Halts}
-use Rattle.arithmetic.specs.Performed.{After, next, regs, stopped, pushed, popped, joined, loaded, put, branched, begun, turned, ended, performed, stateOf}
+use Rattle.registers.specs.declared.Regs.{Regs}
+use Rattle.registers.specs.declared.Turn.{Turn}
+use Rattle.registers.specs.declared.Turn.the-variants.{Next, Halt as Halts}
+use Rattle.registers.specs.Registers.{regs, stateOf}
+use Rattle.arithmetic.specs.Performed.{After, next, stopped, pushed, popped, joined, loaded, put, branched, begun, turned, ended, performed}
 use Rattle.subscripts.proofs.Laws.{place-below}
 use Rattle.machine.proofs.Places.{tops, tops-is, tops-other, tops-push, under-tops, top-tops, zero-set, small-set}
 
@@ -118,9 +119,9 @@ past-three h j l a b c =
 
 -- ---- one instruction
 
-module _ (k : Rule) (cells i h m : ℕ) (st so : List ℤ) (s : Sound cells (ceiling k) h st so) where
+module _ (k : Rule) (cells i h m : ℕ) (st so : List ℤ) (s : Sound cells (k .ceiling) h st so) where
   abbrev p : ℕ
-  p = ceiling k
+  p = k .ceiling
 
   abbrev r : Regs
   r = regs i h m
@@ -153,7 +154,7 @@ module _ (k : Rule) (cells i h m : ℕ) (st so : List ℤ) (s : Sound cells (cei
   one-more = omega arith
 
   zero-small : natAbs (pos 0) < p
-  zero-small = ceiling-pos k
+  zero-small = omega (arith, s .stack 0)
 
   -- ---- the places after it
 
@@ -223,8 +224,7 @@ module _ (k : Rule) (cells i h m : ℕ) (st so : List ℤ) (s : Sound cells (cei
   -- ---- two become one
 
   joins-does : 1 < h → (q : Result) → ResultFits k q → Does (joined q r st so) (book.operated q t (under (under S)))
-  unfolding haltNumber
-  joins-does l byZero f = off 3 divideByZero refl
+  joins-does l (trouble w) f = off (haltNumber (book.haltFor w)) (book.haltFor w) refl
   joins-does l (value v lost) f =
       on (i + 1) (h - 1) (marked m lost i) (set (set st (h - 2) v) (h - 1) (pos 0)) so
       (record {

@@ -6,7 +6,7 @@ use Prim.Native.Nat.{ℕ, zero, suc, _+_, _-_, _≤_, _<_}
 use native.Mathlib.Omega.{arith}
 use lib.ListN.{length}
 use lib.IntN.{ℤ}
-use Rattle.number.specs.Number.{ceiling}
+use Rattle.number.specs.declared.Rule.{Rule}
 use Rattle.rules_shared.specs.Runs.{go, halt, then, run, stepsFrom, steps}
 use Rattle.rules_object.specs.Halts.{haltNumber, Out}
 use Rattle.rules_object.specs.Object.{Object, ruleOf}
@@ -17,9 +17,10 @@ use Rattle.rules_shared.specs.Refusals.{accepted}
 use Rattle.rules_object.specs.Safe.{Right, Faultless}
 use Rattle.object.specs.declared.Layout.{Layout}
 use Rattle.object.specs.Layout.{objectAt}
-use Rattle.arithmetic.specs.declared.Regs.{Regs}
-use Rattle.arithmetic.specs.declared.Turn.the-variants.{Next, Halt}
-use Rattle.arithmetic.specs.Performed.{After, performed, stateOf}
+use Rattle.registers.specs.declared.Regs.{Regs}
+use Rattle.registers.specs.declared.Turn.the-variants.{Next, Halt}
+use Rattle.registers.specs.Registers.{stateOf}
+use Rattle.arithmetic.specs.Performed.{After, performed}
 use Rattle.operations.specs.Ready.{Held}
 use Rattle.machine.proofs.Places.{tops-is, length-tops, given-back}
 use Rattle.machine.specs.declared.Ran.{Ran}
@@ -37,14 +38,14 @@ Rights o t = (n : ℕ) (u : State) → run (step o) n t ≡ go u → Right o u
 abbrev pub ranAs : ℕ → ℕ → Regs → Ran
 ranAs h n r = record { halt = h; steps = n; regs = r }
 
-module _ (e : Layout) (s : List ℕ) (p : ℕ) where
+module _ (e : Layout) (s : List ℕ) (k : Rule) where
   abbrev o : Object
   o = objectAt e s
 
   abbrev f : State → Out State
   f = benchStep o
 
-  module _ (r : Regs) (st so : List ℤ) (held : Held e s p r st so) where
+  module _ (r : Regs) (st so : List ℤ) (held : Held e s k r st so) where
     abbrev t : State
     t = stateOf r st so
 
@@ -69,7 +70,7 @@ module _ (e : Layout) (s : List ℕ) (p : ℕ) where
     -- a step as the code does it, and the book's
     module _ (zero-guard : guardOf o (r .index) (r .height) ≡ 0) (a : After) (is : a ≡ performed (ruleOf o) (instruction o (r .index)) r st so) where
       abbrev C : ℕ
-      C = ceiling (ruleOf o)
+      C = ruleOf o .ceiling
 
       bench-step : f t ≡ step o t
       bench-step = guard-none o t (sym guard-at ∙ zero-guard)
@@ -79,18 +80,18 @@ module _ (e : Layout) (s : List ℕ) (p : ℕ) where
       did =
           let i = r .index in
           let w = wordOf o i in
-          let d = performs e s p r st so held _ _ (passes-ready o i (r .height) w _ _ (guard-passes o i (r .height) zero-guard) refl refl refl) in
+          let d = performs e s k r st so held _ _ (passes-ready o i (r .height) w _ _ (guard-passes o i (r .height) zero-guard) refl refl refl) in
           let q = instruction-is o i w _ _ refl refl refl in
           subst (λ b. DidAll (e .cells) C st so t b (step o t)) (sym is)
           (subst (λ n. DidAll (e .cells) C st so t (performed (ruleOf o) n r st so) (act (ruleOf o) n t)) q d)
 
       module _ (q : Regs) (goes : a .turn ≡ Next q) where
         on : (b : Out State) → step o t ≡ b → Did (e .cells) C st so t (Next q) (a .places) (a .store) b
-            → (Held e s p q (a .places) (a .store) × (length (a .store) ≡ length so)) × (step o t ≡ go (stateOf q (a .places) (a .store)))
-        on (go u) x d = ((sound-held e s p r st so held q (a .places) (a .store) (d .0 .0), d .0 .1), x ∙ ap go (sym (d .1)))
+            → (Held e s k q (a .places) (a .store) × (length (a .store) ≡ length so)) × (step o t ≡ go (stateOf q (a .places) (a .store)))
+        on (go u) x d = ((sound-held e s k r st so held q (a .places) (a .store) (d .0 .0), d .0 .1), x ∙ ap go (sym (d .1)))
         on (halt h u) x d = absurd d
 
-        pub goes-on : (Held e s p q (a .places) (a .store) × (length (a .store) ≡ length so)) × (step o t ≡ go (stateOf q (a .places) (a .store)))
+        pub goes-on : (Held e s k q (a .places) (a .store) × (length (a .store) ≡ length so)) × (step o t ≡ go (stateOf q (a .places) (a .store)))
         goes-on = on (step o t) refl (subst (λ y. Did (e .cells) C st so t y (a .places) (a .store) (step o t)) goes did)
 
         pub bench-goes : f t ≡ go (stateOf q (a .places) (a .store))
@@ -112,15 +113,15 @@ module _ (e : Layout) (s : List ℕ) (p : ℕ) where
 
 -- ---- the loop's invariant
 
-pub record Going (guarded : Bool) (e : Layout) (s : List ℕ) (p allowance : ℕ) (start : Regs) (st₀ so₀ : List ℤ) (r : Regs) (st so : List ℤ) (i : ℕ) : Type 0 where
+pub record Going (guarded : Bool) (e : Layout) (s : List ℕ) (k : Rule) (allowance : ℕ) (start : Regs) (st₀ so₀ : List ℤ) (r : Regs) (st so : List ℤ) (i : ℕ) : Type 0 where
   pub most : i ≤ allowance
-  pub held : Held e s p r st so
+  pub held : Held e s k r st so
   pub rights : guarded ≡ false → Rights (objectAt e s) (stateOf r st so)
   pub long : length so ≡ length so₀
   pub left : run (benchStep (objectAt e s)) allowance (stateOf start st₀ so₀) ≡ run (benchStep (objectAt e s)) (allowance - i) (stateOf r st so)
   pub count : steps (benchStep (objectAt e s)) allowance (stateOf start st₀ so₀) ≡ i + steps (benchStep (objectAt e s)) (allowance - i) (stateOf r st so)
 
-module _ (guarded : Bool) (e : Layout) (s : List ℕ) (p allowance : ℕ) (start : Regs) (st₀ so₀ : List ℤ) where
+module _ (guarded : Bool) (e : Layout) (s : List ℕ) (k : Rule) (allowance : ℕ) (start : Regs) (st₀ so₀ : List ℤ) where
   abbrev O : Object
   O = objectAt e s
 
@@ -130,13 +131,13 @@ module _ (guarded : Bool) (e : Layout) (s : List ℕ) (p allowance : ℕ) (start
   abbrev t₀ : State
   t₀ = stateOf start st₀ so₀
 
-  pub begins : Held e s p start st₀ so₀ → (guarded ≡ false → Faultless O t₀) → Going guarded e s p allowance start st₀ so₀ start st₀ so₀ 0
+  pub begins : Held e s k start st₀ so₀ → (guarded ≡ false → Faultless O t₀) → Going guarded e s k allowance start st₀ so₀ start st₀ so₀ 0
   begins h w =
       let n : allowance ≡ allowance - 0 = omega arith in
       let m : steps F allowance t₀ ≡ 0 + steps F allowance t₀ = omega arith in
       record { most = omega arith; held = h; rights = λ q. w q .right; long = refl; left = ap (λ k. run F k t₀) n; count = m ∙ ap (λ k. 0 + steps F k t₀) n }
 
-  module _ (r : Regs) (st so : List ℤ) (i : ℕ) (g : Going guarded e s p allowance start st₀ so₀ r st so i) where
+  module _ (r : Regs) (st so : List ℤ) (i : ℕ) (g : Going guarded e s k allowance start st₀ so₀ r st so i) where
     abbrev u : State
     u = stateOf r st so
 
@@ -145,7 +146,7 @@ module _ (guarded : Bool) (e : Layout) (s : List ℕ) (p allowance : ℕ) (start
     used l =
         let n : allowance - i ≡ 0 = omega arith in
         let m : i ≡ i + steps F 0 u = omega arith in
-        answer-is e s p r st so (g .held) 2 i
+        answer-is e s k r st so (g .held) 2 i
         ∙ ap₂ (λ k b. ran O k b) (m ∙ ap (λ k. i + steps F k u) (sym n) ∙ sym (g .count)) (ap (λ k. run F k u) (sym n) ∙ sym (g .left))
 
     module _ (l : i < allowance) where
@@ -158,31 +159,31 @@ module _ (guarded : Bool) (e : Layout) (s : List ℕ) (p allowance : ℕ) (start
           let d : i + 1 ≡ i + suc zero = omega arith in
           let count : i + 1 ≡ steps F allowance t₀ = d ∙ ap (λ y. i + suc (stepsFrom y (λ v. steps F (allowance - (i + 1)) v))) (sym b) ∙ ap (λ k. i + steps F k u) one ∙ sym (g .count) in
           let left : halt x u ≡ run F allowance t₀ = ap (λ y. then y (λ v. run F (allowance - (i + 1)) v)) (sym b) ∙ ap (λ k. run F k u) one ∙ sym (g .left) in
-          answer-is e s p r st so (g .held) n (i + 1) ∙ ap (λ k. halted k (i + 1) O u) q ∙ ap₂ (λ k b. ran O k b) count left
+          answer-is e s k r st so (g .held) n (i + 1) ∙ ap (λ k. halted k (i + 1) O u) q ∙ ap₂ (λ k b. ran O k b) count left
 
       pub guard-ends : (n : ℕ) → n ≡ guardOf O (r .index) (r .height) → (n ≡ 0 → ⊥) → answer O (ranAs n (i + 1) r) st so ≡ runFrom O F allowance t₀
-      guard-ends n a b = let x = guard-stops O u n (a ∙ guard-at e s p r st so (g .held)) b in ends (x .0) n (x .1 .0) (x .1 .1)
+      guard-ends n a b = let x = guard-stops O u n (a ∙ guard-at e s k r st so (g .held)) b in ends (x .0) n (x .1 .0) (x .1 .1)
 
       module _ (z : guardOf O (r .index) (r .height) ≡ 0) (a : After) (is : a ≡ performed (ruleOf O) (instruction O (r .index)) r st so) where
-        pub goes : (q : Regs) → a .turn ≡ Next q → Going guarded e s p allowance start st₀ so₀ q (a .places) (a .store) (i + 1)
+        pub goes : (q : Regs) → a .turn ≡ Next q → Going guarded e s k allowance start st₀ so₀ q (a .places) (a .store) (i + 1)
         goes q b =
-            let x = goes-on e s p r st so (g .held) z a is q b in
-            let y = bench-goes e s p r st so (g .held) z a is q b in
+            let x = goes-on e s k r st so (g .held) z a is q b in
+            let y = bench-goes e s k r st so (g .held) z a is q b in
             let v = stateOf q (a .places) (a .store) in
-            let k = allowance - (i + 1) in
-            let m : i + suc (steps F k v) ≡ i + 1 + steps F k v = omega arith in
+            let rest = allowance - (i + 1) in
+            let m : i + suc (steps F rest v) ≡ i + 1 + steps F rest v = omega arith in
             record {
               most = omega arith;
               held = x .0 .0;
-              rights = λ w. rights-on e s p r st so (g .held) z a is q b (g .rights w);
+              rights = λ w. rights-on e s k r st so (g .held) z a is q b (g .rights w);
               long = x .0 .1 ∙ g .long;
-              left = g .left ∙ ap (λ j. run F j u) (sym one) ∙ ap (λ c. then c (λ w. run F k w)) y;
-              count = g .count ∙ ap (λ j. i + steps F j u) (sym one) ∙ ap (λ c. i + suc (stepsFrom c (λ w. steps F k w))) y ∙ m;
+              left = g .left ∙ ap (λ j. run F j u) (sym one) ∙ ap (λ c. then c (λ w. run F rest w)) y;
+              count = g .count ∙ ap (λ j. i + steps F j u) (sym one) ∙ ap (λ c. i + suc (stepsFrom c (λ w. steps F rest w))) y ∙ m;
             }
 
         pub stops : (n : ℕ) → a .turn ≡ Halt n → answer O (ranAs n (i + 1) r) (a .places) (a .store) ≡ runFrom O F allowance t₀
         stops n b =
-            let x = stops-there e s p r st so (g .held) z a is n b in
+            let x = stops-there e s k r st so (g .held) z a is n b in
             ap₂ (answer O (ranAs n (i + 1) r)) (x .0 .0) (x .0 .1) ∙ ends (x .1 .0) n (x .1 .1 .0) (x .1 .1 .1)
 
 -- ---- a run of an object that passes is its bench run

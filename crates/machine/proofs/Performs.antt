@@ -1,6 +1,6 @@
 -- An instruction that is ready is done as the book says: what the code holds, and what the law asks.
 -- Assumes nothing.
-use mathlib.Core.Path.{_≡_, sym, subst}
+use mathlib.Core.Path.{_≡_, sym, ap, subst}
 use mathlib.Core.Bool.{true}
 use mathlib.Core.List.{List}
 use Prim.Native.Nat.{ℕ, zero, suc, _+_, _*_, _≤_, _<_}
@@ -8,7 +8,8 @@ use lib.Dec.{ltb, leb}
 use lib.ListN.{getD}
 use lib.IntN.{ℤ, pos, natAbs}
 use borrow.Author.Tests.{ltb-true, leb-true}
-use Rattle.number.specs.Number.{ceiling}
+use Rattle.number.specs.declared.Rule.{Rule}
+use Rattle.number.specs.Number as numbers
 use Rattle.number.proofs.Laws.{fits-yes}
 use Rattle.rules_shared.specs.Choose as choose
 use Rattle.rules_object.specs.Object.{Element, Loop, Object, ruleOf}
@@ -18,11 +19,12 @@ use Rattle.rules_object.specs.Machine.{cell, act}
 use Rattle.rules_object.specs.Machine as book
 use Rattle.object.specs.declared.Layout.{Layout}
 use Rattle.object.specs.Layout.{objectAt}
-use Rattle.arithmetic.specs.declared.Regs.{Regs}
-use Rattle.arithmetic.specs.Performed.{performed, stateOf}
+use Rattle.registers.specs.declared.Regs.{Regs}
+use Rattle.registers.specs.Registers.{stateOf}
+use Rattle.arithmetic.specs.Performed.{performed}
 use Rattle.operations.specs.Ready.{Held, Ready}
 use Rattle.subscripts.proofs.Laws.{apart}
-use Rattle.operations.proofs.Known.{both, is-ceiling}
+use Rattle.operations.proofs.Known.{both}
 use Rattle.machine.proofs.Does.{Sound, DidAll, Good, does}
 
 -- ---- an instruction that is ready is right
@@ -31,7 +33,7 @@ module _ (e : Layout) (s : List ℕ) where
   abbrev o : Object
   o = objectAt e s
 
-  good-constant : (c : ℕ) → rightConstant o c ≡ true → c < ceiling (ruleOf o)
+  good-constant : (c : ℕ) → rightConstant o c ≡ true → c < ruleOf o .ceiling
   unfolding rightConstant
   good-constant c q = fits-yes (ruleOf o) (pos c) q
 
@@ -50,7 +52,7 @@ module _ (e : Layout) (s : List ℕ) where
       let q₃ = both (ltb (d .step) (o .cells)) _ (q₂ .1) in
       (ltb-true _ _ (q₁ .0), (ltb-true _ _ (q₂ .0), ltb-true _ _ (q₃ .0)))
 
-  good : (op x : ℕ) → operationAt op .operandRight o x ≡ true → operationAt op .entryRight o x ≡ true → Good (o .cells) (ceiling (ruleOf o)) (meant o op x)
+  good : (op x : ℕ) → operationAt op .operandRight o x ≡ true → operationAt op .entryRight o x ≡ true → Good (o .cells) (ruleOf o .ceiling) (meant o op x)
   good zero x a b = leb-true x 1 a
   good (suc zero) x a b = good-constant (getD (o .constants) x 0) b
   good (suc (suc zero)) x a b = ltb-true x (o .cells) a
@@ -71,10 +73,10 @@ module _ (e : Layout) (s : List ℕ) where
 
 -- ---- the code's record of a state, and the law's
 
-module _ (e : Layout) (s : List ℕ) (p : ℕ) (r : Regs) (st so : List ℤ) (h : Held e s p r st so) where
-  pub held-sound : Sound (e .cells) (ceiling (ruleOf (objectAt e s))) (r .height) st so
+module _ (e : Layout) (s : List ℕ) (k : Rule) (r : Regs) (st so : List ℤ) (h : Held e s k r st so) where
+  pub held-sound : Sound (e .cells) (ruleOf (objectAt e s) .ceiling) (r .height) st so
   held-sound =
-      let c = is-ceiling e s p r st so h in
+      let c = ap (λ (q : numbers.Rule). q .ceiling) (h .rule) in
       record {
         low = h .low;
         forty = h .forty;
@@ -84,13 +86,13 @@ module _ (e : Layout) (s : List ℕ) (p : ℕ) (r : Regs) (st so : List ℤ) (h 
         store = λ a l. subst (λ n. natAbs (cell so a) < n) c (h .store a l);
       }
 
-  pub sound-held : (q : Regs) (st′ so′ : List ℤ) → Sound (e .cells) (ceiling (ruleOf (objectAt e s))) (q .height) st′ so′ → Held e s p q st′ so′
+  pub sound-held : (q : Regs) (st′ so′ : List ℤ) → Sound (e .cells) (ruleOf (objectAt e s) .ceiling) (q .height) st′ so′ → Held e s k q st′ so′
   sound-held q st′ so′ y =
-      let c = is-ceiling e s p r st so h in
+      let c = ap (λ (q : numbers.Rule). q .ceiling) (h .rule) in
       record {
         placed = h .placed;
         right = h .right;
-        power = h .power;
+        rule = h .rule;
         low = y .low;
         forty = y .forty;
         clean = y .clean;
@@ -101,7 +103,7 @@ module _ (e : Layout) (s : List ℕ) (p : ℕ) (r : Regs) (st so : List ℤ) (h 
 
   -- the operation as the code does it and as the book says it
   pub performs : (op x : ℕ) → Ready (objectAt e s) op x (r .height)
-      → DidAll (e .cells) (ceiling (ruleOf (objectAt e s))) st so (stateOf r st so) (performed (ruleOf (objectAt e s)) (meant (objectAt e s) op x) r st so)
+      → DidAll (e .cells) (ruleOf (objectAt e s) .ceiling) st so (stateOf r st so) (performed (ruleOf (objectAt e s)) (meant (objectAt e s) op x) r st so)
       (act (ruleOf (objectAt e s)) (meant (objectAt e s) op x) (stateOf r st so))
   unfolding objectAt
   performs op x y =

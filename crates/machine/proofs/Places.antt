@@ -8,7 +8,7 @@ use lib.Seq.{take-suc, getD-set-same, getD-set-other, getD-drop, ext-getD}
 use lib.IntN.{ℤ, pos, natAbs}
 use Rattle.rules_object.specs.Machine.{cell, top, under}
 use Rattle.rules_object.specs.Calls.{taken, given}
-use Rattle.arithmetic.specs.Performed.{regs, lentOf, stateOf}
+use Rattle.registers.specs.Registers.{regs, lentOf, stateOf}
 
 -- the h lowest places, the highest of them first
 abbrev pub tops : ℕ → List ℤ → List ℤ

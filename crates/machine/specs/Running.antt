@@ -6,7 +6,7 @@ use Rattle.rules_object.specs.Object.{Object}
 use Rattle.rules_shared.specs.Refusals.{accepted}
 use Rattle.rules_object.specs.Calls.{sequenceOf}
 use Rattle.rules_object.specs.Calls as book
-use Rattle.arithmetic.specs.Performed.{lentOf}
+use Rattle.registers.specs.Registers.{lentOf}
 use Rattle.machine.specs.declared.Ran.{Ran}
 
 -- what the code answers, with the places and the store that it leaves

@@ -8,14 +8,16 @@ ghost use Rattle.rules_object.specs.Machine as book;
 ghost use Rattle.rules_object.specs.Calls.{runFrom, sequenceOf};
 ghost use Rattle.rules_object.specs.Safe.{Faultless};
 ghost use Rattle.object.specs.Layout.{objectAt, Placed};
-ghost use Rattle.arithmetic.specs.Performed.{after, performed, stateOf};
+ghost use Rattle.registers.specs.Registers.{stateOf};
+ghost use Rattle.arithmetic.specs.Performed.{after, performed};
 ghost use Rattle.operations.specs.Ready.{Held};
 ghost use Rattle.guards.specs.Guarding.{guardOf, Sees};
 ghost use Rattle.machine.specs.Running.{answer};
-use arithmetic::Regs;
-use arithmetic::Turn;
 use guards::Seen;
+use number::Rule;
 use object::Layout;
+use registers::Regs;
+use registers::Turn;
 
 pub struct Ran {
     pub halt: u32,
@@ -24,15 +26,15 @@ pub struct Ran {
 }
 
 // One instruction, where the guard finds nothing wrong.
-fn step(o: &[u8], e: Layout, p: u64, r: Regs, stack: &mut [i64; 40], store: &mut [i64]) -> Turn
-    requires { ⌜ Held e (now o) p r (now stack) (now store) ⌝ }
+fn step(o: &[u8], e: Layout, rule: Rule, r: Regs, stack: &mut [i64; 40], store: &mut [i64]) -> Turn
+    requires { ⌜ Held e (now o) rule r (now stack) (now store) ⌝ }
     requires { ⌜ guardOf (objectAt e (now o)) (r .index) (r .height) ≡ 0 ⌝ }
     ensures { λ t. ⌜ after t (now (stack .exit)) (now (store .exit)) ≡ performed (ruleOf (objectAt e (now (o .entry)))) (instruction (objectAt e (now (o .entry))) (r .index)) r (now (stack .entry)) (now (store .entry)) ⌝ }
 {
     let index = r.index;
     let w = word::load(o, e.code + 4 * index);
     let x = word::index(word::operand(w));
-    operations::perform(word::operation(w), x, o, e, p, r, stack, store)
+    operations::perform(word::operation(w), x, o, e, rule, r, stack, store)
 }
 
 // The one loop. Only one call of `step` keeps it inlined.
@@ -40,14 +42,14 @@ fn turns(
     guarded: bool,
     o: &[u8],
     e: Layout,
-    p: u64,
+    rule: Rule,
     start: Regs,
     stack: &mut [i64; 40],
     store: &mut [i64],
     allowance: u32,
     seen: &mut Seen,
 ) -> Ran
-    requires { ⌜ Held e (now o) p start (now stack) (now store) ⌝ }
+    requires { ⌜ Held e (now o) rule start (now stack) (now store) ⌝ }
     requires { ⌜ (guarded ≡ false → Faultless (objectAt e (now o)) (stateOf start (now stack) (now store))) ⌝ }
     requires { ⌜ Sees (objectAt e (now o)) (now seen) ⌝ }
     ensures { λ q. ⌜ answer (objectAt e (now (o .entry))) q (now (stack .exit)) (now (store .exit)) ≡ runFrom (objectAt e (now (o .entry))) (benchStep (objectAt e (now (o .entry)))) allowance (stateOf start (now (stack .entry)) (now (store .entry))) ⌝ }
@@ -55,7 +57,7 @@ fn turns(
     let mut r = start;
     let mut steps: u32 = 0;
     while steps < allowance {
-        let g = guards::test(guarded, o, e, p, r, seen);
+        let g = guards::test(guarded, o, e, rule, r, seen);
         steps = steps + 1;
         if g != 0 {
             return Ran {
@@ -64,7 +66,7 @@ fn turns(
                 regs: r,
             };
         }
-        let t = step(o, e, p, r, stack, store);
+        let t = step(o, e, rule, r, stack, store);
         match t {
             Turn::Next(q) => {
                 r = q;
@@ -89,35 +91,35 @@ fn turns(
 pub fn run(
     o: &[u8],
     e: Layout,
-    p: u64,
+    rule: Rule,
     start: Regs,
     stack: &mut [i64; 40],
     store: &mut [i64],
     allowance: u32,
 ) -> Ran
-    requires { ⌜ Held e (now o) p start (now stack) (now store) ⌝ }
+    requires { ⌜ Held e (now o) rule start (now stack) (now store) ⌝ }
     requires { ⌜ Faultless (objectAt e (now o)) (stateOf start (now stack) (now store)) ⌝ }
     ensures { λ q. ⌜ answer (objectAt e (now (o .entry))) q (now (stack .exit)) (now (store .exit)) ≡ runFrom (objectAt e (now (o .entry))) (book.step (objectAt e (now (o .entry)))) allowance (stateOf start (now (stack .entry)) (now (store .entry))) ⌝ }
 {
     let mut seen = [0u8; 4096];
-    turns(false, o, e, p, start, stack, store, allowance, &mut seen)
+    turns(false, o, e, rule, start, stack, store, allowance, &mut seen)
 }
 
 // The bench run of any object that has its bodies and keeps the limits.
 pub fn bench(
     o: &[u8],
     e: Layout,
-    p: u64,
+    rule: Rule,
     start: Regs,
     stack: &mut [i64; 40],
     store: &mut [i64],
     allowance: u32,
 ) -> Ran
-    requires { ⌜ Held e (now o) p start (now stack) (now store) ⌝ }
+    requires { ⌜ Held e (now o) rule start (now stack) (now store) ⌝ }
     ensures { λ q. ⌜ answer (objectAt e (now (o .entry))) q (now (stack .exit)) (now (store .exit)) ≡ runFrom (objectAt e (now (o .entry))) (benchStep (objectAt e (now (o .entry)))) allowance (stateOf start (now (stack .entry)) (now (store .entry))) ⌝ }
 {
     let mut seen = [0u8; 4096];
-    turns(true, o, e, p, start, stack, store, allowance, &mut seen)
+    turns(true, o, e, rule, start, stack, store, allowance, &mut seen)
 }
 
 // The sequence number of the last statement at or before the instruction that the mark names.

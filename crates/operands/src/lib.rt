@@ -3,7 +3,7 @@ ghost use mathlib.Core.Path.{_≡_};
 ghost use mathlib.Core.Bool.{true};
 ghost use Prim.Native.Nat.{_+_, _^_, _≤_, _<_};
 ghost use lib.ListN.{take, drop};
-ghost use Rattle.number.specs.Number.{ceiling};
+ghost use Rattle.number.specs.Code.{ruled};
 ghost use Rattle.rules_object.specs.Object.{ruleOf};
 ghost use Rattle.rules_object.specs.Operations.{targets, right43, entryRight, operationAt};
 ghost use Rattle.rules_object.specs.Calls.{refused43};
@@ -11,6 +11,7 @@ ghost use Rattle.object.specs.Layout.{Placed, objectAt};
 ghost use Rattle.judge.specs.Judge.{refusalOf};
 ghost use Rattle.operands.specs.Operands.{operandRight, entryRightAt};
 use judge::Found;
+use number::Rule;
 use object::Layout;
 
 // Exits of a BRC.
@@ -109,15 +110,15 @@ pub fn word_right(o: &[u8], e: Layout, w: u32) -> bool
 }
 
 // The entry that an instruction uses.
-fn used_right(o: &[u8], e: Layout, p: u64, operation: u32, x: usize) -> bool
-    requires { ⌜ p ≡ ceiling (ruleOf (objectAt e (now o))) ⌝ }
+fn used_right(o: &[u8], e: Layout, rule: Rule, operation: u32, x: usize) -> bool
+    requires { ⌜ ruled rule ≡ ruleOf (objectAt e (now o)) ⌝ }
     requires { ⌜ Placed e (now o) × (operandRight (objectAt e (now o)) operation x ≡ true) ⌝ }
     ensures { λ r. ⌜ r ≡ entryRightAt (objectAt e (now (o .entry))) operation x ⌝ }
 {
     match operation {
-        opcodes::CON => judge::constant_right(o, e, p, x),
-        opcodes::LDE => judge::element_right(o, e, p, x),
-        opcodes::STE => judge::element_right(o, e, p, x),
+        opcodes::CON => judge::constant_right(o, e, rule, x),
+        opcodes::LDE => judge::element_right(o, e, rule, x),
+        opcodes::STE => judge::element_right(o, e, rule, x),
         opcodes::DOI => judge::loop_right(o, e, x),
         opcodes::DOE => judge::loop_right(o, e, x),
         _ => true,
@@ -125,12 +126,18 @@ fn used_right(o: &[u8], e: Layout, p: u64, operation: u32, x: usize) -> bool
 }
 
 // 42 of the entry that the word uses. The word passes 43, so there is one.
-pub fn entry_right(o: &[u8], e: Layout, p: u64, w: u32) -> bool
-    requires { ⌜ p ≡ ceiling (ruleOf (objectAt e (now o))) ⌝ }
+pub fn entry_right(o: &[u8], e: Layout, rule: Rule, w: u32) -> bool
+    requires { ⌜ ruled rule ≡ ruleOf (objectAt e (now o)) ⌝ }
     requires { ⌜ Placed e (now o) × (right43 (objectAt e (now o)) w ≡ true) ⌝ }
     ensures { λ r. ⌜ r ≡ entryRight (objectAt e (now (o .entry))) w ⌝ }
 {
-    used_right(o, e, p, word::operation(w), word::index(word::operand(w)))
+    used_right(
+        o,
+        e,
+        rule,
+        word::operation(w),
+        word::index(word::operand(w)),
+    )
 }
 
 // The first instruction that fails.

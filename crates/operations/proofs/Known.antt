@@ -9,9 +9,10 @@ use lib.Dec.{ltb, leb}
 use lib.ListN.{length, getD, getElem?, take, drop}
 use lib.IntN.{ℤ, pos, negsuc, natAbs}
 use borrow.Author.Tests.{ltb-true, ltb-false, leb-true}
-use Rattle.number.specs.Number.{Rule, ceiling}
-use Rattle.number.specs.Code.{Both}
-use Rattle.number.proofs.Laws.{ceiling-pos, ceiling-most, fits-yes}
+use Rattle.number.specs.declared.Rule.{Rule}
+use Rattle.number.specs.Number.{fits}
+use Rattle.number.specs.Code.{ruled, Narrow, Both}
+use Rattle.number.proofs.Laws.{digits-narrow, fits-below, fits-yes}
 use Rattle.rules_shared.specs.Choose.{sign3, exit}
 use Rattle.rules_object.specs.Object.{Object, ruleOf}
 use Rattle.rules_object.specs.Check.{right41, rightConstant, rightSubscript, rightElement, rightLoop}
@@ -21,7 +22,7 @@ use Rattle.rules_object.specs.Bytes.{signedOf}
 use Rattle.word.specs.Word.{wordAt}
 use Rattle.object.specs.declared.Layout.{Layout}
 use Rattle.object.specs.Layout.{listFrom, elementAt, loopAt, objectAt}
-use Rattle.arithmetic.specs.declared.Regs.{Regs}
+use Rattle.registers.specs.declared.Regs.{Regs}
 use Rattle.subscripts.specs.Elements.{Cell, SubscriptIn, ElementIn}
 use Rattle.operations.specs.Ready.{LoopIn, exitIf, chosen, signOf, Held, Ready}
 use Rattle.subscripts.proofs.Laws.{apart}
@@ -66,15 +67,14 @@ nth-gone (v ∷ l) (suc k) (suc n) a = nth-gone l k n (omega arith)
 
 -- ---- the limits
 
-pub record Bounds (e : Layout) (p : ℕ) : Type 0 where
-  pub some : 0 < p
-  pub most : p ≤ 1000000000
+pub record Bounds (e : Layout) (k : Rule) : Type 0 where
+  pub narrow : Narrow (ruled k)
   pub cells : e .cells ≤ 4096
   pub code : e .«code_count» ≤ 4096
 
-pub bounds : (e : Layout) (s : List ℕ) (p : ℕ) → right41 (objectAt e s) ≡ true → p ≡ 10 ^ e .digits → Bounds e p
-unfolding right41 objectAt ceiling
-bounds e s p r q =
+pub bounds : (e : Layout) (s : List ℕ) (k : Rule) → right41 (objectAt e s) ≡ true → ruled k ≡ ruleOf (objectAt e s) → Bounds e k
+unfolding right41 objectAt
+bounds e s k r q =
     let o = objectAt e s in
     let r₁ = both (leb 1 (e .digits)) _ r in
     let r₂ = both (leb (e .digits) 9) _ (r₁ .1) in
@@ -85,30 +85,28 @@ bounds e s p r q =
     let r₇ = both (leb (length (o .dos)) 64) _ (r₆ .1) in
     let r₈ = both (leb (length (o .code)) 4096) _ (r₇ .1) in
     let n = leb-true (length (o .code)) 4096 (r₈ .0) in
-    let k : Rule = record { digits = e .digits } in
     record {
-      some = omega (arith, ceiling-pos k, q);
-      most = omega (arith, ceiling-most k (leb-true (e .digits) 9 (r₂ .0)), q);
+      narrow = subst Narrow (sym q) (digits-narrow (e .digits) (leb-true (e .digits) 9 (r₂ .0)));
       cells = leb-true (e .cells) 4096 (r₃ .0);
       code = omega (arith, length-from (e .«code_count») 0 (λ i. wordAt s (e .code + 4 * i)));
     }
 
-module _ (e : Layout) (s : List ℕ) (p : ℕ) (r : Regs) (st so : List ℤ) (h : Held e s p r st so) where
-  pub held-bounds : Bounds e p
-  held-bounds = bounds e s p (h .right) (h .power)
+module _ (e : Layout) (s : List ℕ) (k : Rule) (r : Regs) (st so : List ℤ) (h : Held e s k r st so) where
+  pub held-bounds : Bounds e k
+  held-bounds = bounds e s k (h .right) (h .rule)
 
-  pub is-ceiling : p ≡ ceiling (ruleOf (objectAt e s))
-  unfolding ceiling objectAt
-  is-ceiling = h .power
+  -- what fits the object's rule
+  fits-here : (z : ℤ) → fits (ruleOf (objectAt e s)) z ≡ true → natAbs z < 2 ^ 31
+  fits-here z t = fits-below (ruled k) (held-bounds .narrow) z (fits-yes (ruled k) z (ap (λ q. fits q z) (h .rule) ∙ t))
 
   pub cell-in : (a : ℕ) → a < e .cells → Cell so a
-  cell-in a l = let b = held-bounds in record { inside = omega (arith, h .long); small = omega (arith, h .store a l, b .most) }
+  cell-in a l = let b = held-bounds in record { inside = omega (arith, h .long); small = fits-below (ruled k) (b .narrow) (cell so a) (h .store a l) }
 
-  pub two : Both p (cell st (r .height - 2)) (cell st (r .height - 1))
-  two = let b = held-bounds in record { some = b .some; most = b .most; left = h .stack (r .height - 2); right = h .stack (r .height - 1) }
+  pub two : Both (ruled k) (cell st (r .height - 2)) (cell st (r .height - 1))
+  two = record { narrow = held-bounds .narrow; left = h .stack (r .height - 2); right = h .stack (r .height - 1) }
 
-  pub small : (i : ℕ) → natAbs (cell st i) < 1000000000
-  small i = let b = held-bounds in omega (arith, h .stack i, b .most)
+  pub small : (i : ℕ) → natAbs (cell st i) < 2 ^ 31
+  small i = fits-below (ruled k) (held-bounds .narrow) (cell st i) (h .stack i)
 
   module _ (x : ℕ) where
     -- ---- CON
@@ -123,12 +121,9 @@ module _ (e : Layout) (s : List ℕ) (p : ℕ) (r : Regs) (st so : List ℤ) (h 
     pub con-whole : x < e .«constant_count» → e .constants + 4 * x + 4 ≤ length s
     con-whole l = let q = h .placed in omega (arith, q .elements, q .exits, q .dos, q .code, q .lines, q .names, q .whole)
 
-    pub con-small : Ready (objectAt e s) 1 x (r .height) → wordAt s (e .constants + 4 * x) < 1000000000
+    pub con-small : Ready (objectAt e s) 1 x (r .height) → wordAt s (e .constants + 4 * x) < 2 ^ 31
     unfolding rightConstant
-    con-small y =
-        let f = fits-yes (ruleOf (objectAt e s)) (pos (getD (objectAt e s .constants) x 0)) (y .entry) in
-        let b = held-bounds in
-        omega (arith, con-is (con-in y), is-ceiling, b .most)
+    con-small y = omega (arith, con-is (con-in y), fits-here (pos (getD (objectAt e s .constants) x 0)) (y .entry))
 
     -- ---- LOD and STO
     pub lod-in : Ready (objectAt e s) 2 x (r .height) → x < length so
@@ -169,16 +164,13 @@ module _ (e : Layout) (s : List ℕ) (p : ℕ) (r : Regs) (st so : List ℤ) (h 
         part : (c d f : ℕ) → c + 12 ≤ length s → c + 4 ≡ d → c + 8 ≡ f
             → rightSubscript (objectAt e s) (record { times = wordAt s c; cell = wordAt s d; plus = signedOf (wordAt s f) }) ≡ true → SubscriptIn s c so
         part c d f w p₁ p₂ t =
-            let b = held-bounds in
             let t₁ = both _ _ t in
             let t₂ = both _ _ (t₁ .1) in
-            let a = fits-yes (ruleOf (objectAt e s)) (pos (wordAt s c)) (t₁ .0) in
-            let z = fits-yes (ruleOf (objectAt e s)) (signedOf (wordAt s f)) (t₂ .0) in
             record {
               whole = w;
-              times = omega (arith, a, is-ceiling, b .most);
+              times = fits-here (pos (wordAt s c)) (t₁ .0);
               at = subst (λ n. Cell so (wordAt s n)) (sym p₁) (cell-in (wordAt s d) (ltb-true (wordAt s d) (e .cells) (t₂ .1)));
-              plus = subst (λ n. natAbs (signedOf (wordAt s n)) < 1000000000) (sym p₂) (omega (arith, z, is-ceiling, b .most));
+              plus = subst (λ n. natAbs (signedOf (wordAt s n)) < 2 ^ 31) (sym p₂) (fits-here (signedOf (wordAt s f)) (t₂ .0));
             }
 
     below-elements : ltb x (length (objectAt e s .elements)) ≡ true → x < e .«element_count»

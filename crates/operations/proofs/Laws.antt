@@ -3,7 +3,7 @@ use mathlib.Core.Path.{_≡_, refl, sym, ap, ap₂, _∙_, subst}
 use mathlib.Core.Bool.{true, false, cond}
 use mathlib.Core.List.{List}
 use mathlib.Core.Option.{none, some}
-use Prim.Native.Nat.{ℕ, zero, suc, _+_, _*_, _≤_, _<_}
+use Prim.Native.Nat.{ℕ, zero, suc, _+_, _*_, _^_, _≤_, _<_}
 use native.Mathlib.Omega.{arith}
 use lib.ListN.{set}
 use lib.IntN.{ℤ, pos, negsuc, natAbs, _+ℤ_}
@@ -17,8 +17,9 @@ use Rattle.rules_object.specs.Machine.{cell}
 use Rattle.word.specs.Word.{wordAt}
 use Rattle.object.specs.Layout.{loopAt}
 use Rattle.subscripts.proofs.Laws.{apart}
-use Rattle.arithmetic.specs.declared.Regs.{Regs}
-use Rattle.arithmetic.specs.Performed.{next, regs, stopped, turned, ended}
+use Rattle.registers.specs.declared.Regs.{Regs}
+use Rattle.registers.specs.Registers.{goingTo, onward}
+use Rattle.arithmetic.specs.Performed.{next, stopped, turned, ended}
 use Rattle.operations.specs.Ready.{LoopIn, exitIf, chosen, signOf}
 
 -- ---- signs
@@ -63,7 +64,7 @@ module _ (s : List ℕ) (b n : ℕ) where
 
 -- ---- a turn of a DO
 
-module _ (v l s : ℤ) (hv : natAbs v < 1000000000) (hs : natAbs s < 1000000000) (hl : natAbs l < 1000000000) where
+module _ (v l s : ℤ) (hv : natAbs v < 2 ^ 31) (hs : natAbs s < 2 ^ 31) (hl : natAbs l < 2 ^ 31) where
   sum-is : toZ w64 (ofZ w64 v) +ℤ toZ w64 (ofZ w64 s) ≡ v +ℤ s
   sum-is = ap₂ _+ℤ_ (back v (omega arith)) (back s (omega arith))
 
@@ -80,14 +81,14 @@ module _ (s : List ℕ) (b : ℕ) (r : Regs) (so : List ℤ) (L : LoopIn s b so)
   abbrev Sum : ℤ
   Sum = toZ w64 (ofZ w64 (toZ w64 (ofZ w64 (cell so i)) +ℤ toZ w64 (ofZ w64 (cell so k))))
 
-  hi : natAbs (cell so i) < 1000000000
-  hi = subst (λ a. natAbs (cell so a) < 1000000000) (sym ei) (L .variable .small)
+  hi : natAbs (cell so i) < 2 ^ 31
+  hi = subst (λ a. natAbs (cell so a) < 2 ^ 31) (sym ei) (L .variable .small)
 
-  hl : natAbs (cell so l) < 1000000000
-  hl = subst (λ a. natAbs (cell so a) < 1000000000) (sym el) (L .limit .small)
+  hl : natAbs (cell so l) < 2 ^ 31
+  hl = subst (λ a. natAbs (cell so a) < 2 ^ 31) (sym el) (L .limit .small)
 
-  hk : natAbs (cell so k) < 1000000000
-  hk = subst (λ a. natAbs (cell so a) < 1000000000) (sym ek) (L .step .small)
+  hk : natAbs (cell so k) < 2 ^ 31
+  hk = subst (λ a. natAbs (cell so a) < 2 ^ 31) (sym ek) (L .step .small)
 
   pub turn-fits : SFits w64 (toZ w64 (ofZ w64 (cell so i)) +ℤ toZ w64 (ofZ w64 (cell so k)))
   turn-fits = sum-fits (cell so i) (cell so l) (cell so k) hi hk hl
@@ -101,19 +102,20 @@ module _ (s : List ℕ) (b : ℕ) (r : Regs) (so : List ℤ) (L : LoopIn s b so)
   pub turn-no : (st : List ℤ) → positive (cell so (wordAt s (b + 8))) ≡ false → stopped 6 st so ≡ ended (positive (cell so (wordAt s (b + 8)))) (loopAt s b) r st so
   turn-no st e = ap (λ t. ended t (loopAt s b) r st so) (sym e)
 
-  pub turn-again : (st : List ℤ) (t : ℕ) → positive (cell so (wordAt s (b + 8))) ≡ true → leZ Sum (toZ w64 (ofZ w64 (cell so l))) ≡ true → t ≡ wordAt s (b + 12)
-      → next (regs t (r .height) (r .mark)) st (set so i Sum) ≡ ended (positive (cell so (wordAt s (b + 8)))) (loopAt s b) r st so
+  pub turn-again : (st : List ℤ) (t : ℕ) {q : Regs} → q ≡ goingTo t (r .height) r → positive (cell so (wordAt s (b + 8))) ≡ true → leZ Sum (toZ w64 (ofZ w64 (cell so l))) ≡ true → t ≡ wordAt s (b + 12)
+      → next q st (set so i Sum) ≡ ended (positive (cell so (wordAt s (b + 8)))) (loopAt s b) r st so
   unfolding loopAt turn
-  turn-again st t e f g =
-      ap₂ (λ n c. next (regs n (r .height) (r .mark)) st c) g (ap₂ (λ n z. set so n z) ei sum-at)
+  turn-again st t d e f g =
+      ap₂ (λ q c. next q st c) (d ∙ ap (λ n. goingTo n (r .height) r) g) (ap₂ (λ n z. set so n z) ei sum-at)
       ∙ ap (λ q. turned (cond q (again (cell so (wordAt s b) +ℤ cell so (wordAt s (b + 8)))) over) (loopAt s b) r st so) (sym f ∙ le-at)
       ∙ ap (λ t. ended t (loopAt s b) r st so) (sym e)
 
-  pub turn-over : (st : List ℤ) → positive (cell so (wordAt s (b + 8))) ≡ true → leZ Sum (toZ w64 (ofZ w64 (cell so l))) ≡ false
-      → next (regs (r .index + 1) (r .height) (r .mark)) st so ≡ ended (positive (cell so (wordAt s (b + 8)))) (loopAt s b) r st so
+  pub turn-over : (st : List ℤ) {q : Regs} → q ≡ onward (r .height) r → positive (cell so (wordAt s (b + 8))) ≡ true → leZ Sum (toZ w64 (ofZ w64 (cell so l))) ≡ false
+      → next q st so ≡ ended (positive (cell so (wordAt s (b + 8)))) (loopAt s b) r st so
   unfolding loopAt turn
-  turn-over st e f =
-      ap (λ q. turned (cond q (again (cell so (wordAt s b) +ℤ cell so (wordAt s (b + 8)))) over) (loopAt s b) r st so) (sym f ∙ le-at)
+  turn-over st d e f =
+      ap (λ q. next q st so) d
+      ∙ ap (λ q. turned (cond q (again (cell so (wordAt s b) +ℤ cell so (wordAt s (b + 8)))) over) (loopAt s b) r st so) (sym f ∙ le-at)
       ∙ ap (λ t. ended t (loopAt s b) r st so) (sym e)
 
 pub sets-alike : (so : List ℤ) (i i′ l l′ k k′ : ℕ) (x x′ y y′ z z′ : ℤ) → i ≡ i′ → l ≡ l′ → k ≡ k′ → x ≡ x′ → y ≡ y′ → z ≡ z′

@@ -13,8 +13,9 @@ ghost use Rattle.object.specs.Layout.{objectAt, elementAt, loopAt};
 ghost use Rattle.subscripts.specs.Elements.{ElementIn};
 ghost use Rattle.arithmetic.specs.Performed.{after, next, popped, loaded, put, branched, begun, ended, performed};
 ghost use Rattle.operations.specs.Ready.{LoopIn, chosen, signOf, Held, Ready};
-use arithmetic::Regs;
-use arithmetic::Turn;
+use number::Rule;
+use registers::Regs;
+use registers::Turn;
 use subscripts::Place;
 
 fn sign(z: i64) -> usize
@@ -37,11 +38,7 @@ fn do_br3(o: &[u8], b: usize, r: Regs, stack: &mut [i64; 40]) -> Regs
     let s = sign(v);
     stack[h] = 0;
     let t = word::load(o, b + 4 * s);
-    Regs {
-        index: word::index(t),
-        height: h,
-        mark: r.mark,
-    }
+    registers::going_to(r, word::index(t), h)
 }
 
 // The count of exits stands at byte `b`, the exits after it.
@@ -61,11 +58,7 @@ fn do_brc(o: &[u8], b: usize, r: Regs, stack: &mut [i64; 40]) -> Turn
     }
     stack[h] = 0;
     let t = word::load(o, b + 4 * k);
-    Turn::Next(Regs {
-        index: word::index(t),
-        height: h,
-        mark: r.mark,
-    })
+    Turn::Next(registers::going_to(r, word::index(t), h))
 }
 
 // Sets variable, limit and step, in this order.
@@ -87,11 +80,7 @@ fn do_doi(o: &[u8], b: usize, r: Regs, stack: &mut [i64; 40], store: &mut [i64])
     stack[f] = 0;
     stack[g] = 0;
     stack[h] = 0;
-    Turn::Next(Regs {
-        index: r.index + 1,
-        height: f,
-        mark: r.mark,
-    })
+    Turn::Next(registers::onward(r, f))
 }
 
 fn set_loop(o: &[u8], b: usize, store: &mut [i64], m1: i64, m2: i64, m3: i64)
@@ -124,17 +113,9 @@ fn do_doe(o: &[u8], b: usize, r: Regs, store: &mut [i64]) -> Turn
     if z <= limit {
         store[i] = z;
         let t = word::index(word::load(o, b + 12));
-        return Turn::Next(Regs {
-            index: t,
-            height: r.height,
-            mark: r.mark,
-        });
+        return Turn::Next(registers::going_to(r, t, r.height));
     }
-    Turn::Next(Regs {
-        index: r.index + 1,
-        height: r.height,
-        mark: r.mark,
-    })
+    Turn::Next(registers::onward(r, r.height))
 }
 
 fn do_lde(o: &[u8], b: usize, r: Regs, stack: &mut [i64; 40], store: &[i64]) -> Turn
@@ -168,12 +149,12 @@ pub fn perform(
     x: usize,
     o: &[u8],
     e: object::Layout,
-    p: u64,
+    rule: Rule,
     r: Regs,
     stack: &mut [i64; 40],
     store: &mut [i64],
 ) -> Turn
-    requires { ⌜ Held e (now o) p r (now stack) (now store) ⌝ }
+    requires { ⌜ Held e (now o) rule r (now stack) (now store) ⌝ }
     requires { ⌜ Ready (objectAt e (now o)) op x (r .height) ⌝ }
     requires { ⌜ (r .index < 4096) × (x < 2 ^ 24) ⌝ }
     ensures { λ t. ⌜ after t (now (stack .exit)) (now (store .exit)) ≡ performed (ruleOf (objectAt e (now (o .entry)))) (meant (objectAt e (now (o .entry))) op x) r (now (stack .entry)) (now (store .entry)) ⌝ }
@@ -190,16 +171,12 @@ pub fn perform(
         opcodes::STO => Turn::Next(arithmetic::store_top(r, stack, store, x)),
         opcodes::LDE => do_lde(o, e.elements + 36 * x, r, stack, store),
         opcodes::STE => do_ste(o, e.elements + 36 * x, r, stack, store),
-        opcodes::ADD => Turn::Next(arithmetic::do_add(r, stack, p)),
-        opcodes::SUB => Turn::Next(arithmetic::do_sub(r, stack, p)),
-        opcodes::MUL => Turn::Next(arithmetic::do_mul(r, stack, p)),
-        opcodes::DIV => arithmetic::do_div(r, stack),
+        opcodes::ADD => arithmetic::do_add(r, stack, rule),
+        opcodes::SUB => arithmetic::do_sub(r, stack, rule),
+        opcodes::MUL => arithmetic::do_mul(r, stack, rule),
+        opcodes::DIV => arithmetic::do_div(r, stack, rule),
         opcodes::NEG => Turn::Next(arithmetic::do_neg(r, stack)),
-        opcodes::JMP => Turn::Next(Regs {
-            index: x,
-            height: r.height,
-            mark: r.mark,
-        }),
+        opcodes::JMP => Turn::Next(registers::going_to(r, x, r.height)),
         opcodes::BR3 => Turn::Next(do_br3(o, e.exits + 4 * x, r, stack)),
         opcodes::BRC => do_brc(o, e.exits + 4 * x, r, stack),
         opcodes::DOI => do_doi(o, e.dos + 16 * x, r, stack, store),

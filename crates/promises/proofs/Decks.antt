@@ -19,6 +19,7 @@ use Rattle.rules_object.specs.Machine.{State, fresh, cell, step}
 use Rattle.rules_object.specs.Bytes.{readObject}
 use Rattle.rules_shared.specs.Refusals.{accepted}
 use Rattle.rules_object.specs.Calls.{checking, given, right50, right51, sequenceOf, Ran, ran, runFrom, running, taken}
+use Rattle.number.specs.Number.{digitsRule}
 use Rattle.rules_shared.proofs.RunLaws.{steps-go}
 use Rattle.rules_object.specs.Passed.{Passed}
 use Rattle.rules_object.proofs.Passed.{check-passed, both}

@@ -11,7 +11,8 @@ use lib.Dec.{leb, ltb, eqb}
 use lib.ListN.{length, getElem?, take, replicate}
 use lib.IntN.{ℤ, pos, natAbs}
 use borrow.Author.Tests.{le-leb, lt-ltb, eq-eqb}
-use Rattle.number.specs.Number.{add, sub, mul, div, ceiling, fits}
+use Rattle.number.specs.Number.{Rule, add, sub, mul, div, fits}
+use Rattle.number.proofs.Laws.{yes-fits}
 use Rattle.rules_shared.specs.Limits.{limits}
 use Rattle.rules_shared.specs.House.{House}
 use Rattle.rules_object.specs.Object.{SubscriptEntry, Element, Loop, Line, Named, Object, ruleOf}
@@ -77,14 +78,13 @@ name-right {house} lawful v p = rw (lawful .entries) (go v (p .name) (omega (ari
 -- ---- entries and operands of an object whose numbers stay below m, with n words of code and c cells
 
 record Sizes (o : Object) (m n c : ℕ) : Type 0 where
-  rule : m ≡ ceiling (ruleOf o)
+  rule : m ≡ ruleOf o .ceiling
   code : length (o .code) ≡ n
   cells : o .cells ≡ c
 
 module _ {o : Object} {m n c : ℕ} (sizes : Sizes o m n c) where
   fits-right : (z : ℤ) → natAbs z < m → fits (ruleOf o) z ≡ true
-  unfolding fits
-  fits-right z h = lt-ltb (natAbs z) (ceiling (ruleOf o)) (omega (arith, sizes .rule))
+  fits-right z h = yes-fits (ruleOf o) z (omega (arith, h, sizes .rule))
 
   in-cells : (a : ℕ) → a < c → ltb a (o .cells) ≡ true
   in-cells a h = lt-ltb a (o .cells) (omega (arith, sizes .cells))
@@ -162,9 +162,9 @@ module _ {o : Object} {m n c : ℕ} (sizes : Sizes o m n c) where
 -- ---- the deck's object
 
 module _ {house : House} {deck : List Statement} (accepted : Accepted house deck) where
-  sizes : Sizes (translate house deck) (ceiling (house .rule)) (length (codeOf deck)) (cellCount (heldOf deck))
+  sizes : Sizes (translate house deck) (house .rule .ceiling) (length (codeOf deck)) (cellCount (heldOf deck))
   unfolding translate
-  sizes = record { rule = sym (ap ceiling (accepted .lawful .rule (translate house deck) refl)); code = code-length house deck; cells = refl }
+  sizes = record { rule = sym (ap (λ (r : Rule). r .ceiling) (accepted .lawful .rule (translate house deck) refl)); code = code-length house deck; cells = refl }
 
   pub passes-41 : right41 (translate house deck) ≡ true
   unfolding right41 translate
@@ -196,13 +196,13 @@ module _ {house : House} {deck : List Statement} (accepted : Accepted house deck
 
   -- each word of the code, and the instruction that it is
   pub coded : (a w : ℕ) → getElem? (translate house deck .code) a ≡ some w
-      → (i : Instr) × Right (ceiling (house .rule)) (length (codeOf deck)) (cellCount (heldOf deck)) i × (operationOf w ≡ operationNumber i) × InTables (translate house deck) i (operandOf w)
+      → (i : Instr) × Right (house .rule .ceiling) (length (codeOf deck)) (cellCount (heldOf deck)) i × (operationOf w ≡ operationNumber i) × InTables (translate house deck) i (operandOf w)
   coded a w e =
       let x = at-some (codeOf deck) a (omega (arith, at-before (translate house deck .code) a e, code-length house deck)) in
       let m = emitted house deck (fitting accepted) a (x .0) (x .1) in
       let same : m .word ≡ w = is-some (sym (m .stands) ∙ e) in (
         x .0,
-        each-at (Right (ceiling (house .rule)) (length (codeOf deck)) (cellCount (heldOf deck))) (codeOf deck) a (x .0) (x .1) (right-code accepted),
+        each-at (Right (house .rule .ceiling) (length (codeOf deck)) (cellCount (heldOf deck))) (codeOf deck) a (x .0) (x .1) (right-code accepted),
         rw same at (m .operation),
         rw same at (m .inTables),
       )

@@ -8,7 +8,7 @@ use lib.ListN.{replicate}
 use lib.IntN.{pos}
 use Rattle.rules_shared.specs.House.{house1401}
 use Rattle.rules_deck.specs.Punch.{bytes, deck}
-use Rattle.number.specs.Number.{ceiling, fits, keep, drops, kept, divided, apply}
+use Rattle.number.specs.Number.{digitsRule, fits, keep, drops, kept, divided, apply}
 use Rattle.rules_object.specs.Halts.{haltNumber}
 use Rattle.rules_shared.specs.Choose.{place, turn}
 use Rattle.rules_object.specs.Bytes.{signedOf, signedWord, objectWords, objectBytes, readObject}
@@ -135,7 +135,7 @@ AsAnswered [] = Unit {0}
 AsAnswered (e ∷ more) = (answered (house1401 (e .digits)) (deck (e .cards)) (e .room) (e .names) ≡ e .answer) × AsAnswered more
 
 pub examples : AsAnswered table
-unfolding ceiling fits keep drops kept divided apply haltNumber place turn signedOf signedWord objectWords objectBytes readObject operationOf operandOf decode step right41 rightConstant rightElement rightLoop rightLine rightNamed right43 flowOf entryRight benchStep heights refused42 refused43 checked checking taken given right50 right51 right52 sequenceOf running benching write mapOf mapping valueOf formNames formConstants formExits formLast formLevels cardsOf comment firstCard character textOf numberOf rightNumber wrongCard afterCard rightDigits rightLength carded isLetterOrDigit give giveIf ahead follow andThen after afterWord choose starts startsDigit allOf whole run digitRun nameRun bytesTaken number name listedUpTo listed addend linearOf subscript subscripts targetRead operandRead operand sign signed sumOp productOp joined more grammarStep parseIn enough parse expression assignment plainGoTo rightExits computedGoTo arithmeticIf parameter doLoop arrayShape dimensions readAssignment readGoTo readComputed readIf readDo readContinue readStop readEnd readDimension present readings firstOf formOf dosOf endings dimsOf meaningStep meaning cellOf baseOf limitOf formPlain heldOf words addressAt codeOf wordOf translate right11 right12 right13 right14 right15 formReferences right16 formPooled formWords formExitWords takes right18 judgeForm refused20 right21 right22 right24 formSets right25 judgeDeck deckOf compiling meaningOf deckNames deckDims deckLevels objectIn namedCell namedValues rightStore series answered meant
+unfolding digitsRule fits keep drops kept divided apply haltNumber place turn signedOf signedWord objectWords objectBytes readObject operationOf operandOf decode step right41 rightConstant rightElement rightLoop rightLine rightNamed right43 flowOf entryRight benchStep heights refused42 refused43 checked checking taken given right50 right51 right52 sequenceOf running benching write mapOf mapping valueOf formNames formConstants formExits formLast formLevels cardsOf comment firstCard character textOf numberOf rightNumber wrongCard afterCard rightDigits rightLength carded isLetterOrDigit give giveIf ahead follow andThen after afterWord choose starts startsDigit allOf whole run digitRun nameRun bytesTaken number name listedUpTo listed addend linearOf subscript subscripts targetRead operandRead operand sign signed sumOp productOp joined more grammarStep parseIn enough parse expression assignment plainGoTo rightExits computedGoTo arithmeticIf parameter doLoop arrayShape dimensions readAssignment readGoTo readComputed readIf readDo readContinue readStop readEnd readDimension present readings firstOf formOf dosOf endings dimsOf meaningStep meaning cellOf baseOf limitOf formPlain heldOf words addressAt codeOf wordOf translate right11 right12 right13 right14 right15 formReferences right16 formPooled formWords formExitWords takes right18 judgeForm refused20 right21 right22 right24 formSets right25 judgeDeck deckOf compiling meaningOf deckNames deckDims deckLevels objectIn namedCell namedValues rightStore series answered meant
 examples = (refl, (refl, (refl, (refl, (refl, (refl, (refl, (refl, (refl, (refl, (refl, (refl, (refl, (refl, (refl, (refl, (refl, (refl, (refl, (refl, (refl, (refl, (refl, (refl, (refl, (refl, (refl, (refl, (refl, (refl, (refl, (refl, (refl, (refl, (refl, (refl, (refl, (refl, (refl, (refl, (refl, (refl, (refl, (refl, (refl, (refl, (refl, (refl, (refl, (refl, (refl, (refl, tt))))))))))))))))))))))))))))))))))))))))))))))))))))
 
 -- ---- the object's bytes
@@ -168,15 +168,15 @@ AsMade [] = Unit {0}
 AsMade (m ∷ more) = (objectIn (compiling (house1401 5) (deck (m .cards)) (replicate 500 0)) ≡ m .object) × AsMade more
 
 pub objects-made : AsMade objects
-unfolding ceiling fits keep drops kept divided apply haltNumber place turn signedOf signedWord objectWords objectBytes readObject operationOf operandOf decode step right41 rightConstant rightElement rightLoop rightLine rightNamed right43 flowOf entryRight benchStep heights refused42 refused43 checked checking taken given right50 right51 right52 sequenceOf running benching write mapOf mapping valueOf formNames formConstants formExits formLast formLevels cardsOf comment firstCard character textOf numberOf rightNumber wrongCard afterCard rightDigits rightLength carded isLetterOrDigit give giveIf ahead follow andThen after afterWord choose starts startsDigit allOf whole run digitRun nameRun bytesTaken number name listedUpTo listed addend linearOf subscript subscripts targetRead operandRead operand sign signed sumOp productOp joined more grammarStep parseIn enough parse expression assignment plainGoTo rightExits computedGoTo arithmeticIf parameter doLoop arrayShape dimensions readAssignment readGoTo readComputed readIf readDo readContinue readStop readEnd readDimension present readings firstOf formOf dosOf endings dimsOf meaningStep meaning cellOf baseOf limitOf formPlain heldOf words addressAt codeOf wordOf translate right11 right12 right13 right14 right15 formReferences right16 formPooled formWords formExitWords takes right18 judgeForm refused20 right21 right22 right24 formSets right25 judgeDeck deckOf compiling meaningOf deckNames deckDims deckLevels objectIn namedCell namedValues rightStore series answered meant
+unfolding digitsRule fits keep drops kept divided apply haltNumber place turn signedOf signedWord objectWords objectBytes readObject operationOf operandOf decode step right41 rightConstant rightElement rightLoop rightLine rightNamed right43 flowOf entryRight benchStep heights refused42 refused43 checked checking taken given right50 right51 right52 sequenceOf running benching write mapOf mapping valueOf formNames formConstants formExits formLast formLevels cardsOf comment firstCard character textOf numberOf rightNumber wrongCard afterCard rightDigits rightLength carded isLetterOrDigit give giveIf ahead follow andThen after afterWord choose starts startsDigit allOf whole run digitRun nameRun bytesTaken number name listedUpTo listed addend linearOf subscript subscripts targetRead operandRead operand sign signed sumOp productOp joined more grammarStep parseIn enough parse expression assignment plainGoTo rightExits computedGoTo arithmeticIf parameter doLoop arrayShape dimensions readAssignment readGoTo readComputed readIf readDo readContinue readStop readEnd readDimension present readings firstOf formOf dosOf endings dimsOf meaningStep meaning cellOf baseOf limitOf formPlain heldOf words addressAt codeOf wordOf translate right11 right12 right13 right14 right15 formReferences right16 formPooled formWords formExitWords takes right18 judgeForm refused20 right21 right22 right24 formSets right25 judgeDeck deckOf compiling meaningOf deckNames deckDims deckLevels objectIn namedCell namedValues rightStore series answered meant
 objects-made = (refl, (refl, (refl, (refl, (refl, (refl, tt))))))
 
 -- 01's worked deck is 232 bytes
 pub worked-length : compiling (house1401 5) (deck ("      I=47" ∷ "      J=I*I*I" ∷ "      STOP" ∷ "      END" ∷ [])) (replicate 232 0) .length ≡ 232
-unfolding ceiling fits keep drops kept divided apply haltNumber place turn signedOf signedWord objectWords objectBytes readObject operationOf operandOf decode step right41 rightConstant rightElement rightLoop rightLine rightNamed right43 flowOf entryRight benchStep heights refused42 refused43 checked checking taken given right50 right51 right52 sequenceOf running benching write mapOf mapping valueOf formNames formConstants formExits formLast formLevels cardsOf comment firstCard character textOf numberOf rightNumber wrongCard afterCard rightDigits rightLength carded isLetterOrDigit give giveIf ahead follow andThen after afterWord choose starts startsDigit allOf whole run digitRun nameRun bytesTaken number name listedUpTo listed addend linearOf subscript subscripts targetRead operandRead operand sign signed sumOp productOp joined more grammarStep parseIn enough parse expression assignment plainGoTo rightExits computedGoTo arithmeticIf parameter doLoop arrayShape dimensions readAssignment readGoTo readComputed readIf readDo readContinue readStop readEnd readDimension present readings firstOf formOf dosOf endings dimsOf meaningStep meaning cellOf baseOf limitOf formPlain heldOf words addressAt codeOf wordOf translate right11 right12 right13 right14 right15 formReferences right16 formPooled formWords formExitWords takes right18 judgeForm refused20 right21 right22 right24 formSets right25 judgeDeck deckOf compiling meaningOf deckNames deckDims deckLevels objectIn namedCell namedValues rightStore series answered meant
+unfolding digitsRule fits keep drops kept divided apply haltNumber place turn signedOf signedWord objectWords objectBytes readObject operationOf operandOf decode step right41 rightConstant rightElement rightLoop rightLine rightNamed right43 flowOf entryRight benchStep heights refused42 refused43 checked checking taken given right50 right51 right52 sequenceOf running benching write mapOf mapping valueOf formNames formConstants formExits formLast formLevels cardsOf comment firstCard character textOf numberOf rightNumber wrongCard afterCard rightDigits rightLength carded isLetterOrDigit give giveIf ahead follow andThen after afterWord choose starts startsDigit allOf whole run digitRun nameRun bytesTaken number name listedUpTo listed addend linearOf subscript subscripts targetRead operandRead operand sign signed sumOp productOp joined more grammarStep parseIn enough parse expression assignment plainGoTo rightExits computedGoTo arithmeticIf parameter doLoop arrayShape dimensions readAssignment readGoTo readComputed readIf readDo readContinue readStop readEnd readDimension present readings firstOf formOf dosOf endings dimsOf meaningStep meaning cellOf baseOf limitOf formPlain heldOf words addressAt codeOf wordOf translate right11 right12 right13 right14 right15 formReferences right16 formPooled formWords formExitWords takes right18 judgeForm refused20 right21 right22 right24 formSets right25 judgeDeck deckOf compiling meaningOf deckNames deckDims deckLevels objectIn namedCell namedValues rightStore series answered meant
 worked-length = refl
 
 -- a deck that is refused has no meaning
 pub refused-means-nothing : meant (house1401 5) (deck ("      GOTO7" ∷ "      END" ∷ [])) [] ≡ refused 22 1
-unfolding ceiling fits keep drops kept divided apply haltNumber place turn signedOf signedWord objectWords objectBytes readObject operationOf operandOf decode step right41 rightConstant rightElement rightLoop rightLine rightNamed right43 flowOf entryRight benchStep heights refused42 refused43 checked checking taken given right50 right51 right52 sequenceOf running benching write mapOf mapping valueOf formNames formConstants formExits formLast formLevels cardsOf comment firstCard character textOf numberOf rightNumber wrongCard afterCard rightDigits rightLength carded isLetterOrDigit give giveIf ahead follow andThen after afterWord choose starts startsDigit allOf whole run digitRun nameRun bytesTaken number name listedUpTo listed addend linearOf subscript subscripts targetRead operandRead operand sign signed sumOp productOp joined more grammarStep parseIn enough parse expression assignment plainGoTo rightExits computedGoTo arithmeticIf parameter doLoop arrayShape dimensions readAssignment readGoTo readComputed readIf readDo readContinue readStop readEnd readDimension present readings firstOf formOf dosOf endings dimsOf meaningStep meaning cellOf baseOf limitOf formPlain heldOf words addressAt codeOf wordOf translate right11 right12 right13 right14 right15 formReferences right16 formPooled formWords formExitWords takes right18 judgeForm refused20 right21 right22 right24 formSets right25 judgeDeck deckOf compiling meaningOf deckNames deckDims deckLevels objectIn namedCell namedValues rightStore series answered meant
+unfolding digitsRule fits keep drops kept divided apply haltNumber place turn signedOf signedWord objectWords objectBytes readObject operationOf operandOf decode step right41 rightConstant rightElement rightLoop rightLine rightNamed right43 flowOf entryRight benchStep heights refused42 refused43 checked checking taken given right50 right51 right52 sequenceOf running benching write mapOf mapping valueOf formNames formConstants formExits formLast formLevels cardsOf comment firstCard character textOf numberOf rightNumber wrongCard afterCard rightDigits rightLength carded isLetterOrDigit give giveIf ahead follow andThen after afterWord choose starts startsDigit allOf whole run digitRun nameRun bytesTaken number name listedUpTo listed addend linearOf subscript subscripts targetRead operandRead operand sign signed sumOp productOp joined more grammarStep parseIn enough parse expression assignment plainGoTo rightExits computedGoTo arithmeticIf parameter doLoop arrayShape dimensions readAssignment readGoTo readComputed readIf readDo readContinue readStop readEnd readDimension present readings firstOf formOf dosOf endings dimsOf meaningStep meaning cellOf baseOf limitOf formPlain heldOf words addressAt codeOf wordOf translate right11 right12 right13 right14 right15 formReferences right16 formPooled formWords formExitWords takes right18 judgeForm refused20 right21 right22 right24 formSets right25 judgeDeck deckOf compiling meaningOf deckNames deckDims deckLevels objectIn namedCell namedValues rightStore series answered meant
 refused-means-nothing = refl

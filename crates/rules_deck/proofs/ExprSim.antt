@@ -3,12 +3,11 @@
 use mathlib.Core.Path.{_≡_, refl, ap, _∙_, subst}
 use Prim.Native.Nat.{ℕ, suc, _+_, _≤_}
 use native.Mathlib.Omega.{arith}
-use mathlib.Core.Bool.{Bool}
 use mathlib.Core.List.{List, _∷_, _++_}
 use mathlib.Core.Option.{Option, none, some}
 use lib.ListN.{length, getElem?, length-append}
 use lib.IntN.{ℤ, pos}
-use Rattle.number.specs.Number.{Op, Result, value, byZero, apply}
+use Rattle.number.specs.Number.{Op, Result, value, byZero, apply, Loss, trouble}
 use Rattle.rules_shared.specs.House.{House}
 use Rattle.rules_shared.specs.Runs.{go, halt}
 use Rattle.rules_shared.specs.Choose.{right}
@@ -41,20 +40,20 @@ known-right l k = record { has = λ v a. k .has v (among-right l a) }
 
 -- The code from `pc` up to `pc′` pushes the value, in as many steps as it has words; or some of it leads to the halt, at the last word reached. In n steps.
 pub data Gives (house : House) (deck : List Statement) (pc pc′ : ℕ) (s c : List ℤ) (m n : ℕ) : Evaluated → Type 0 where
-  gives : {v : ℤ} {b : Bool} {m′ : ℕ} → Runs house deck n (state pc s c m) (go (state pc′ (v ∷ s) c m′)) → pc + n ≡ pc′ → Marked pc pc′ m m′ b → Gives house deck pc pc′ s c m n (val v b)
-  stops : {h : Cause} {b : Bool} {p m′ : ℕ} {s′ : List ℤ} → Runs house deck n (state pc s c m) (halt (haltOf h) (state p s′ c m′)) → pc + n ≤ pc′ → suc p ≡ pc + n → Marked pc pc′ m m′ b → Gives house deck pc pc′ s c m n (bad h b)
+  gives : {v : ℤ} {b : Loss} {m′ : ℕ} → Runs house deck n (state pc s c m) (go (state pc′ (v ∷ s) c m′)) → pc + n ≡ pc′ → Marked pc pc′ m m′ b → Gives house deck pc pc′ s c m n (val v b)
+  stops : {h : Cause} {b : Loss} {p m′ : ℕ} {s′ : List ℤ} → Runs house deck n (state pc s c m) (halt (haltOf h) (state p s′ c m′)) → pc + n ≤ pc′ → suc p ≡ pc + n → Marked pc pc′ m m′ b → Gives house deck pc pc′ s c m n (bad h b)
 
 module _ {house : House} {deck : List Statement} (fit : Fitting deck) {pc p₂ m : ℕ} {s c : List ℤ} where
-  opGives : (r : Result) {n m₂ : ℕ} {v w : ℤ} {d : Bool} → pc ≤ p₂ → Runs house deck n (state pc s c m) (go (state p₂ (w ∷ v ∷ s) c m₂)) → pc + n ≡ p₂ → Marked pc p₂ m m₂ d
+  opGives : (r : Result) {n m₂ : ℕ} {v w : ℤ} {d : Loss} → pc ≤ p₂ → Runs house deck n (state pc s c m) (go (state p₂ (w ∷ v ∷ s) c m₂)) → pc + n ≡ p₂ → Marked pc p₂ m m₂ d
       → {o : Op} → getElem? (codeOf deck) p₂ ≡ some (OP o) → apply (ruled house) o v w ≡ r → Gives house deck pc (suc p₂) s c m (n + 1) (after d r)
   opGives (value x e) {m₂ = m₂} {v = v} {w = w} l p z q f a =
       gives (and-then p (on fit f (ap (λ r. operated r (state p₂ (w ∷ v ∷ s) c m₂) s) a) stay)) (omega arith)
       (marked-then (widen (omega arith) (omega arith) q) (widen l (omega arith) (marked-one e m₂ p₂)))
-  opGives byZero {m₂ = m₂} {v = v} {w = w} l p z q f a =
+  opGives (trouble byZero) {m₂ = m₂} {v = v} {w = w} l p z q f a =
       stops {p = p₂} (and-then p (out fit f (ap (λ r. operated r (state p₂ (w ∷ v ∷ s) c m₂) s) a))) (omega arith) (omega arith) (widen (omega arith) (omega arith) q)
 
   -- the first operand has run, the second has run or halts
-  secondGives : {p₁ n n₂ m₁ : ℕ} {v : ℤ} {d : Bool} {rb : Evaluated} {o : Op} → pc ≤ p₁ → p₁ ≤ p₂ → Runs house deck n (state pc s c m) (go (state p₁ (v ∷ s) c m₁)) → pc + n ≡ p₁
+  secondGives : {p₁ n n₂ m₁ : ℕ} {v : ℤ} {d : Loss} {rb : Evaluated} {o : Op} → pc ≤ p₁ → p₁ ≤ p₂ → Runs house deck n (state pc s c m) (go (state p₁ (v ∷ s) c m₁)) → pc + n ≡ p₁
       → Marked pc p₁ m m₁ d → Gives house deck p₁ p₂ (v ∷ s) c m₁ n₂ rb → getElem? (codeOf deck) p₂ ≡ some (OP o)
       → Gives house deck pc (suc p₂) s c m (joinedSteps (val v d) rb n n₂) (joined (ruled house) o (val v d) rb)
   secondGives l₁ l₂ p z q (gives p′ z′ q′) f =
@@ -86,10 +85,10 @@ module _ (deck : List Statement) {env : Values} {c : List ℤ} (h : Holds (heldO
   elem-sim : {house : House} {pc m : ℕ} {s : List ℤ} → Fitting deck → (v : Name) (ss : Subscripts) → getElem? (codeOf deck) pc ≡ some (LDE (elementEntry (heldOf deck) (dimsOf deck) v ss))
       → (o : Option ℕ) → placeOf c (elementEntry (heldOf deck) (dimsOf deck) v ss) ≡ o → placeIn env (dimsOf deck v) ss ≡ o → Gives house deck pc (suc pc) s c m 1 (elementValue env v o)
   elem-sim {pc = pc} {m = m} {s = s} fit v ss a none e i =
-      stops {p = pc} (out fit a (ap (λ o. elementLoaded o (elementEntry (heldOf deck) (dimsOf deck) v ss) (state pc s c m)) e)) (omega arith) (omega arith) (quiet refl)
+      stops {p = pc} (out fit a (ap (λ o. elementLoaded o (elementEntry (heldOf deck) (dimsOf deck) v ss) (state pc s c m)) e)) (omega arith) (omega arith) (quiet refl refl)
   elem-sim {pc = pc} {m = m} {s = s} fit v ss a (some p) e i =
       let q : cell c (baseOf (heldOf deck) v + p) ≡ env (elementAt v p) = h .same (elementAt v p) (element-has deck env v ss p i) in
-      gives (on fit a (ap (λ o. elementLoaded o (elementEntry (heldOf deck) (dimsOf deck) v ss) (state pc s c m)) e ∙ ap (λ x. go (state (suc pc) (x ∷ s) c m)) q) stay) (omega arith) (quiet refl)
+      gives (on fit a (ap (λ o. elementLoaded o (elementEntry (heldOf deck) (dimsOf deck) v ss) (state pc s c m)) e ∙ ap (λ x. go (state (suc pc) (x ∷ s) c m)) q) stay) (omega arith) (quiet refl refl)
 
 -- moved to an end that is written in another way
 moved : {house : House} {deck : List Statement} {pc p p′ m n : ℕ} {s c : List ℤ} {r : Evaluated} → p ≡ p′ → Gives house deck pc p s c m n r → Gives house deck pc p′ s c m n r
@@ -101,9 +100,9 @@ code deck e = exprCode (heldOf deck) (dimsOf deck) e
 module _ {house : House} {deck : List Statement} {env : Values} {c : List ℤ} (fit : Fitting deck) (h : Holds (heldOf deck) env c) where
   pub expr-sim : (e : Expr) → Known (heldOf deck) (exprPlain e) → (pc : ℕ) → At (codeOf deck) pc (exprCode (heldOf deck) (dimsOf deck) e)
       → (s : List ℤ) (m : ℕ) → Gives house deck pc (pc + length (exprCode (heldOf deck) (dimsOf deck) e)) s c m (exprSteps (ruled house) deck env e) (eval (ruled house) deck env e)
-  expr-sim (con z) f pc a s m = moved (omega arith) (gives (on fit (at-head a) refl stay) (omega arith) (quiet refl))
+  expr-sim (con z) f pc a s m = moved (omega arith) (gives (on fit (at-head a) refl stay) (omega arith) (quiet refl refl))
   expr-sim (var x) f pc a s m =
-      rw (← h .same (plain x) (f .has x here)) (moved (omega arith) (gives (on fit (at-head a) refl stay) (omega arith) (quiet refl)))
+      rw (← h .same (plain x) (f .has x here)) (moved (omega arith) (gives (on fit (at-head a) refl stay) (omega arith) (quiet refl refl)))
   expr-sim (elm v ss) f pc a s m = moved (omega arith) (elem-sim deck h fit v ss (at-head a) (placeIn env (dimsOf deck v) ss) (place-value deck h v ss f) refl)
   expr-sim (neg e) f pc a s m =
       moved (simp length-append (omega arith)) (negGives fit (expr-sim e f pc (at-left (code deck e) _ a) s m) (at-head (at-right (code deck e) a)))

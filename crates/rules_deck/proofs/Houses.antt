@@ -7,7 +7,7 @@ use mathlib.Core.Bool.{Bool, true, false, _&&_}
 use mathlib.Core.List.{List, [], _∷_, _++_}
 use lib.Dec.{leb}
 use borrow.Author.Tests.{leb-true}
-use Rattle.number.specs.Number.{ceiling}
+use Rattle.number.specs.Number.{digitsRule}
 use Rattle.rules_shared.specs.Limits.{limits}
 use Rattle.rules_shared.specs.House.{House, house1401}
 use Rattle.rules_shared.specs.Lists.{all}
@@ -25,7 +25,7 @@ digits1401 k e =
     (leb-true 1 k (h .0), leb-true k (limits .digits) (h .1))
 
 pub lawful1401 : (k : ℕ) → Lawful (house1401 k)
-unfolding ceiling
+unfolding digitsRule
 lawful1401 k =
     record {
       rule = λ o e. ap (λ (n : ℕ). house1401 n .rule) e;

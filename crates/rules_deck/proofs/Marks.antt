@@ -1,54 +1,76 @@
 -- The machine's drop mark over a stretch of code: kept, or set at an instruction of the stretch; and the meaning's mark beside it.
 -- Assumes nothing.
-use mathlib.Core.Path.{_≡_, refl}
+use mathlib.Core.Path.{_≡_, refl, sym, ap, _∙_, subst}
 use Prim.Native.Nat.{ℕ, zero, suc, _≤_, _<_}
 use native.Mathlib.Omega.{arith}
-use mathlib.Core.Bool.{Bool, true, false, _||_}
+use mathlib.Core.Bool.{Bool, true, false, cond}
 use mathlib.Core.List.{List}
-use Rattle.rules_shared.specs.Choose.{marked}
+use Rattle.number.specs.Number.{Loss, isLoss, first}
+use Rattle.number.proofs.Laws.{first-yes, first-no}
+use Rattle.rules_shared.specs.Choose.{firstMark, marked}
+use Rattle.rules_shared.proofs.ChooseLaws.{marked-yes, marked-no}
 use Rattle.rules_deck.specs.Trees.{Statement}
 use Rattle.rules_deck.specs.Translation.{addressAt}
 use Rattle.rules_deck.specs.Cells.{SameMark, unmarked}
 use Rattle.rules_deck.specs.Cells
 
--- From mark m to mark m′ by instructions at lo up to hi, which dropped (true) or did not. All numbers are parameters,
+-- From mark m to mark m′ by instructions at lo up to hi, which lost this. All numbers are parameters,
 -- so that `omega` knows its goal under a constructor.
-pub data Marked (lo hi m m′ : ℕ) : Bool → Type 0 where
-  quiet : m′ ≡ m → Marked lo hi m m′ false
-  old : zero < m → m′ ≡ m → Marked lo hi m m′ true
-  new : m ≡ zero → lo < m′ → m′ ≤ hi → Marked lo hi m m′ true
+pub data Marked (lo hi m m′ : ℕ) (l : Loss) : Type 0 where
+  quiet : isLoss l ≡ false → m′ ≡ m → Marked lo hi m m′ l
+  old : isLoss l ≡ true → zero < m → m′ ≡ m → Marked lo hi m m′ l
+  new : isLoss l ≡ true → m ≡ zero → lo < m′ → m′ ≤ hi → Marked lo hi m m′ l
 
-pub widen : {lo hi lo′ hi′ m m′ : ℕ} {b : Bool} → lo ≤ lo′ → hi′ ≤ hi → Marked lo′ hi′ m m′ b → Marked lo hi m m′ b
-widen p q (quiet e) = quiet e
-widen p q (old z e) = old z e
-widen p q (new z l u) = new z (omega arith) (omega arith)
+pub widen : {lo hi lo′ hi′ m m′ : ℕ} {l : Loss} → lo ≤ lo′ → hi′ ≤ hi → Marked lo′ hi′ m m′ l → Marked lo hi m m′ l
+widen p q (quiet f e) = quiet f e
+widen p q (old f z e) = old f z e
+widen p q (new f z l u) = new f z (omega arith) (omega arith)
 
-pub marked-then : {lo hi m m′ m″ : ℕ} {b c : Bool} → Marked lo hi m m′ b → Marked lo hi m′ m″ c → Marked lo hi m m″ (b || c)
-marked-then (quiet e) (quiet e′) = quiet (omega arith)
-marked-then (quiet e) (old z e′) = old (omega arith) (omega arith)
-marked-then (quiet e) (new z l u) = new (omega arith) l u
-marked-then (old z e) (quiet e′) = old z (omega arith)
-marked-then (old z e) (old z′ e′) = old z (omega arith)
-marked-then (old z e) (new z′ l u) = absurd (omega arith)
-marked-then (new z l u) (quiet e′) = new z (omega arith) (omega arith)
-marked-then (new z l u) (old z′ e′) = new z (omega arith) (omega arith)
-marked-then (new z l u) (new z′ l′ u′) = absurd (omega arith)
+-- a loss stays the first one
+first-stays : (l more : Loss) → isLoss l ≡ true → isLoss (first l more) ≡ true
+first-stays l more f = ap isLoss (first-yes l more f) ∙ f
+
+first-comes : (l more : Loss) {b : Bool} → isLoss l ≡ false → isLoss more ≡ b → isLoss (first l more) ≡ b
+first-comes l more f g = ap isLoss (first-no l more f) ∙ g
+
+pub marked-then : {lo hi m m′ m″ : ℕ} {l more : Loss} → Marked lo hi m m′ l → Marked lo hi m′ m″ more → Marked lo hi m m″ (first l more)
+marked-then {l = l} {more} (quiet f e) (quiet f′ e′) = quiet (first-comes l more f f′) (omega arith)
+marked-then {l = l} {more} (quiet f e) (old f′ z e′) = old (first-comes l more f f′) (omega arith) (omega arith)
+marked-then {l = l} {more} (quiet f e) (new f′ z p u) = new (first-comes l more f f′) (omega arith) p u
+marked-then {l = l} {more} (old f z e) (quiet f′ e′) = old (first-stays l more f) z (omega arith)
+marked-then {l = l} {more} (old f z e) (old f′ z′ e′) = old (first-stays l more f) z (omega arith)
+marked-then {l = l} {more} (old f z e) (new f′ z′ p u) = absurd (omega arith)
+marked-then {l = l} {more} (new f z p u) (quiet f′ e′) = new (first-stays l more f) z (omega arith) (omega arith)
+marked-then {l = l} {more} (new f z p u) (old f′ z′ e′) = new (first-stays l more f) z (omega arith) (omega arith)
+marked-then {l = l} {more} (new f z p u) (new f′ z′ p′ u′) = absurd (omega arith)
 
 -- one instruction
-pub marked-one : (b : Bool) (m pc : ℕ) → Marked pc (suc pc) m (marked m b pc) b
-marked-one false m pc = quiet refl
-marked-one true zero pc = new refl (omega arith) (omega arith)
-marked-one true (suc m) pc = old (omega arith) refl
+pub marked-one : (l : Loss) (m pc : ℕ) → Marked pc (suc pc) m (marked m l pc) l
+marked-one l m pc = by m (isLoss l) refl
+  where
+    by : (m : ℕ) (b : Bool) → isLoss l ≡ b → Marked pc (suc pc) m (cond b (firstMark m pc) m) l
+    by m false f = quiet f refl
+    by zero true f = new f refl (omega arith) (omega arith)
+    by (suc m) true f = old f (omega arith) refl
 
 -- a stretch inside the statement at j
-pub same-mark : {deck : List Statement} {lo hi d m m′ : ℕ} {b : Bool} (j : ℕ) → addressAt deck j ≤ lo → hi ≤ addressAt deck (suc j)
-    → Marked lo hi m m′ b → SameMark deck d m → SameMark deck (marked d b j) m′
-same-mark j l h (quiet e) (unmarked p q) = unmarked p (omega arith)
-same-mark j l h (quiet e) (Cells.marked i p q r) = Cells.marked i p (omega arith) (omega arith)
-same-mark {d = zero} j l h (old z e) (unmarked p q) = absurd (omega arith)
-same-mark {d = zero} j l h (old z e) (Cells.marked i p q r) = absurd (omega arith)
-same-mark {d = zero} j l h (new z e u) s = Cells.marked j refl (omega arith) (omega arith)
-same-mark {d = suc d} j l h (old z e) (unmarked p q) = absurd (omega arith)
-same-mark {d = suc d} j l h (old z e) (Cells.marked i p q r) = Cells.marked i p (omega arith) (omega arith)
-same-mark {d = suc d} j l h (new z e u) (unmarked p q) = absurd (omega arith)
-same-mark {d = suc d} j l h (new z e u) (Cells.marked i p q r) = absurd (omega arith)
+module _ {deck : List Statement} {lo hi m m′ : ℕ} (j : ℕ) (l : addressAt deck j ≤ lo) (h : hi ≤ addressAt deck (suc j)) where
+  same-kept : {d : ℕ} → m′ ≡ m → SameMark deck d m → SameMark deck d m′
+  same-kept e (unmarked p q) = unmarked p (omega arith)
+  same-kept e (Cells.marked i p q r) = Cells.marked i p (omega arith) (omega arith)
+
+  same-old : (d : ℕ) → zero < m → m′ ≡ m → SameMark deck d m → SameMark deck (firstMark d j) m′
+  same-old zero z e (unmarked p q) = absurd (omega arith)
+  same-old zero z e (Cells.marked i p q r) = absurd (omega arith)
+  same-old (suc d) z e (unmarked p q) = absurd (omega arith)
+  same-old (suc d) z e (Cells.marked i p q r) = Cells.marked i p (omega arith) (omega arith)
+
+  same-new : (d : ℕ) → m ≡ zero → lo < m′ → m′ ≤ hi → SameMark deck d m → SameMark deck (firstMark d j) m′
+  same-new zero z e u s = Cells.marked j refl (omega arith) (omega arith)
+  same-new (suc d) z e u (unmarked p q) = absurd (omega arith)
+  same-new (suc d) z e u (Cells.marked i p q r) = absurd (omega arith)
+
+  pub same-mark : {d : ℕ} {lost : Loss} → Marked lo hi m m′ lost → SameMark deck d m → SameMark deck (marked d lost j) m′
+  same-mark {d} {lost} (quiet f e) s = subst (λ n. SameMark deck n m′) (sym (marked-no d lost j f)) (same-kept e s)
+  same-mark {d} {lost} (old f z e) s = subst (λ n. SameMark deck n m′) (sym (marked-yes d lost j f)) (same-old d z e s)
+  same-mark {d} {lost} (new f z e u) s = subst (λ n. SameMark deck n m′) (sym (marked-yes d lost j f)) (same-new d z e u s)

@@ -4,12 +4,14 @@ use mathlib.Core.Path.{_≡_, refl, sym, ap, _∙_, subst}
 use mathlib.Core.Logic.{inl}
 use Prim.Native.Nat.{ℕ, zero, suc, _+_, _≤_, _<_}
 use native.Mathlib.Omega.{arith}
-use mathlib.Core.Bool.{Bool, true, false, _&&_, _||_, false≢true}
+use mathlib.Core.Bool.{Bool, true, false, _&&_, false≢true}
 use mathlib.Core.List.{List, [], _∷_, map}
 use mathlib.Core.Option.{Option, none, some, Option·map}
 use lib.ListN.{length, getElem?}
 use lib.IntN.{ℤ, pos, negsuc}
 use Rattle.rules_shared.specs.House.{House}
+use Rattle.number.specs.Number.{Loss}
+use Rattle.number.specs.Number as numbers
 use Rattle.rules_shared.specs.Runs.{go}
 use Rattle.rules_shared.specs.Choose.{sign3, exit, positive, allPositive}
 use Rattle.rules_object.specs.Operations.{STO, STE, BR3, BRC, DOI, DOE}
@@ -126,7 +128,7 @@ module _ (house : House) {deck : List Statement} (sound : Sound deck) {j lost m 
   assign-cell v e z h (stops r y x q) a b l = halts r (omega arith) x (st .holds) (same-mark j (omega arith) (omega arith) q (st .mark))
 
   -- the value is on the stack, the place is still to be found
-  stored-sim : (v : Name) (ss : Subscripts) (o : Option ℕ) {x : ℤ} {n p m′ : ℕ} {d : Bool} → isEnd f ≡ false → doOf j f ≡ []
+  stored-sim : (v : Name) (ss : Subscripts) (o : Option ℕ) {x : ℤ} {n p m′ : ℕ} {d : Loss} → isEnd f ≡ false → doOf j f ≡ []
       → Runs house deck n (state (addressAt deck j) [] c m) (go (state p (x ∷ []) c m′)) → addressAt deck j + n ≡ p → Marked (addressAt deck j) p m m′ d
       → placeOf c (elementEntry (heldOf deck) (dimsOf deck) v ss) ≡ o → placeIn env (dimsOf deck v) ss ≡ o
       → getElem? (codeOf deck) p ≡ some (STE (elementEntry (heldOf deck) (dimsOf deck) v ss)) → At (codeOf deck) (suc p) (map (doInstr deck DOE) (endings deck number))
@@ -172,7 +174,7 @@ module _ (house : House) {deck : List Statement} (sound : Sound deck) {j lost m 
 
   -- ---- DO
 
-  pub begun-sim : (g : ℕ) (v : Name) (b : Bool) {m₁ m₂ m₃ : ℤ} {n p m′ : ℕ} {d : Bool} → Among (record { position = j; last = g; variable = v }) (dosOf deck) → isEnd f ≡ false
+  pub begun-sim : (g : ℕ) (v : Name) (b : Bool) {m₁ m₂ m₃ : ℤ} {n p m′ : ℕ} {d : Loss} → Among (record { position = j; last = g; variable = v }) (dosOf deck) → isEnd f ≡ false
       → allPositive m₁ m₂ m₃ ≡ b → Runs house deck n (state (addressAt deck j) [] c m) (go (state p (m₃ ∷ m₂ ∷ m₁ ∷ []) c m′)) → addressAt deck j + n ≡ p
       → Marked (addressAt deck j) p m m′ d → getElem? (codeOf deck) p ≡ some (doInstr deck DOI (record { position = j; last = g; variable = v }))
       → At (codeOf deck) (suc p) (map (doInstr deck DOE) (endings deck number)) → suc p + length (endings deck number) ≡ addressAt deck (suc j)
@@ -202,8 +204,8 @@ module _ (house : House) {deck : List Statement} (sound : Sound deck) {j lost m 
   module _ (g : ℕ) (v : Name) {p₁ p₂ p₃ : ℕ} (i : Among (record { position = j; last = g; variable = v }) (dosOf deck)) (e : isEnd f ≡ false) (l₁ : addressAt deck j ≤ p₁) (l₂ : p₁ ≤ p₂) (l₃ : p₂ ≤ p₃)
       (a : getElem? (codeOf deck) p₃ ≡ some (doInstr deck DOI (record { position = j; last = g; variable = v })))
       (b : At (codeOf deck) (suc p₃) (map (doInstr deck DOE) (endings deck number))) (l : suc p₃ + length (endings deck number) ≡ addressAt deck (suc j)) where
-    third-sim : (x w : ℤ) (d₁ d₂ : Bool) (n₁ n₂ : ℕ) {n₃ m′ : ℕ} {r : Evaluated} → Runs house deck (n₁ + n₂) (state (addressAt deck j) [] c m) (go (state p₂ (w ∷ x ∷ []) c m′)) → addressAt deck j + (n₁ + n₂) ≡ p₂
-        → Marked (addressAt deck j) p₂ m m′ (d₁ || d₂) → Gives house deck p₂ p₃ (w ∷ x ∷ []) c m′ n₃ r
+    third-sim : (x w : ℤ) (d₁ d₂ : Loss) (n₁ n₂ : ℕ) {n₃ m′ : ℕ} {r : Evaluated} → Runs house deck (n₁ + n₂) (state (addressAt deck j) [] c m) (go (state p₂ (w ∷ x ∷ []) c m′)) → addressAt deck j + (n₁ + n₂) ≡ p₂
+        → Marked (addressAt deck j) p₂ m m′ (numbers.first d₁ d₂) → Gives house deck p₂ p₃ (w ∷ x ∷ []) c m′ n₃ r
         → Sim house deck j (state (addressAt deck j) [] c m) (readSteps deck (endings deck number) j env inside v (val x d₁) (val w d₂) r n₁ n₂ n₃) (read deck (endings deck number) (standing j env inside lost) v (val x d₁) (val w d₂) r)
     third-sim x w d₁ d₂ n₁ n₂ r y q (gives {v = z} r′ y′ q′) =
         begun-sim g v (allPositive x w z) i e refl (and-then r r′) (omega arith) (marked-then (widen (omega arith) l₃ q) (widen (omega arith) (omega arith) q′)) a b l
@@ -211,7 +213,7 @@ module _ (house : House) {deck : List Statement} (sound : Sound deck) {j lost m 
         halts {p = o} (and-then r r′) (omega arith) (omega arith) (st .holds)
         (same-mark j (omega arith) (omega arith) (marked-then (widen (omega arith) l₃ q) (widen {lo = addressAt deck j} {hi = p₃} (omega arith) (omega arith) q′)) (st .mark))
 
-    second-sim : (x : ℤ) (d₁ : Bool) {n₁ n₂ n₃ m′ : ℕ} {r r₃ : Evaluated} → Runs house deck n₁ (state (addressAt deck j) [] c m) (go (state p₁ (x ∷ []) c m′)) → addressAt deck j + n₁ ≡ p₁
+    second-sim : (x : ℤ) (d₁ : Loss) {n₁ n₂ n₃ m′ : ℕ} {r r₃ : Evaluated} → Runs house deck n₁ (state (addressAt deck j) [] c m) (go (state p₁ (x ∷ []) c m′)) → addressAt deck j + n₁ ≡ p₁
         → Marked (addressAt deck j) p₁ m m′ d₁ → Gives house deck p₁ p₂ (x ∷ []) c m′ n₂ r → ((w : ℤ) (m′ : ℕ) → Gives house deck p₂ p₃ (w ∷ x ∷ []) c m′ n₃ r₃)
         → Sim house deck j (state (addressAt deck j) [] c m) (readSteps deck (endings deck number) j env inside v (val x d₁) r r₃ n₁ n₂ n₃) (read deck (endings deck number) (standing j env inside lost) v (val x d₁) r r₃)
     second-sim x d₁ {n₁} {n₂} r y q (gives {v = w} {b = d₂} r′ y′ q′) g₃ =

@@ -2,7 +2,7 @@
 -- Assumes nothing.
 use mathlib.Core.Path.{refl}
 use Rattle.rules_deck.specs.Worked.{decks, DecksRight}
-use Rattle.number.specs.Number.{ceiling, fits, keep, drops, kept, divided, apply}
+use Rattle.number.specs.Number.{digitsRule, fits, keep, drops, kept, divided, apply}
 use Rattle.rules_object.specs.Halts.{haltNumber}
 use Rattle.rules_shared.specs.Choose.{place, turn}
 use Rattle.rules_object.specs.Bytes.{signedOf, signedWord, objectWords, objectBytes, readObject}
@@ -27,5 +27,5 @@ use Rattle.rules_deck.specs.Seen.{meaningOf, deckNames, deckDims, deckLe
 use Rattle.rules_deck.specs.Answers.{answered, meant}
 
 pub decks-right : DecksRight decks
-unfolding ceiling fits keep drops kept divided apply haltNumber place turn signedOf signedWord objectWords objectBytes readObject operationOf operandOf decode step right41 rightConstant rightElement rightLoop rightLine rightNamed right43 flowOf entryRight benchStep heights refused42 refused43 checked checking taken given right50 right51 right52 sequenceOf running benching write mapOf mapping valueOf formNames formConstants formExits formLast formLevels cardsOf comment firstCard character textOf numberOf rightNumber wrongCard afterCard rightDigits rightLength carded isLetterOrDigit give giveIf ahead follow andThen after afterWord choose starts startsDigit allOf whole run digitRun nameRun bytesTaken number name listedUpTo listed addend linearOf subscript subscripts targetRead operandRead operand sign signed sumOp productOp joined more grammarStep parseIn enough parse expression assignment plainGoTo rightExits computedGoTo arithmeticIf parameter doLoop arrayShape dimensions readAssignment readGoTo readComputed readIf readDo readContinue readStop readEnd readDimension present readings firstOf formOf dosOf endings dimsOf meaningStep meaning cellOf baseOf limitOf formPlain heldOf words addressAt codeOf wordOf translate right11 right12 right13 right14 right15 formReferences right16 formPooled formWords formExitWords takes right18 judgeForm refused20 right21 right22 right24 formSets right25 judgeDeck deckOf compiling meaningOf deckNames deckDims deckLevels objectIn namedCell namedValues rightStore series answered meant
+unfolding digitsRule fits keep drops kept divided apply haltNumber place turn signedOf signedWord objectWords objectBytes readObject operationOf operandOf decode step right41 rightConstant rightElement rightLoop rightLine rightNamed right43 flowOf entryRight benchStep heights refused42 refused43 checked checking taken given right50 right51 right52 sequenceOf running benching write mapOf mapping valueOf formNames formConstants formExits formLast formLevels cardsOf comment firstCard character textOf numberOf rightNumber wrongCard afterCard rightDigits rightLength carded isLetterOrDigit give giveIf ahead follow andThen after afterWord choose starts startsDigit allOf whole run digitRun nameRun bytesTaken number name listedUpTo listed addend linearOf subscript subscripts targetRead operandRead operand sign signed sumOp productOp joined more grammarStep parseIn enough parse expression assignment plainGoTo rightExits computedGoTo arithmeticIf parameter doLoop arrayShape dimensions readAssignment readGoTo readComputed readIf readDo readContinue readStop readEnd readDimension present readings firstOf formOf dosOf endings dimsOf meaningStep meaning cellOf baseOf limitOf formPlain heldOf words addressAt codeOf wordOf translate right11 right12 right13 right14 right15 formReferences right16 formPooled formWords formExitWords takes right18 judgeForm refused20 right21 right22 right24 formSets right25 judgeDeck deckOf compiling meaningOf deckNames deckDims deckLevels objectIn namedCell namedValues rightStore series answered meant
 decks-right = (record { means = refl; runs = refl }, (record { means = refl; runs = refl }, (record { means = refl; runs = refl }, (record { means = refl; runs = refl }, (record { means = refl; runs = refl }, (record { means = refl; runs = refl }, (record { means = refl; runs = refl }, (record { means = refl; runs = refl }, (record { means = refl; runs = refl }, (record { means = refl; runs = refl }, tt))))))))))

@@ -10,7 +10,6 @@ use mathlib.Core.Option.{some}
 use lib.Dec.{leb, eqb}
 use lib.ListN.{length, getElem?}
 use borrow.Author.Tests.{leb-true}
-use Rattle.number.specs.Number.{ceiling}
 use Rattle.rules_shared.specs.Limits.{limits}
 use Rattle.rules_shared.specs.House.{House}
 use Rattle.rules_object.specs.Object.{Element, Loop, Line, Named}
@@ -148,7 +147,7 @@ module _ {house : House} {deck : List Statement} (accepted : Accepted house deck
 
   -- what numbers stay below
   abbrev m : ℕ
-  m = ceiling (house .rule)
+  m = house .rule .ceiling
 
   pub most : m ≤ 1000000000
   most = accepted .lawful .constants (accepted .digits) .1

@@ -3,7 +3,6 @@
 use mathlib.Core.Path.{_≡_}
 use Prim.Native.Nat.{ℕ, _+_, _*_, _^_, _≤_}
 use mathlib.Core.Bool.{true, false}
-use Rattle.number.specs.Number.{ceiling}
 use Rattle.rules_shared.specs.Limits.{limits}
 use Rattle.rules_shared.specs.House.{House}
 use Rattle.rules_object.specs.Object.{Object, ruleOf}
@@ -15,7 +14,7 @@ pub record Lawful (house : House) : Type 0 where
   -- digits that pass 1 pass 41
   pub digits : rightDigits house ≡ true → (1 ≤ house .digits) × (house .digits ≤ limits .digits)
   -- and a constant that passes 12 fits, in a word too
-  pub constants : rightDigits house ≡ true → (10 ^ house .digits ≤ ceiling (house .rule)) × (ceiling (house .rule) ≤ 1000000000)
+  pub constants : rightDigits house ≡ true → (10 ^ house .digits ≤ house .rule .ceiling) × (house .rule .ceiling ≤ 1000000000)
   -- a name passes 42, and has the bytes that its entry has
   pub names : house .nameLength ≤ 6
   pub entries : house .nameBytes ≡ 8

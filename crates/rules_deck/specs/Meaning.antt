@@ -1,13 +1,13 @@
 -- What a deck means: steps on its statements and named values. No object, instruction or machine occurs here. 01 "Meaning".
 -- Assumes nothing.
 use Prim.Native.Nat.{ℕ, suc}
-use mathlib.Core.Bool.{Bool, true, false, _&&_, _||_, cond}
+use mathlib.Core.Bool.{Bool, true, false, _&&_, cond}
 use mathlib.Core.List.{List, [], _∷_}
 use mathlib.Core.Option.{Option, none, some}
 use lib.Dec.{eqb}
 use lib.ListN.{getElem?}
 use lib.IntN.{ℤ, pos, negℤ}
-use Rattle.number.specs.Number.{Rule, Op, Result, value, byZero, apply}
+use Rattle.number.specs.Number.{Rule, Op, Result, value, byZero, apply, Loss, nothingLost, first, Trouble, trouble}
 use Rattle.rules_shared.specs.Runs.{Outcome, go, halt, run}
 use Rattle.rules_shared.specs.Choose.{sign3, exit, SubscriptParts, constantParts, place, allPositive, Turn, again, over, turn, marked}
 use Rattle.rules_deck.specs.Trees.{Name, Digits, valueOf, Addend, nothing, plus, minus, Subscript, constant, linear, Subscripts, one, two, Expr, con, var, elm, neg, par, bin, Target, cell, element, Form, assign, goTo, computed, ifs, loop, continue, stop, end, dimension, Statement}
@@ -40,10 +40,10 @@ put values x v y = cond (sameKey x y) v (values y)
 
 -- ---- expressions
 
--- a value, or a halt; and whether digits were dropped on the way
+-- a value, or a halt; and what was lost first on the way
 pub data Evaluated : Type 0 where
-  val : ℤ → Bool → Evaluated
-  bad : Cause → Bool → Evaluated
+  val : ℤ → Loss → Evaluated
+  bad : Cause → Loss → Evaluated
 
 -- a subscript's parts
 abbrev pub times : Option Digits → ℕ
@@ -65,13 +65,16 @@ placeIn values d (one s) = place (d .rows) (width (d .columns)) (subscript value
 placeIn values d (two s t) = place (d .rows) (width (d .columns)) (subscript values s) (subscript values t)
 
 abbrev pub elementValue : Values → Name → Option ℕ → Evaluated
-elementValue values v none = bad wrongSubscript false
-elementValue values v (some p) = val (values (elementAt v p)) false
+elementValue values v none = bad wrongSubscript nothingLost
+elementValue values v (some p) = val (values (elementAt v p)) nothingLost
 
--- what was dropped before counts too
-abbrev pub after : Bool → Result → Evaluated
-after lost (value v more) = val v (lost || more)
-after lost byZero = bad zeroDivisor lost
+abbrev pub causeOf : Trouble → Cause
+causeOf byZero = zeroDivisor
+
+-- what was lost before counts too
+abbrev pub after : Loss → Result → Evaluated
+after lost (value v more) = val v (first lost more)
+after lost (trouble w) = bad (causeOf w) lost
 
 abbrev pub negated : Evaluated → Evaluated
 negated (val v lost) = val (negℤ v) lost
@@ -80,12 +83,12 @@ negated (bad h lost) = bad h lost
 -- left to right
 abbrev pub joined : Rule → Op → Evaluated → Evaluated → Evaluated
 joined r o (bad h lost) y = bad h lost
-joined r o (val v lost) (bad h more) = bad h (lost || more)
-joined r o (val v lost) (val w more) = after (lost || more) (apply r o v w)
+joined r o (val v lost) (bad h more) = bad h (first lost more)
+joined r o (val v lost) (val w more) = after (first lost more) (apply r o v w)
 
 abbrev pub eval : Rule → List Statement → Values → Expr → Evaluated
-eval r deck values (con c) = val (pos (valueOf c)) false
-eval r deck values (var v) = val (values (plain v)) false
+eval r deck values (con c) = val (pos (valueOf c)) nothingLost
+eval r deck values (var v) = val (values (plain v)) nothingLost
 eval r deck values (elm v s) = elementValue values v (placeIn values (dimsOf deck v) s)
 eval r deck values (neg e) = negated (eval r deck values e)
 eval r deck values (par e) = eval r deck values e
@@ -122,8 +125,8 @@ enter inside q b p = cond (eqb q p) b (inside p)
 abbrev pub entering : Bounds → Standing → Standing
 entering b s = record { at = s .at; values = s .values; entered = enter (s .entered) (s .at) b; lost = s .lost }
 
--- told whether its statement dropped digits
-abbrev pub losing : Bool → Standing → Standing
+-- told what its statement lost
+abbrev pub losing : Loss → Standing → Standing
 losing more s = record { at = s .at; values = s .values; entered = s .entered; lost = marked (s .lost) more (s .at) }
 
 -- At the body's end: the variable takes the sum and the body repeats, or it stays and the outer DOs follow.
@@ -142,11 +145,11 @@ finish (d ∷ ds) s = endOf (s .entered (d .position)) d s (finish ds s)
 
 module _ (deck : List Statement) (ends : List Do) (s : Standing) where
   -- a halt leaves the values as they are; what was dropped before it stands
-  abbrev pub halted : Cause → Bool → Outcome Cause Standing
+  abbrev pub halted : Cause → Loss → Outcome Cause Standing
   halted h more = halt h (losing more s)
 
   -- the value is worked first, then the target's subscripts
-  abbrev pub stored : Name → ℤ → Bool → Option ℕ → Outcome Cause Standing
+  abbrev pub stored : Name → ℤ → Loss → Option ℕ → Outcome Cause Standing
   stored v x more none = halted wrongSubscript more
   stored v x more (some p) = finish ends (setting (elementAt v p) x (losing more s))
 
@@ -155,7 +158,7 @@ module _ (deck : List Statement) (ends : List Do) (s : Standing) where
   assigned (cell v) (val x more) = finish ends (setting (plain v) x (losing more s))
   assigned (element v ss) (val x more) = stored v x more (placeIn (s .values) (dimsOf deck v) ss)
 
-  abbrev pub goesTo : Digits → Bool → Outcome Cause Standing
+  abbrev pub goesTo : Digits → Loss → Outcome Cause Standing
   goesTo n more = go (goingTo (positionOf deck (valueOf n)) (losing more s))
 
   abbrev pub tested : Digits → Digits → Digits → Evaluated → Outcome Cause Standing
@@ -163,19 +166,19 @@ module _ (deck : List Statement) (ends : List Do) (s : Standing) where
   tested a b c (val x more) = goesTo (sign3 x a b c) more
 
   abbrev pub chosen : Option Digits → Outcome Cause Standing
-  chosen none = halted wrongExit false
-  chosen (some n) = goesTo n false
+  chosen none = halted wrongExit nothingLost
+  chosen (some n) = goesTo n nothingLost
 
   -- all parameters must exceed 0
-  abbrev pub begun : Name → Bool → ℤ → ℤ → ℤ → Bool → Outcome Cause Standing
+  abbrev pub begun : Name → Bool → ℤ → ℤ → ℤ → Loss → Outcome Cause Standing
   begun v false m₁ m₂ m₃ more = halted wrongParameter more
   begun v true m₁ m₂ m₃ more = finish ends (entering (bounds m₂ m₃) (setting (plain v) m₁ (losing more s)))
 
   abbrev pub read : Name → Evaluated → Evaluated → Evaluated → Outcome Cause Standing
   read v (bad h more) e₂ e₃ = halted h more
-  read v (val m₁ a) (bad h more) e₃ = halted h (a || more)
-  read v (val m₁ a) (val m₂ b) (bad h more) = halted h ((a || b) || more)
-  read v (val m₁ a) (val m₂ b) (val m₃ c) = begun v (allPositive m₁ m₂ m₃) m₁ m₂ m₃ ((a || b) || c)
+  read v (val m₁ a) (bad h more) e₃ = halted h (first a more)
+  read v (val m₁ a) (val m₂ b) (bad h more) = halted h (first (first a b) more)
+  read v (val m₁ a) (val m₂ b) (val m₃ c) = begun v (allPositive m₁ m₂ m₃) m₁ m₂ m₃ (first (first a b) c)
 
 -- a missing third parameter is the constant 1
 abbrev pub third : Option Expr → Expr
@@ -184,7 +187,7 @@ third (some e) = e
 
 abbrev pub exec : Rule → List Statement → List Do → Standing → Form → Outcome Cause Standing
 exec r deck ends s (assign t e) = assigned deck ends s t (eval r deck (s .values) e)
-exec r deck ends s (goTo n) = goesTo deck ends s n false
+exec r deck ends s (goTo n) = goesTo deck ends s n nothingLost
 exec r deck ends s (computed ns v) = chosen deck ends s (exit ns (s .values (plain v)))
 exec r deck ends s (ifs e a b c) = tested deck ends s a b c (eval r deck (s .values) e)
 exec r deck ends s (loop n v p₁ p₂ p₃) = read deck ends s v (eval r deck (s .values) p₁) (eval r deck (s .values) p₂) (eval r deck (s .values) (third p₃))

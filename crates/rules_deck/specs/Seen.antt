@@ -8,6 +8,7 @@ use lib.Dec.{ltb, eqb, leb}
 use lib.ListN.{take}
 use lib.IntN.{ℤ, pos}
 use Rattle.rules_shared.specs.House.{House}
+use Rattle.number.specs.Number.{digitsRule}
 use Rattle.rules_shared.specs.Runs.{Outcome}
 use Rattle.rules_object.specs.Halts.{Halt, atStop, atEnd, divideByZero, badSubscript, badExit, badParameter}
 use Rattle.rules_object.specs.Object.{Named, Object}

@@ -7,7 +7,7 @@ use mathlib.Core.Option.{Option, none, some}
 use Prim.Native.Nat.{ℕ}
 use lib.ListN.{getD}
 use lib.IntN.{ℤ}
-use Rattle.number.specs.Number.{Rule, Result, value, byZero, apply}
+use Rattle.number.specs.Number.{Rule, Result, value, trouble, apply}
 use Rattle.rules_shared.specs.Runs.{go, halt}
 use Rattle.rules_object.specs.Halts.{Halt, badStack, badInstruction, Out}
 use Rattle.rules_shared.specs.Choose.{exit, positive, allPositive, Turn, again, over, turn}
@@ -24,7 +24,7 @@ module _ (t : State) where
 
   operated-there : (r : Result) (s : List ℤ) → There (operated r t s)
   operated-there (value v lost) s = tt
-  operated-there byZero s = refl
+  operated-there (trouble w) s = refl
 
   loaded-there : (p : Option ℕ) (e : Element) → There (elementLoaded p e t)
   loaded-there none e = refl

@@ -5,7 +5,7 @@ use mathlib.Core.List.{List, [], _∷_, _++_}
 use Prim.Native.Nat.{ℕ}
 use lib.ListN.{replicate}
 use lib.IntN.{pos}
-use Rattle.number.specs.Number.{ceiling, fits}
+use Rattle.number.specs.Number.{digitsRule, fits}
 use Rattle.rules_object.specs.Object.{Object}
 use Rattle.rules_object.specs.Check.{right41, rightConstant, rightElement, rightLoop, rightLine, rightNamed}
 use Rattle.rules_object.specs.Operations.{operationOf, operandOf, decode, right43, flowOf}
@@ -63,7 +63,7 @@ limits-41 : Agree
     ∷ (judges (object 4096 [] [] [] [] stop), accepted)
     ∷ (judges (object 4097 [] [] [] [] stop), refusal 41 0 0)
     ∷ [])
-unfolding checking checked objectBytes objectWords signedWord readObject signedOf right41 refused42 refused43 rightConstant rightElement rightLoop rightLine rightNamed right43 flowOf heights decode operationOf operandOf fits ceiling
+unfolding checking checked objectBytes objectWords signedWord readObject signedOf right41 refused42 refused43 rightConstant rightElement rightLoop rightLine rightNamed right43 flowOf heights decode operationOf operandOf fits digitsRule
 limits-41 = refl
 
 -- one of everything, and the word second, where it is never reached
@@ -102,7 +102,7 @@ operands-43 : Agree
     ∷ (second (wordDOE 0), accepted)
     ∷ (second (wordDOE 1), refusal 43 1 5)
     ∷ [])
-unfolding checking checked objectBytes objectWords signedWord readObject signedOf right41 refused42 refused43 rightConstant rightElement rightLoop rightLine rightNamed right43 flowOf heights decode operationOf operandOf fits ceiling
+unfolding checking checked objectBytes objectWords signedWord readObject signedOf right41 refused42 refused43 rightConstant rightElement rightLoop rightLine rightNamed right43 flowOf heights decode operationOf operandOf fits digitsRule
 operands-43 = refl
 
 -- ---- the map
@@ -125,5 +125,5 @@ maps : Agree
     ∷ (mapping (objectBytes (codeOnly stop)) [], answered accepted 0 [])
     ∷ (mapping (objectBytes (codeOnly (wordJMP 1 ∷ []))) (replicate 3 9), answered (refusal 43 0 5) 0 (replicate 3 9))
     ∷ [])
-unfolding mapping write mapOf checked objectBytes objectWords signedWord readObject signedOf right41 refused42 refused43 rightConstant rightElement rightLoop rightLine rightNamed right43 flowOf heights decode operationOf operandOf fits ceiling
+unfolding mapping write mapOf checked objectBytes objectWords signedWord readObject signedOf right41 refused42 refused43 rightConstant rightElement rightLoop rightLine rightNamed right43 flowOf heights decode operationOf operandOf fits digitsRule
 maps = refl

@@ -9,8 +9,7 @@ use lib.Dec.{T, ltb, leb→le, ltb→lt, nltb→le}
 use lib.ListN.{length, set}
 use lib.IntN.{ℤ, pos, negsuc, natAbs, _+ℤ_, subℕ}
 use lib.Signed.{leZ}
-use Rattle.number.specs.Number.{ceiling}
-use Rattle.number.proofs.Laws.{ceiling-pos}
+use Rattle.number.proofs.Laws.{digits-some}
 use Rattle.rules_object.specs.Object.{Object, ruleOf}
 use Rattle.rules_object.specs.Machine.{cell, top, under}
 use Rattle.rules_shared.specs.Choose.{positive, Turn, again, over, turn}
@@ -19,7 +18,7 @@ use Rattle.rules_shared.specs.Lists.{Each, each-none, each-more}
 
 module _ (o : Object) where
   pub zero-within : Within o (pos 0)
-  zero-within = ceiling-pos (ruleOf o)
+  zero-within = digits-some (o .digits)
 
   pub top-within : (s : List ℤ) → Each (Within o) s → Within o (top s)
   top-within [] h = zero-within
@@ -40,10 +39,10 @@ module _ (o : Object) where
       by (z ∷ c) (suc a) (suc b) h = by c a b h
 
   -- the end of a turn: the sum is exact, and is taken only where the limit allows it
-  sub-within : (b a : ℕ) → b < ceiling (ruleOf o) → a < ceiling (ruleOf o) → Within o (subℕ b a)
+  sub-within : (b a : ℕ) → b < ruleOf o .ceiling → a < ruleOf o .ceiling → Within o (subℕ b a)
   sub-within b a h g = by (ltb b a) (ltb→lt b a) (nltb→le b a)
     where
-      by : (t : Bool) → (T t → b < a) → (T (not t) → a ≤ b) → natAbs (cond t (negsuc (a - suc b)) (pos (b - a))) < ceiling (ruleOf o)
+      by : (t : Bool) → (T t → b < a) → (T (not t) → a ≤ b) → natAbs (cond t (negsuc (a - suc b)) (pos (b - a))) < ruleOf o .ceiling
       by true f f′ = omega (arith, f tt)
       by false f f′ = omega arith
 

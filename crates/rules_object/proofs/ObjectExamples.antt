@@ -4,7 +4,7 @@ use mathlib.Core.Path.{_≡_, refl}
 use mathlib.Core.List.{List, [], _∷_, _++_, map}
 use lib.ListN.{set}
 use lib.IntN.{pos, negsuc}
-use Rattle.number.specs.Number.{ceiling, fits}
+use Rattle.number.specs.Number.{digitsRule, fits}
 use Rattle.rules_object.specs.Object.{Object}
 use Rattle.rules_object.specs.Check.{right41, rightConstant, rightElement, rightLoop, rightLine, rightNamed}
 use Rattle.rules_object.specs.Operations.{operationOf, operandOf, decode, right43, flowOf}
@@ -20,19 +20,19 @@ judges o = checking (objectBytes o)
 -- ---- P9 to P12
 
 pub p9 : checking (objectBytes (codeOnly (wordADD 0 ∷ wordHLT 0 ∷ []))) ≡ refusal 44 0 0
-unfolding checking checked objectBytes objectWords signedWord readObject signedOf right41 refused42 refused43 rightConstant rightElement rightLoop rightLine rightNamed right43 flowOf heights decode operationOf operandOf fits ceiling
+unfolding checking checked objectBytes objectWords signedWord readObject signedOf right41 refused42 refused43 rightConstant rightElement rightLoop rightLine rightNamed right43 flowOf heights decode operationOf operandOf fits digitsRule
 p9 = refl
 
 pub p10 : checking (objectBytes (codeOnly (wordHLT 0 ∷ wordADD 0 ∷ []))) ≡ accepted
-unfolding checking checked objectBytes objectWords signedWord readObject signedOf right41 refused42 refused43 rightConstant rightElement rightLoop rightLine rightNamed right43 flowOf heights decode operationOf operandOf fits ceiling
+unfolding checking checked objectBytes objectWords signedWord readObject signedOf right41 refused42 refused43 rightConstant rightElement rightLoop rightLine rightNamed right43 flowOf heights decode operationOf operandOf fits digitsRule
 p10 = refl
 
 pub p11 : checking (objectBytes (object 0 (1 ∷ []) [] [] [] (wordCON 0 ∷ wordJMP 0 ∷ []))) ≡ refusal 44 0 0
-unfolding checking checked objectBytes objectWords signedWord readObject signedOf right41 refused42 refused43 rightConstant rightElement rightLoop rightLine rightNamed right43 flowOf heights decode operationOf operandOf fits ceiling
+unfolding checking checked objectBytes objectWords signedWord readObject signedOf right41 refused42 refused43 rightConstant rightElement rightLoop rightLine rightNamed right43 flowOf heights decode operationOf operandOf fits digitsRule
 p11 = refl
 
 pub p12 : checking (objectBytes (codeOnly (wordJMP 0 ∷ []))) ≡ accepted
-unfolding checking checked objectBytes objectWords signedWord readObject signedOf right41 refused42 refused43 rightConstant rightElement rightLoop rightLine rightNamed right43 flowOf heights decode operationOf operandOf fits ceiling
+unfolding checking checked objectBytes objectWords signedWord readObject signedOf right41 refused42 refused43 rightConstant rightElement rightLoop rightLine rightNamed right43 flowOf heights decode operationOf operandOf fits digitsRule
 p12 = refl
 
 -- ---- what each is, and what it should be
@@ -46,7 +46,7 @@ checks-g1 : Agree
     ∷ (checking (objectBytes (codeOnly (wordHLT 0 ∷ [])) ++ (0 ∷ [])), refusal 40 0 0)
     ∷ (checking (objectBytes (codeOnly (wordHLT 0 ∷ [])) ++ (0 ∷ 0 ∷ 0 ∷ 0 ∷ [])), refusal 40 0 0)
     ∷ [])
-unfolding checking checked objectBytes objectWords signedWord readObject signedOf right41 refused42 refused43 rightConstant rightElement rightLoop rightLine rightNamed right43 flowOf heights decode operationOf operandOf fits ceiling
+unfolding checking checked objectBytes objectWords signedWord readObject signedOf right41 refused42 refused43 rightConstant rightElement rightLoop rightLine rightNamed right43 flowOf heights decode operationOf operandOf fits digitsRule
 checks-g1 = refl
 
 checks-g2 : Agree
@@ -59,13 +59,13 @@ checks-g2 : Agree
     ∷ (checking (bytesOf (set (objectWords (codeOnly (wordHLT 0 ∷ []))) 5 0)), refusal 40 0 0)
     ∷ (judges (object 0 (1 ∷ []) [] [] [] []), refusal 40 0 0)
     ∷ [])
-unfolding checking checked objectBytes objectWords signedWord readObject signedOf right41 refused42 refused43 rightConstant rightElement rightLoop rightLine rightNamed right43 flowOf heights decode operationOf operandOf fits ceiling
+unfolding checking checked objectBytes objectWords signedWord readObject signedOf right41 refused42 refused43 rightConstant rightElement rightLoop rightLine rightNamed right43 flowOf heights decode operationOf operandOf fits digitsRule
 checks-g2 = refl
 
 checks-g3 : Agree
     ((judges (codeOnly (wordHLT 1 ∷ [])), accepted)
     ∷ [])
-unfolding checking checked objectBytes objectWords signedWord readObject signedOf right41 refused42 refused43 rightConstant rightElement rightLoop rightLine rightNamed right43 flowOf heights decode operationOf operandOf fits ceiling
+unfolding checking checked objectBytes objectWords signedWord readObject signedOf right41 refused42 refused43 rightConstant rightElement rightLoop rightLine rightNamed right43 flowOf heights decode operationOf operandOf fits digitsRule
 checks-g3 = refl
 
 checks-g4 : Agree
@@ -76,7 +76,7 @@ checks-g4 : Agree
     ∷ (judges (object 1 [] (element 0 1 1 1 0 (negsuc 99999) 0 0 (pos 1) ∷ []) [] [] (wordHLT 0 ∷ [])), refusal 42 0 2)
     ∷ (judges (object 1 [] (element 0 1 1 1 0 (negsuc 2147483647) 0 0 (pos 1) ∷ []) [] [] (wordHLT 0 ∷ [])), refusal 42 0 2)
     ∷ [])
-unfolding checking checked objectBytes objectWords signedWord readObject signedOf right41 refused42 refused43 rightConstant rightElement rightLoop rightLine rightNamed right43 flowOf heights decode operationOf operandOf fits ceiling
+unfolding checking checked objectBytes objectWords signedWord readObject signedOf right41 refused42 refused43 rightConstant rightElement rightLoop rightLine rightNamed right43 flowOf heights decode operationOf operandOf fits digitsRule
 checks-g4 = refl
 
 checks-g5 : Agree
@@ -87,7 +87,7 @@ checks-g5 : Agree
     ∷ (judges (object 4 [] (element 0 2 2 0 4 (pos 1) 0 0 (pos 1) ∷ []) [] [] (wordHLT 0 ∷ [])), refusal 42 0 2)
     ∷ (judges (object 0 [] (element 0 1 1 0 0 (pos 1) 0 0 (pos 1) ∷ []) [] [] (wordHLT 0 ∷ [])), refusal 42 0 2)
     ∷ [])
-unfolding checking checked objectBytes objectWords signedWord readObject signedOf right41 refused42 refused43 rightConstant rightElement rightLoop rightLine rightNamed right43 flowOf heights decode operationOf operandOf fits ceiling
+unfolding checking checked objectBytes objectWords signedWord readObject signedOf right41 refused42 refused43 rightConstant rightElement rightLoop rightLine rightNamed right43 flowOf heights decode operationOf operandOf fits digitsRule
 checks-g5 = refl
 
 checks-g6 : Agree
@@ -100,7 +100,7 @@ checks-g6 : Agree
     ∷ (judges (withNames (named (73 ∷ 74 ∷ 75 ∷ 76 ∷ 77 ∷ 78 ∷ 79 ∷ []) 0 0 0 ∷ []) (object 1 [] [] [] [] (wordHLT 0 ∷ []))), refusal 42 0 7)
     ∷ (judges (withNames (named (72 ∷ 73 ∷ []) 0 0 0 ∷ []) (object 1 [] [] [] [] (wordHLT 0 ∷ []))), refusal 42 0 7)
     ∷ [])
-unfolding checking checked objectBytes objectWords signedWord readObject signedOf right41 refused42 refused43 rightConstant rightElement rightLoop rightLine rightNamed right43 flowOf heights decode operationOf operandOf fits ceiling
+unfolding checking checked objectBytes objectWords signedWord readObject signedOf right41 refused42 refused43 rightConstant rightElement rightLoop rightLine rightNamed right43 flowOf heights decode operationOf operandOf fits digitsRule
 checks-g6 = refl
 
 checks-g7 : Agree
@@ -108,7 +108,7 @@ checks-g7 : Agree
     ∷ (judges (withNames (named (73 ∷ []) 1 0 0 ∷ []) (withLines (line 1 0 0 ∷ line 2 0 1 ∷ []) (object 1 [] [] [] [] (wordHLT 2 ∷ [])))), refusal 42 1 6)
     ∷ (judges (withLines (line 1 0 9 ∷ []) (object 1 [] [] [] (loop 0 0 0 1 ∷ []) (wordHLT 0 ∷ []))), refusal 42 0 4)
     ∷ [])
-unfolding checking checked objectBytes objectWords signedWord readObject signedOf right41 refused42 refused43 rightConstant rightElement rightLoop rightLine rightNamed right43 flowOf heights decode operationOf operandOf fits ceiling
+unfolding checking checked objectBytes objectWords signedWord readObject signedOf right41 refused42 refused43 rightConstant rightElement rightLoop rightLine rightNamed right43 flowOf heights decode operationOf operandOf fits digitsRule
 checks-g7 = refl
 
 checks-g8 : Agree
@@ -124,7 +124,7 @@ checks-g8 : Agree
     ∷ (judges (object 0 [] [] (2 ∷ 0 ∷ 1 ∷ []) [] (wordHLT 0 ∷ wordBRC 3 ∷ [])), refusal 43 1 5)
     ∷ (judges (object 0 [] [] (2 ∷ 0 ∷ 1 ∷ 99999 ∷ []) [] (wordHLT 0 ∷ wordBRC 0 ∷ [])), accepted)
     ∷ [])
-unfolding checking checked objectBytes objectWords signedWord readObject signedOf right41 refused42 refused43 rightConstant rightElement rightLoop rightLine rightNamed right43 flowOf heights decode operationOf operandOf fits ceiling
+unfolding checking checked objectBytes objectWords signedWord readObject signedOf right41 refused42 refused43 rightConstant rightElement rightLoop rightLine rightNamed right43 flowOf heights decode operationOf operandOf fits digitsRule
 checks-g8 = refl
 
 checks-g9 : Agree
@@ -134,7 +134,7 @@ checks-g9 : Agree
     ∷ (judges (codeOnly (wordHLT 0 ∷ does 16 0 ∷ [])), refusal 43 1 5)
     ∷ (judges (codeOnly (wordHLT 0 ∷ does 255 0 ∷ [])), refusal 43 1 5)
     ∷ [])
-unfolding checking checked objectBytes objectWords signedWord readObject signedOf right41 refused42 refused43 rightConstant rightElement rightLoop rightLine rightNamed right43 flowOf heights decode operationOf operandOf fits ceiling
+unfolding checking checked objectBytes objectWords signedWord readObject signedOf right41 refused42 refused43 rightConstant rightElement rightLoop rightLine rightNamed right43 flowOf heights decode operationOf operandOf fits digitsRule
 checks-g9 = refl
 
 checks-g10 : Agree
@@ -144,5 +144,5 @@ checks-g10 : Agree
     ∷ (judges (object 0 (1 ∷ []) [] [] [] (wordCON 0 ∷ wordHLT 0 ∷ [])), accepted)
     ∷ (judges (object 0 (1 ∷ []) [] (0 ∷ 2 ∷ 2 ∷ []) [] (wordCON 0 ∷ wordBR3 0 ∷ wordHLT 0 ∷ [])), accepted)
     ∷ [])
-unfolding checking checked objectBytes objectWords signedWord readObject signedOf right41 refused42 refused43 rightConstant rightElement rightLoop rightLine rightNamed right43 flowOf heights decode operationOf operandOf fits ceiling
+unfolding checking checked objectBytes objectWords signedWord readObject signedOf right41 refused42 refused43 rightConstant rightElement rightLoop rightLine rightNamed right43 flowOf heights decode operationOf operandOf fits digitsRule
 checks-g10 = refl

@@ -9,7 +9,7 @@ use native.Mathlib.Omega.{arith}
 use lib.ListN.{length, set, length-set, List·getD-append}
 use lib.Seq.{set-append-left}
 use lib.IntN.{ℤ, pos}
-use Rattle.number.specs.Number.{Rule, Result, value, byZero, apply}
+use Rattle.number.specs.Number.{Rule, Result, value, apply, trouble}
 use Rattle.rules_shared.specs.Runs.{go, run, steps}
 use Rattle.rules_object.specs.Halts.{Out}
 use Rattle.rules_shared.specs.Choose.{exit, place, positive, allPositive, Turn, again, over, turn}
@@ -41,7 +41,7 @@ module _ (o : Object) (extra : List ℤ) (t : State) (long : o .cells ≤ length
 
   operated-more : (r : Result) (s : List ℤ) → operated r (withCells extra t) s ≡ more (operated r t s)
   operated-more (value v lost) s = refl
-  operated-more byZero s = refl
+  operated-more (trouble w) s = refl
 
   branched-more : (p : Option ℕ) → branched p (withCells extra t) ≡ more (branched p t)
   branched-more none = refl

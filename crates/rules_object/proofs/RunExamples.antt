@@ -5,7 +5,7 @@ use mathlib.Core.List.{List, [], _∷_, _++_}
 use Prim.Native.Nat.{ℕ}
 use lib.ListN.{replicate, take}
 use lib.IntN.{ℤ, pos, negsuc}
-use Rattle.number.specs.Number.{ceiling, fits, keep, drops, kept, divided, apply}
+use Rattle.number.specs.Number.{digitsRule, fits, keep, drops, kept, divided, apply}
 use Rattle.rules_shared.specs.Limits.{limits}
 use Rattle.rules_object.specs.Halts.{haltNumber}
 use Rattle.rules_shared.specs.Choose.{place, turn}
@@ -86,7 +86,7 @@ operations : Agree
     ∷ (chooses (wordBRC 3) (pos 0), ended 5 2 0 (lends 1 1 0 []) (pos 0 ∷ []))
     ∷ (chooses (wordBRC 3) (negsuc 0), ended 5 2 0 (lends 1 1 0 (negsuc 0 ∷ [])) (negsuc 0 ∷ []))
     ∷ [])
-unfolding checked objectBytes objectWords signedWord readObject signedOf right41 refused42 refused43 rightConstant rightElement rightLoop rightLine rightNamed right43 flowOf heights decode operationOf operandOf fits ceiling place turn step apply kept divided keep drops taken given right50 right51 sequenceOf haltNumber running right52
+unfolding checked objectBytes objectWords signedWord readObject signedOf right41 refused42 refused43 rightConstant rightElement rightLoop rightLine rightNamed right43 flowOf heights decode operationOf operandOf fits digitsRule place turn step apply kept divided keep drops taken given right50 right51 sequenceOf haltNumber running right52
 operations = refl
 
 -- ---- the readings
@@ -96,14 +96,14 @@ runs-h1 : Agree
     ∷ (runs (object 2 [] [] [] [] (wordHLT 0 ∷ [])) (pos 0 ∷ pos 100000 ∷ []) freshLent million, notRun (refusal 51 0 0) freshLent (pos 0 ∷ pos 100000 ∷ []))
     ∷ (runs (object 1 [] [] [] [] (wordHLT 0 ∷ [])) (pos 7 ∷ pos 100000 ∷ []) freshLent million, ended 0 1 0 (lends 0 0 0 []) (pos 7 ∷ pos 100000 ∷ []))
     ∷ [])
-unfolding checked objectBytes objectWords signedWord readObject signedOf right41 refused42 refused43 rightConstant rightElement rightLoop rightLine rightNamed right43 flowOf heights decode operationOf operandOf fits ceiling place turn step apply kept divided keep drops taken given right50 right51 sequenceOf haltNumber running right52
+unfolding checked objectBytes objectWords signedWord readObject signedOf right41 refused42 refused43 rightConstant rightElement rightLoop rightLine rightNamed right43 flowOf heights decode operationOf operandOf fits digitsRule place turn step apply kept divided keep drops taken given right50 right51 sequenceOf haltNumber running right52
 runs-h1 = refl
 
 runs-h2 : Agree
     ((runs (codeOnly (wordHLT 0 ∷ wordADD 0 ∷ wordHLT 0 ∷ [])) [] (lends 1 2 0 (pos 1 ∷ pos 1 ∷ [])) million, notRun (refusal 52 0 0) (lends 1 2 0 (pos 1 ∷ pos 1 ∷ [])) [])
     ∷ (runs (codeOnly (wordHLT 0 ∷ wordHLT 0 ∷ [])) [] (lends 1 0 0 []) million, notRun (refusal 52 0 0) (lends 1 0 0 []) [])
     ∷ [])
-unfolding checked objectBytes objectWords signedWord readObject signedOf right41 refused42 refused43 rightConstant rightElement rightLoop rightLine rightNamed right43 flowOf heights decode operationOf operandOf fits ceiling place turn step apply kept divided keep drops taken given right50 right51 sequenceOf haltNumber running right52
+unfolding checked objectBytes objectWords signedWord readObject signedOf right41 refused42 refused43 rightConstant rightElement rightLoop rightLine rightNamed right43 flowOf heights decode operationOf operandOf fits digitsRule place turn step apply kept divided keep drops taken given right50 right51 sequenceOf haltNumber running right52
 runs-h2 = refl
 
 runs-h3 : Agree
@@ -111,48 +111,48 @@ runs-h3 : Agree
     ∷ (runs (object 1 (1 ∷ []) [] [] [] (wordCON 0 ∷ wordSTO 0 ∷ wordHLT 0 ∷ [])) (pos 0 ∷ []) (lends 1 1 0 (negsuc 99999 ∷ [])) 0, notRun (refusal 52 0 0) (lends 1 1 0 (negsuc 99999 ∷ [])) (pos 0 ∷ []))
     ∷ (runs (object 1 (1 ∷ []) [] [] [] (wordCON 0 ∷ wordSTO 0 ∷ wordHLT 0 ∷ [])) (pos 0 ∷ []) (lends 1 0 0 []) 0, notRun (refusal 52 0 0) (lends 1 0 0 []) (pos 0 ∷ []))
     ∷ [])
-unfolding checked objectBytes objectWords signedWord readObject signedOf right41 refused42 refused43 rightConstant rightElement rightLoop rightLine rightNamed right43 flowOf heights decode operationOf operandOf fits ceiling place turn step apply kept divided keep drops taken given right50 right51 sequenceOf haltNumber running right52
+unfolding checked objectBytes objectWords signedWord readObject signedOf right41 refused42 refused43 rightConstant rightElement rightLoop rightLine rightNamed right43 flowOf heights decode operationOf operandOf fits digitsRule place turn step apply kept divided keep drops taken given right50 right51 sequenceOf haltNumber running right52
 runs-h3 = refl
 
 runs-h4 : Agree
     ((runs (withLines (line 4 0 0 ∷ []) (codeOnly (wordHLT 0 ∷ wordHLT 0 ∷ []))) [] (lends 0 0 2 []) 0, ended 2 0 4 (lends 0 0 2 []) [])
     ∷ (runs (withLines (line 4 0 0 ∷ []) (codeOnly (wordHLT 0 ∷ wordHLT 0 ∷ []))) [] (lends 0 0 3 []) 0, notRun (refusal 52 0 0) (lends 0 0 3 []) [])
     ∷ [])
-unfolding checked objectBytes objectWords signedWord readObject signedOf right41 refused42 refused43 rightConstant rightElement rightLoop rightLine rightNamed right43 flowOf heights decode operationOf operandOf fits ceiling place turn step apply kept divided keep drops taken given right50 right51 sequenceOf haltNumber running right52
+unfolding checked objectBytes objectWords signedWord readObject signedOf right41 refused42 refused43 rightConstant rightElement rightLoop rightLine rightNamed right43 flowOf heights decode operationOf operandOf fits digitsRule place turn step apply kept divided keep drops taken given right50 right51 sequenceOf haltNumber running right52
 runs-h4 = refl
 
 runs-h5 : Agree
     ((runs (codeOnly (wordHLT 0 ∷ [])) [] freshLent million, ended 0 1 0 (lends 0 0 0 []) [])
     ∷ [])
-unfolding checked objectBytes objectWords signedWord readObject signedOf right41 refused42 refused43 rightConstant rightElement rightLoop rightLine rightNamed right43 flowOf heights decode operationOf operandOf fits ceiling place turn step apply kept divided keep drops taken given right50 right51 sequenceOf haltNumber running right52
+unfolding checked objectBytes objectWords signedWord readObject signedOf right41 refused42 refused43 rightConstant rightElement rightLoop rightLine rightNamed right43 flowOf heights decode operationOf operandOf fits digitsRule place turn step apply kept divided keep drops taken given right50 right51 sequenceOf haltNumber running right52
 runs-h5 = refl
 
 runs-i1 : Agree
     ((runs (codeOnly (wordHLT 0 ∷ [])) [] freshLent 0, ended 2 0 0 (lends 0 0 0 []) [])
     ∷ (runs (codeOnly (wordHLT 0 ∷ [])) [] freshLent 1, ended 0 1 0 (lends 0 0 0 []) [])
     ∷ [])
-unfolding checked objectBytes objectWords signedWord readObject signedOf right41 refused42 refused43 rightConstant rightElement rightLoop rightLine rightNamed right43 flowOf heights decode operationOf operandOf fits ceiling place turn step apply kept divided keep drops taken given right50 right51 sequenceOf haltNumber running right52
+unfolding checked objectBytes objectWords signedWord readObject signedOf right41 refused42 refused43 rightConstant rightElement rightLoop rightLine rightNamed right43 flowOf heights decode operationOf operandOf fits digitsRule place turn step apply kept divided keep drops taken given right50 right51 sequenceOf haltNumber running right52
 runs-i1 = refl
 
 runs-i2 : Agree
     ((runs (withLines (line 1 0 0 ∷ line 2 0 3 ∷ []) (object 1 (99999 ∷ []) [] [] [] (wordCON 0 ∷ wordCON 0 ∷ wordADD 0 ∷ wordSTO 0 ∷ wordHLT 0 ∷ []))) (pos 0 ∷ []) (lends 0 0 4 []) million, ended 0 5 2 (lends 4 0 4 []) (pos 99998 ∷ []))
     ∷ (runs (withLines (line 1 0 0 ∷ line 2 0 3 ∷ []) (object 1 (99999 ∷ []) [] [] [] (wordCON 0 ∷ wordCON 0 ∷ wordADD 0 ∷ wordSTO 0 ∷ wordHLT 0 ∷ []))) (pos 0 ∷ []) freshLent million, ended 0 5 1 (lends 4 0 3 []) (pos 99998 ∷ []))
     ∷ [])
-unfolding checked objectBytes objectWords signedWord readObject signedOf right41 refused42 refused43 rightConstant rightElement rightLoop rightLine rightNamed right43 flowOf heights decode operationOf operandOf fits ceiling place turn step apply kept divided keep drops taken given right50 right51 sequenceOf haltNumber running right52
+unfolding checked objectBytes objectWords signedWord readObject signedOf right41 refused42 refused43 rightConstant rightElement rightLoop rightLine rightNamed right43 flowOf heights decode operationOf operandOf fits digitsRule place turn step apply kept divided keep drops taken given right50 right51 sequenceOf haltNumber running right52
 runs-i2 = refl
 
 runs-i3 : Agree
     ((runs (withLines (line 10 0 2 ∷ line 20 0 0 ∷ line 30 0 3 ∷ []) (object 1 (99999 ∷ []) [] [] [] (wordCON 0 ∷ wordCON 0 ∷ wordADD 0 ∷ wordSTO 0 ∷ wordHLT 0 ∷ []))) (pos 0 ∷ []) freshLent million, ended 0 5 20 (lends 4 0 3 []) (pos 99998 ∷ []))
     ∷ (runs (withLines (line 30 0 3 ∷ []) (object 1 (99999 ∷ []) [] [] [] (wordCON 0 ∷ wordCON 0 ∷ wordADD 0 ∷ wordSTO 0 ∷ wordHLT 0 ∷ []))) (pos 0 ∷ []) freshLent million, ended 0 5 0 (lends 4 0 3 []) (pos 99998 ∷ []))
     ∷ [])
-unfolding checked objectBytes objectWords signedWord readObject signedOf right41 refused42 refused43 rightConstant rightElement rightLoop rightLine rightNamed right43 flowOf heights decode operationOf operandOf fits ceiling place turn step apply kept divided keep drops taken given right50 right51 sequenceOf haltNumber running right52
+unfolding checked objectBytes objectWords signedWord readObject signedOf right41 refused42 refused43 rightConstant rightElement rightLoop rightLine rightNamed right43 flowOf heights decode operationOf operandOf fits digitsRule place turn step apply kept divided keep drops taken given right50 right51 sequenceOf haltNumber running right52
 runs-i3 = refl
 
 runs-i4 : Agree
     ((runs (object 1 (1 ∷ 2 ∷ 3 ∷ []) [] [] (loop 0 0 0 0 ∷ []) (wordCON 0 ∷ wordCON 1 ∷ wordCON 2 ∷ wordDOI 0 ∷ wordHLT 0 ∷ [])) (pos 0 ∷ []) freshLent million, ended 0 5 0 (lends 4 0 0 []) (pos 3 ∷ []))
     ∷ (runs (object 3 (1 ∷ 2 ∷ 0 ∷ []) [] [] (loop 0 1 2 0 ∷ []) (wordCON 0 ∷ wordCON 1 ∷ wordCON 2 ∷ wordDOI 0 ∷ wordHLT 0 ∷ [])) (pos 7 ∷ pos 8 ∷ pos 9 ∷ []) freshLent million, ended 6 4 0 (lends 3 3 0 (pos 1 ∷ pos 2 ∷ pos 0 ∷ [])) (pos 7 ∷ pos 8 ∷ pos 9 ∷ []))
     ∷ [])
-unfolding checked objectBytes objectWords signedWord readObject signedOf right41 refused42 refused43 rightConstant rightElement rightLoop rightLine rightNamed right43 flowOf heights decode operationOf operandOf fits ceiling place turn step apply kept divided keep drops taken given right50 right51 sequenceOf haltNumber running right52
+unfolding checked objectBytes objectWords signedWord readObject signedOf right41 refused42 refused43 rightConstant rightElement rightLoop rightLine rightNamed right43 flowOf heights decode operationOf operandOf fits digitsRule place turn step apply kept divided keep drops taken given right50 right51 sequenceOf haltNumber running right52
 runs-i4 = refl
 
 runs-i5 : Agree
@@ -160,7 +160,7 @@ runs-i5 : Agree
     ∷ (runs (object 3 [] [] [] (loop 0 1 2 0 ∷ []) (wordDOE 0 ∷ wordHLT 0 ∷ [])) (negsuc 2 ∷ negsuc 0 ∷ pos 1 ∷ []) freshLent million, ended 0 4 0 (lends 1 0 0 []) (negsuc 0 ∷ negsuc 0 ∷ pos 1 ∷ []))
     ∷ (runs (object 2 [] [] [] (loop 0 1 0 0 ∷ []) (wordDOE 0 ∷ wordHLT 0 ∷ [])) (pos 1 ∷ pos 8 ∷ []) freshLent million, ended 0 5 0 (lends 1 0 0 []) (pos 8 ∷ pos 8 ∷ []))
     ∷ [])
-unfolding checked objectBytes objectWords signedWord readObject signedOf right41 refused42 refused43 rightConstant rightElement rightLoop rightLine rightNamed right43 flowOf heights decode operationOf operandOf fits ceiling place turn step apply kept divided keep drops taken given right50 right51 sequenceOf haltNumber running right52
+unfolding checked objectBytes objectWords signedWord readObject signedOf right41 refused42 refused43 rightConstant rightElement rightLoop rightLine rightNamed right43 flowOf heights decode operationOf operandOf fits digitsRule place turn step apply kept divided keep drops taken given right50 right51 sequenceOf haltNumber running right52
 runs-i5 = refl
 
 benches-j1 : Agree
@@ -169,7 +169,7 @@ benches-j1 : Agree
     ∷ (benches (withDigits 10 (codeOnly (wordHLT 0 ∷ []))) [] million, notRun (refusal 41 0 0) freshLent [])
     ∷ (benches (object 1 [] [] [] [] (wordHLT 0 ∷ [])) [] million, notRun (refusal 50 0 0) freshLent [])
     ∷ [])
-unfolding checked objectBytes objectWords signedWord readObject signedOf right41 refused42 refused43 rightConstant rightElement rightLoop rightLine rightNamed right43 flowOf heights decode operationOf operandOf fits ceiling place turn step apply kept divided keep drops taken given right50 right51 sequenceOf haltNumber benching benchStep entryRight
+unfolding checked objectBytes objectWords signedWord readObject signedOf right41 refused42 refused43 rightConstant rightElement rightLoop rightLine rightNamed right43 flowOf heights decode operationOf operandOf fits digitsRule place turn step apply kept divided keep drops taken given right50 right51 sequenceOf haltNumber benching benchStep entryRight
 benches-j1 = refl
 
 benches-j2 : Agree
@@ -177,14 +177,14 @@ benches-j2 : Agree
     ∷ (benches (object 0 (1 ∷ []) [] (9 ∷ 9 ∷ 2 ∷ []) [] (wordCON 0 ∷ wordBR3 0 ∷ wordHLT 0 ∷ [])) [] million, ended 8 2 0 (lends 1 1 0 (pos 1 ∷ [])) [])
     ∷ (benches (object 1 [] (element 0 1 1 0 0 (pos 9) 0 9 (pos 1) ∷ []) [] [] (wordLDE 0 ∷ wordHLT 0 ∷ [])) (pos 0 ∷ []) million, ended 8 1 0 (lends 0 0 0 []) (pos 0 ∷ []))
     ∷ [])
-unfolding checked objectBytes objectWords signedWord readObject signedOf right41 refused42 refused43 rightConstant rightElement rightLoop rightLine rightNamed right43 flowOf heights decode operationOf operandOf fits ceiling place turn step apply kept divided keep drops taken given right50 right51 sequenceOf haltNumber benching benchStep entryRight
+unfolding checked objectBytes objectWords signedWord readObject signedOf right41 refused42 refused43 rightConstant rightElement rightLoop rightLine rightNamed right43 flowOf heights decode operationOf operandOf fits digitsRule place turn step apply kept divided keep drops taken given right50 right51 sequenceOf haltNumber benching benchStep entryRight
 benches-j2 = refl
 
 benches-j3 : Agree
     ((benches (object 0 (1 ∷ []) [] [] [] (wordCON 0 ∷ [])) [] million, ended 8 2 0 (lends 1 1 0 (pos 1 ∷ [])) [])
     ∷ (benches (codeOnly (wordJMP 5 ∷ [])) [] million, ended 8 1 0 (lends 0 0 0 []) [])
     ∷ [])
-unfolding checked objectBytes objectWords signedWord readObject signedOf right41 refused42 refused43 rightConstant rightElement rightLoop rightLine rightNamed right43 flowOf heights decode operationOf operandOf fits ceiling place turn step apply kept divided keep drops taken given right50 right51 sequenceOf haltNumber benching benchStep entryRight
+unfolding checked objectBytes objectWords signedWord readObject signedOf right41 refused42 refused43 rightConstant rightElement rightLoop rightLine rightNamed right43 flowOf heights decode operationOf operandOf fits digitsRule place turn step apply kept divided keep drops taken given right50 right51 sequenceOf haltNumber benching benchStep entryRight
 benches-j3 = refl
 
 benches-j4 : Agree
@@ -194,17 +194,17 @@ benches-j4 : Agree
     ∷ (benches (object 1 [] (element 0 1 1 0 0 (pos 9) 0 0 (pos 1) ∷ []) [] [] (wordSTE 0 ∷ [])) (pos 0 ∷ []) million, ended 7 1 0 (lends 0 0 0 []) (pos 0 ∷ []))
     ∷ (benches (object 0 (0 ∷ []) [] [] [] (wordCON 0 ∷ wordDIV 0 ∷ [])) [] million, ended 7 2 0 (lends 1 1 0 (pos 0 ∷ [])) [])
     ∷ [])
-unfolding checked objectBytes objectWords signedWord readObject signedOf right41 refused42 refused43 rightConstant rightElement rightLoop rightLine rightNamed right43 flowOf heights decode operationOf operandOf fits ceiling place turn step apply kept divided keep drops taken given right50 right51 sequenceOf haltNumber benching benchStep entryRight
+unfolding checked objectBytes objectWords signedWord readObject signedOf right41 refused42 refused43 rightConstant rightElement rightLoop rightLine rightNamed right43 flowOf heights decode operationOf operandOf fits digitsRule place turn step apply kept divided keep drops taken given right50 right51 sequenceOf haltNumber benching benchStep entryRight
 benches-j4 = refl
 
 benches-j5 : Agree
     ((benches (codeOnly (wordADD 1 ∷ [])) [] 0, ended 2 0 0 (lends 0 0 0 []) [])
     ∷ [])
-unfolding checked objectBytes objectWords signedWord readObject signedOf right41 refused42 refused43 rightConstant rightElement rightLoop rightLine rightNamed right43 flowOf heights decode operationOf operandOf fits ceiling place turn step apply kept divided keep drops taken given right50 right51 sequenceOf haltNumber benching benchStep entryRight
+unfolding checked objectBytes objectWords signedWord readObject signedOf right41 refused42 refused43 rightConstant rightElement rightLoop rightLine rightNamed right43 flowOf heights decode operationOf operandOf fits digitsRule place turn step apply kept divided keep drops taken given right50 right51 sequenceOf haltNumber benching benchStep entryRight
 benches-j5 = refl
 
 benches-j6 : Agree
     ((benches (withLines (line 1 0 0 ∷ line 2 0 99 ∷ []) (object 1 (99999 ∷ []) [] [] [] (wordCON 0 ∷ wordCON 0 ∷ wordADD 0 ∷ wordSTO 0 ∷ wordHLT 0 ∷ []))) (pos 0 ∷ []) million, ended 0 5 1 (lends 4 0 3 []) (pos 99998 ∷ []))
     ∷ [])
-unfolding checked objectBytes objectWords signedWord readObject signedOf right41 refused42 refused43 rightConstant rightElement rightLoop rightLine rightNamed right43 flowOf heights decode operationOf operandOf fits ceiling place turn step apply kept divided keep drops taken given right50 right51 sequenceOf haltNumber benching benchStep entryRight
+unfolding checked objectBytes objectWords signedWord readObject signedOf right41 refused42 refused43 rightConstant rightElement rightLoop rightLine rightNamed right43 flowOf heights decode operationOf operandOf fits digitsRule place turn step apply kept divided keep drops taken given right50 right51 sequenceOf haltNumber benching benchStep entryRight
 benches-j6 = refl

@@ -1,19 +1,19 @@
 -- No fault: a state that stands is right, and each step from it stands again or halts there by no fault; so of whole runs. Promise 6.
 -- Assumes nothing.
 use mathlib.Core.Path.{_≡_, refl, sym, _∙_, subst}
-use mathlib.Core.Bool.{Bool, true, false}
+use mathlib.Core.Bool.{Bool, true, false, cond}
 use mathlib.Core.List.{List, [], _∷_}
 use mathlib.Core.Option.{Option, none, some}
 use Prim.Native.Nat.{ℕ, zero, suc, _+_, _-_, _*_, _≤_, _<_}
 use native.Mathlib.Omega.{arith}
 use lib.ListN.{length, getD, getElem?, set, length-set}
 use lib.IntN.{ℤ, pos, negsuc}
-use Rattle.number.specs.Number.{Op, add, sub, mul, div, Result, value, byZero, apply}
+use Rattle.number.specs.Number.{Op, add, sub, mul, div, Loss, isLoss, byZero, Result, value, trouble, apply}
 use Rattle.number.proofs.Laws.{ResultFits, apply-fits, neg-fits}
 use Rattle.rules_shared.specs.Limits.{limits}
 use Rattle.rules_shared.specs.Runs.{go, halt, run}
 use Rattle.rules_object.specs.Halts.{Halt, haltNumber, Out}
-use Rattle.rules_shared.specs.Choose.{sign3, exit, positive, allPositive, Turn, again, over, turn, marked}
+use Rattle.rules_shared.specs.Choose.{sign3, exit, positive, allPositive, Turn, again, over, turn, firstMark, marked}
 use Rattle.rules_object.specs.Object.{Element, Loop, Object, ruleOf}
 use Rattle.rules_object.specs.Operations.{Instr, HLT, CON, LOD, STO, LDE, STE, OP, NEG, JMP, BR3, BRC, DOI, DOE, pops, pushes, instruction}
 use Rattle.rules_object.specs.Machine.{State, cell, top, under, operated, placeOf, elementLoaded, elementStored, branched, begun, turned, ended, halts, act, step, goingTo, withStack, setting}
@@ -60,10 +60,13 @@ module _ {o : Object} {H : List ℕ} {h : ℕ} where
   exit-led ts (pos (suc n)) f = nth-led ts n f
   exit-led ts (negsuc n) f = tt
 
-marked-inside : (m : ℕ) (lost : Bool) (a n : ℕ) → m ≤ n → a < n → marked m lost a ≤ n
-marked-inside m false a n h l = h
-marked-inside zero true a n h l = omega arith
-marked-inside (suc m) true a n h l = h
+marked-inside : (m : ℕ) (lost : Loss) (a n : ℕ) → m ≤ n → a < n → marked m lost a ≤ n
+marked-inside m lost a n h l = by m (isLoss lost) h
+  where
+    by : (m : ℕ) (b : Bool) → m ≤ n → cond b (firstMark m a) m ≤ n
+    by m false h = h
+    by zero true h = omega arith
+    by (suc m) true h = h
 
 two-one : (p : Op) → (pops (OP p) ≡ 2) × (pushes (OP p) ≡ 1)
 two-one add = (refl, refl)
@@ -111,7 +114,7 @@ module _ (o : Object) (H : List ℕ) (t : State) (s : Stands o H t) where
   unfolding haltNumber
   operated-kept (value v lost) h f l e =
       arrive _ h _ (t .store) (marked (t .mark) lost (t .index)) l (omega arith) (each-more f rest₂) (s .long) (s .store) (marked-inside (t .mark) lost (t .index) _ (s .mark) (s .inside))
-  operated-kept byZero h f l e = omega arith
+  operated-kept (trouble byZero) h f l e = omega arith
 
   loaded-kept : (e : Element) (p : Option ℕ) (h : ℕ) → GoodElement o e → ((q : ℕ) → p ≡ some q → q < e .rows * e .columns) → Led o H (suc (t .index)) h → suc (length (t .stack)) ≡ h → Kept o H (elementLoaded p e t)
   unfolding haltNumber

@@ -10,7 +10,7 @@ use native.Mathlib.Omega.{arith}
 use lib.ListN.{length, set, length-set}
 use lib.Seq.{getD-set-other}
 use lib.IntN.{ℤ, pos}
-use Rattle.number.specs.Number.{Rule, Result, value, byZero, apply}
+use Rattle.number.specs.Number.{Rule, Result, value, apply, trouble}
 use Rattle.rules_object.specs.Halts.{Out}
 use Rattle.rules_shared.specs.Choose.{exit, place, positive, allPositive, Turn, again, over, turn}
 use Rattle.rules_object.specs.Object.{SubscriptEntry, Element, Loop, Object, ruleOf}
@@ -32,7 +32,7 @@ module _ (P : List ℤ → Type 0) (t : State) (start : P (t .store)) where
 
   operated-leaves : (r : Result) (s : List ℤ) → Leaves (operated r t s)
   operated-leaves (value v lost) s = start
-  operated-leaves byZero s = start
+  operated-leaves (trouble w) s = start
 
   loaded-leaves : (e : Element) (p : Option ℕ) → Leaves (elementLoaded p e t)
   loaded-leaves e none = start
@@ -117,7 +117,7 @@ module _ (cells : List ℕ) (index : ℕ) (stack c d : List ℤ) (mark : ℕ) (l
 
   operated-alike : (r : Result) (s : List ℤ) → AlikeIn cells (operated r t s) (operated r u s)
   operated-alike (value v lost) s = moved _ _ _
-  operated-alike byZero s = (refl, moved _ _ _)
+  operated-alike (trouble w) s = (refl, moved _ _ _)
 
   loaded-alike : (e : Element) (p : Option ℕ) → ((x : ℕ) → In x (elementCell e p) → In x cells) → AlikeIn cells (elementLoaded p e t) (elementLoaded p e u)
   loaded-alike e none f = (refl, moved _ _ _)

@@ -7,7 +7,7 @@ use mathlib.Core.Option.{Option, none, some}
 use lib.Dec.{leb}
 use lib.ListN.{length, getD, set}
 use lib.IntN.{ℤ, pos, negℤ}
-use Rattle.number.specs.Number.{Rule, Result, value, byZero, apply}
+use Rattle.number.specs.Number.{Rule, Result, value, byZero, apply, Loss, Trouble, trouble}
 use Rattle.rules_shared.specs.Limits.{limits}
 use Rattle.rules_shared.specs.Runs.{go, halt}
 use Rattle.rules_object.specs.Halts.{Halt, atStop, atEnd, divideByZero, badSubscript, badExit, badParameter, badStack, badInstruction, Out}
@@ -65,16 +65,19 @@ popping t = withStack (under (t .stack)) t
 abbrev pub setting : ℕ → ℤ → State → State
 setting a v t = withStore (set (t .store) a v) t
 
--- told by an instruction whether it dropped digits
-abbrev pub marking : Bool → State → State
+-- told what an instruction lost
+abbrev pub marking : Loss → State → State
 marking lost t = withMark (marked (t .mark) lost (t .index)) t
 
 -- ---- one instruction, with no test of stack, operand or entry
 
+abbrev pub haltFor : Trouble → Halt
+haltFor byZero = divideByZero
+
 -- s is the stack without the operands; a halt leaves all as before the instruction
 abbrev pub operated : Result → State → List ℤ → Out State
 operated (value v lost) t s = go (next (marking lost (pushing v (withStack s t))))
-operated byZero t s = halt divideByZero t
+operated (trouble w) t s = halt (haltFor w) t
 
 abbrev pub subscriptOf : List ℤ → SubscriptEntry → SubscriptParts
 subscriptOf store s = record { times = s .times; variable = cell store (s .cell); plus = s .plus }

@@ -3,7 +3,7 @@
 use Prim.Native.Nat.{ℕ}
 use mathlib.Core.List.{List}
 use lib.IntN.{ℤ}
-use Rattle.number.specs.Number.{Rule}
+use Rattle.number.specs.Number.{Rule, digitsRule}
 
 -- multiplier, cell and signed addend
 pub record SubscriptEntry : Type 0 where
@@ -50,4 +50,4 @@ pub record Object : Type 0 where
   pub names : List Named
 
 abbrev pub ruleOf : Object → Rule
-ruleOf o = record { digits = o .digits }
+ruleOf o = digitsRule (o .digits)

@@ -7,8 +7,8 @@ use mathlib.Core.List.{List, [], _∷_, _++_}
 use mathlib.Core.Option.{Option, none, some}
 use Prim.Native.Nat.{ℕ, _+_, _-_, _≤_, _<_}
 use lib.ListN.{length, getD, take, drop, replicate}
-use lib.IntN.{ℤ, pos, natAbs}
-use Rattle.number.specs.Number.{ceiling}
+use lib.IntN.{ℤ, pos}
+use Rattle.number.specs.Number.{Fits}
 use Rattle.rules_shared.specs.Limits.{limits}
 use Rattle.rules_shared.specs.Runs.{go, halt, run, steps}
 use Rattle.rules_object.specs.Halts.{Halt, haltNumber, Out}
@@ -91,7 +91,7 @@ pub record Faultless (o : Object) (t : State) : Type 0 where
 
 -- of at most k digits
 abbrev pub Within : Object → ℤ → Type 0
-Within o z = natAbs z < ceiling (ruleOf o)
+Within o z = Fits (ruleOf o) z
 
 -- in the code, at its height, all numbers within the digits, and the mark of the code or 0
 pub record Stands (o : Object) (table : List ℕ) (t : State) : Type 0 where

@@ -12,7 +12,7 @@ use lib.Seq.{take-append-seam}
 use lib.IntN.{ℤ, pos}
 use borrow.Author.Tests.{leb-true, le-leb}
 use Rattle.number.specs.Number.{fits}
-use Rattle.number.proofs.Laws.{ceiling-pos, yes-fits}
+use Rattle.number.proofs.Laws.{digits-some, yes-fits}
 use Rattle.rules_shared.specs.Limits.{limits}
 use Rattle.rules_shared.specs.House.{House, house1401}
 use Rattle.rules_object.specs.Object.{Object, ruleOf}
@@ -61,7 +61,7 @@ module _ (o : Object) (limited : right41 o ≡ true) where
 
   zero-51 : right51 o zeroStore ≡ true
   unfolding right51
-  zero-51 = all-same (fits (ruleOf o)) (pos 0) (o .cells) (limits .cells) (yes-fits (ruleOf o) (pos 0) (ceiling-pos (ruleOf o)))
+  zero-51 = all-same (fits (ruleOf o)) (pos 0) (o .cells) (limits .cells) (yes-fits (ruleOf o) (pos 0) (digits-some (o .digits)))
 
 -- ---- a deck that is read: its object is written, and its run is not refused
 

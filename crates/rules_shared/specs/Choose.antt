@@ -8,6 +8,7 @@ use lib.Dec.{ltb}
 use lib.ListN.{getElem?}
 use lib.IntN.{ℤ, pos, negsuc, _+ℤ_, _*ℤ_}
 use lib.Signed.{leZ}
+use Rattle.number.specs.Number.{Loss, isLoss}
 
 -- below, at or above 0
 abbrev pub sign3 : {A : Type 0} → ℤ → A → A → A → A
@@ -79,8 +80,10 @@ pub data Turn : Type 0 where
 unfoldable pub turn : ℤ → ℤ → ℤ → Turn
 turn variable limit step = cond (leZ (variable +ℤ step) limit) (again (variable +ℤ step)) over
 
--- a mark is one more than the first place that dropped, or 0
-abbrev pub marked : ℕ → Bool → ℕ → ℕ
-marked m false at = m
-marked zero true at = suc at
-marked (suc m) true at = suc m
+-- a mark is one more than the first place that lost something, or 0
+abbrev pub firstMark : ℕ → ℕ → ℕ
+firstMark zero at = suc at
+firstMark (suc m) at = suc m
+
+abbrev pub marked : ℕ → Loss → ℕ → ℕ
+marked m lost at = cond (isLoss lost) (firstMark m at) m

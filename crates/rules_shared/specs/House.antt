@@ -2,7 +2,7 @@
 -- Assumes nothing.
 use Prim.Native.Nat.{ℕ, _+_, _*_}
 use mathlib.Core.Bool.{Bool, false}
-use Rattle.number.specs.Number.{Rule}
+use Rattle.number.specs.Number.{Rule, digitsRule}
 use Rattle.rules_shared.specs.Limits.{limits}
 
 pub record House : Type 0 where
@@ -29,7 +29,7 @@ house1401 k =
       digits = k;
       fewestDigits = 1;
       mostDigits = limits .digits;
-      rule = record { digits = k };
+      rule = digitsRule k;
       nameLength = 6;
       nameBytes = 8;
       continuations = 9;

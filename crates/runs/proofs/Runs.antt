@@ -1,17 +1,19 @@
 -- Run and bench: each end of them, from what the machine answers.
 -- Assumes nothing.
-use mathlib.Core.Path.{_≡_, refl, sym, ap, _∙_, subst}
+use mathlib.Core.Path.{_≡_, refl, sym, ap, ap₂, _∙_, subst}
 use mathlib.Core.Bool.{true, false}
 use mathlib.Core.List.{List, reverse}
 use mathlib.Core.Option.{Option, none, some}
-use Prim.Native.Nat.{ℕ, zero, suc, _^_, _≤_}
+use Prim.Native.Nat.{ℕ, zero, suc, _≤_}
 use native.Mathlib.Omega.{arith}
 use lib.Dec.{ltb, leb, eqb}
 use lib.ListN.{length, take, replicate}
 use borrow.Author.Tests.{leb-true, eqb-true}
 use lib.IntN.{ℤ, pos}
 use Rattle.rules_shared.specs.Limits.{limits}
-use Rattle.rules_object.specs.Object.{Object}
+use Rattle.number.specs.declared.Rule.{Rule}
+use Rattle.number.specs.Code.{ruled}
+use Rattle.rules_object.specs.Object.{Object, ruleOf}
 use Rattle.rules_object.specs.Check.{right41}
 use Rattle.rules_object.specs.Machine.{State, fresh, step, benchStep}
 use Rattle.rules_object.proofs.States.{state}
@@ -28,7 +30,8 @@ use Rattle.rules_object.proofs.NoFault.{stands-no-fault}
 use Rattle.object.specs.declared.Layout.{Layout}
 use Rattle.object.specs.Layout.{objectAt, Placed}
 use Rattle.object.proofs.Entries.{code-length}
-use Rattle.arithmetic.specs.Performed.{regs, stateOf, lentOf}
+use Rattle.registers.specs.declared.Regs.{Regs}
+use Rattle.registers.specs.Registers.{regs, stateOf, lentOf}
 use Rattle.operations.specs.Ready.{Held}
 use Rattle.machine.specs.declared.Ran.{Ran}
 use Rattle.machine.specs.Running.{answer}
@@ -65,6 +68,10 @@ store-passes o store n q z =
     let f = or-none (unless (right50 o store) 50) _ (sym q ∙ ap numbered z) in
     (unless-none _ _ (f .0), unless-none _ _ (f .1))
 
+-- the state that was lent
+pub started : {r : Regs} {i h m i′ h′ : ℕ} → r ≡ regs i′ h′ m → i′ ≡ i → h′ ≡ h → r ≡ regs i h m
+started {m = m} e a b = e ∙ ap₂ (λ i h. regs i h m) a b
+
 -- ---- bench
 
 module _ (e : Layout) (s : List ℕ) (store : List ℤ) (l : Lent) (a : ℕ) where
@@ -77,29 +84,30 @@ module _ (e : Layout) (s : List ℕ) (store : List ℤ) (l : Lent) (a : ℕ) whe
   bench-refused (suc n) r q z =
       record { is = rw r (ap (λ (x : Option Refusal). orRefused x l store (runFrom (objectAt e s) (benchStep (objectAt e s)) a (fresh store))) (sym q)) }
 
-  module _ (p : ℕ) (placed : Placed e s) (right : right41 (objectAt e s) ≡ true) (power : p ≡ 10 ^ e .digits) (n : ℕ) (told : numbered n ≡ refusedStore (objectAt e s) store) (none-wrong : n ≡ 0)
-      (old places : List ℤ) (forty : length old ≡ 40) (clean : Cleared old places 0) where
+  module _ (k : Rule) (placed : Placed e s) (right : right41 (objectAt e s) ≡ true) (rule : ruled k ≡ ruleOf (objectAt e s)) (n : ℕ) (told : numbered n ≡ refusedStore (objectAt e s) store) (none-wrong : n ≡ 0)
+      (old places : List ℤ) (forty : length old ≡ 40) (clean : Cleared old places 0) (start : Regs) (is : start ≡ regs 0 0 0) where
     zeros : places ≡ replicate 40 (pos 0)
     zeros = cleared-all old places forty clean
 
-    pub bench-held : Held e s p (regs 0 0 0) places store
+    pub bench-held : Held e s k start places store
     bench-held =
         let f = store-passes (objectAt e s) store n told none-wrong in
-        subst (λ (x : List ℤ). Held e s p (regs 0 0 0) x store) (sym zeros) (fresh-held e s p placed right power store (f .0) (f .1))
+        let h = fresh-held e s k placed right rule store (f .0) (f .1) in
+        subst (λ (r : Regs). Held e s k r places store) (sym is) (subst (λ (x : List ℤ). Held e s k (regs 0 0 0) x store) (sym zeros) h)
 
-    starts-fresh : stateOf (regs 0 0 0) places store ≡ fresh store
+    starts-fresh : stateOf start places store ≡ fresh store
     starts-fresh =
         let f = store-passes (objectAt e s) store n told none-wrong in
-        ap (λ (x : List ℤ). stateOf (regs 0 0 0) x store) zeros ∙ fresh-state e s p placed right power store (f .0) (f .1)
+        ap₂ (λ (r : Regs) (x : List ℤ). stateOf r x store) is zeros ∙ fresh-state e s k placed right rule store (f .0) (f .1)
 
     fresh-low : Low (objectAt e s) (fresh store)
     fresh-low = record { index = omega arith; height = omega arith }
 
-    pub bench-low : Low (objectAt e s) (stateOf (regs 0 0 0) places store)
+    pub bench-low : Low (objectAt e s) (stateOf start places store)
     bench-low = subst (Low (objectAt e s)) (sym starts-fresh) fresh-low
 
     pub bench-ends : (q : Ran) (r : declared.Ran) (l′ : Lent) (places′ store′ : List ℤ)
-        → answer (objectAt e s) q places′ store′ ≡ runFrom (objectAt e s) (benchStep (objectAt e s)) a (stateOf (regs 0 0 0) places store)
+        → answer (objectAt e s) q places′ store′ ≡ runFrom (objectAt e s) (benchStep (objectAt e s)) a (stateOf start places store)
         → ranOf r l′ store′ ≡ answer (objectAt e s) q places′ store′
         → Ends (benchObject (some (objectAt e s)) store l a) r l′ store′
     unfolding refusedStore
@@ -162,28 +170,28 @@ module _ (e : Layout) (s table : List ℕ) (store : List ℤ) (i h m : ℕ) (pla
         let g₃ = both (eqb h (heightAt T i)) _ (g₂ .1) in
         omega (arith, leb-true (heightAt T i) (limits .stack) (g₂ .0), eqb-true h (heightAt T i) (g₃ .0))
 
-    module _ (i′ h′ : ℕ) (same-i : i′ ≡ i) (same-h : h′ ≡ h) (p : ℕ) (power : p ≡ 10 ^ e .digits) (places′ : List ℤ) (clean : Cleared places places′ h′) where
-      starts : stateOf (regs i′ h′ m) places′ store ≡ taken L store
+    module _ (start : Regs) (is : start ≡ regs i h m) (k : Rule) (rule : ruled k ≡ ruleOf O) (places′ : List ℤ) (clean : Cleared places places′ (start .height)) where
+      starts : stateOf start places′ store ≡ taken L store
       unfolding taken
-      starts = ap (λ (x : List ℤ). state i′ (reverse x) store m) (cleared-take places places′ h′ clean) ∙ rw (same-i, same-h)
+      starts = ap (λ (x : List ℤ). state (start .index) (reverse x) store (start .mark)) (cleared-take places places′ (start .height) clean) ∙ ap (λ (r : Regs). stateOf r places store) is
 
-      stands′ : Stands O T (stateOf (regs i′ h′ m) places′ store)
+      stands′ : Stands O T (stateOf start places′ store)
       stands′ = subst (Stands O T) (sym starts) stands
 
-      pub run-held : Held e s p (regs i′ h′ m) places′ store
+      pub run-held : Held e s k start places′ store
       run-held =
-          stands-held e s p placed (P .right) power T (regs i′ h′ m) places′ store (clean .long ∙ forty) (omega (arith, height-low))
-          (cleared-above places places′ h′ forty clean) stands′
+          stands-held e s k placed (P .right) rule T start places′ store (clean .long ∙ forty) (omega (arith, height-low, ap (λ (r : Regs). r .height) is))
+          (cleared-above places places′ (start .height) forty clean) stands′
 
-      pub no-fault : Faultless O (stateOf (regs i′ h′ m) places′ store)
-      no-fault = stands-no-fault P (stateOf (regs i′ h′ m) places′ store) stands′
+      pub no-fault : Faultless O (stateOf start places′ store)
+      no-fault = stands-no-fault P (stateOf start places′ store) stands′
 
-      run-low : Low O (stateOf (regs i′ h′ m) places′ store)
+      run-low : Low O (stateOf start places′ store)
       run-low = record { index = omega (arith, stands′ .inside); height = stands′ .low }
 
-      module _ (q : Ran) (after store′ : List ℤ) (says : answer O q after store′ ≡ runFrom O (step O) a (stateOf (regs i′ h′ m) places′ store)) where
+      module _ (q : Ran) (after store′ : List ℤ) (says : answer O q after store′ ≡ runFrom O (step O) a (stateOf start places′ store)) where
         pub run-back : (q .regs .index ≤ 4096) × (q .regs .height ≤ 4096)
-        run-back = low-back e s q after (P .right) (back O q after store′ a (stateOf (regs i′ h′ m) places′ store) run-low (says ∙ sym (run-bench O (stateOf (regs i′ h′ m) places′ store) no-fault a)))
+        run-back = low-back e s q after (P .right) (back O q after store′ a (stateOf start places′ store) run-low (says ∙ sym (run-bench O (stateOf start places′ store) no-fault a)))
 
         pub run-ends : (r : declared.Ran) (l′ : Lent) → ranOf r l′ store′ ≡ answer O q after store′ → Ends (runChecked (passing e s table) store L a) r l′ store′
         unfolding passing

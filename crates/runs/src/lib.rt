@@ -13,7 +13,6 @@ ghost use Rattle.checker.specs.Verdicts.{passing};
 ghost use Rattle.lent.specs.Lending.{lent};
 ghost use Rattle.machine.specs.Running.{answer};
 ghost use Rattle.runs.specs.Outcomes.{ranOf, refusedRan, Ends};
-use arithmetic::Regs;
 use meeting::NEVER;
 use meeting::Table;
 use object::Contents;
@@ -87,21 +86,17 @@ fn run_passed(
     requires { ⌜ Passed (now object) (objectAt e (now object)) (take (e .«code_count») (now table)) ⌝ }
     ensures { λ r. ⌜ Ends (runChecked (passing e (now (object .entry)) (now (table .entry))) (now (store .entry)) (lent (now (index .entry)) (now (height .entry)) (now (mark .entry)) (now (places .entry))) allowance) r (lent (now (index .exit)) (now (height .exit)) (now (mark .exit)) (now (places .exit))) (now (store .exit)) ⌝ }
 {
-    let p = number::ten(word::index(e.digits));
+    let rule = number::of_digits(word::index(e.digits));
     let i = *index;
     let h = *height;
     let m = *mark;
-    let refused = lent::lent_wrong(e, p, table, store, i, h, m, places);
+    let refused = lent::lent_wrong(e, rule, table, store, i, h, m, places);
     if refused != 0 {
         return not_run(refused, 0, 0);
     }
-    let start = Regs {
-        index: word::index(i),
-        height: word::index(h),
-        mark: m,
-    };
+    let start = registers::of_state(word::index(i), word::index(h), m);
     lent::clear(places, start.height);
-    let q = machine::run(object, e, p, start, places, store, allowance);
+    let q = machine::run(object, e, rule, start, places, store, allowance);
     finish(object, e, q, index, height, mark)
 }
 
@@ -180,18 +175,14 @@ fn bench_read(
     if !judge::limits_right(e) {
         return not_run(41, 0, 0);
     }
-    let p = number::ten(word::index(e.digits));
-    let wrong = lent::store_wrong(e, p, store);
+    let rule = number::of_digits(word::index(e.digits));
+    let wrong = lent::store_wrong(e, rule, store);
     if wrong != 0 {
         return not_run(wrong, 0, 0);
     }
-    let start = Regs {
-        index: 0,
-        height: 0,
-        mark: 0,
-    };
+    let start = registers::of_state(0, 0, 0);
     lent::clear(places, 0);
-    let q = machine::bench(object, e, p, start, places, store, allowance);
+    let q = machine::bench(object, e, rule, start, places, store, allowance);
     finish(object, e, q, index, height, mark)
 }
 

@@ -111,14 +111,14 @@ module _ (w : ℕ) (l : 2147483648 ≤ w) (m : w < 4294967296) where
   pub high-back : toZ w64 (ofZ w64 (toZ w64 w -ℤ pos 4294967296)) ≡ signedOf w
   high-back = ap (λ z. toZ w64 (ofZ w64 z)) high-is ∙ back (signedOf w) (omega (arith, signed-small w m))
 
--- ---- a subscript's value: multiplier, cell's number and addend below 10 ^ 9
+-- ---- a subscript's value: multiplier, cell's number and addend below 2 ^ 31
 
-module _ (t : ℕ) (v u : ℤ) (lt : t < 1000000000) (lv : natAbs v < 1000000000) (lu : natAbs u < 1000000000) where
+module _ (t : ℕ) (v u : ℤ) (lt : t < 2 ^ 31) (lv : natAbs v < 2 ^ 31) (lu : natAbs u < 2 ^ 31) where
   times-is : toZ w64 t *ℤ toZ w64 (ofZ w64 v) ≡ pos t *ℤ v
   times-is = ap₂ _*ℤ_ (toZ-pos w64 {n = t} (omega arith)) (back v (omega arith))
 
-  times-small : natAbs (pos t *ℤ v) ≤ 1000000000 * 1000000000
-  times-small = abs-mul-le (pos t) v {P = 1000000000} (omega arith) (omega arith)
+  times-small : natAbs (pos t *ℤ v) ≤ 2 ^ 31 * 2 ^ 31
+  times-small = abs-mul-le (pos t) v {P = 2 ^ 31} (omega arith) (omega arith)
 
   pub times-fits : SFits w64 (toZ w64 t *ℤ toZ w64 (ofZ w64 v))
   times-fits = subst (SFits w64) (sym times-is) (sfits-abs w64 (pos t *ℤ v) (omega (arith, times-small)))
@@ -151,8 +151,8 @@ module _ (s : List ℕ) (b : ℕ) (so : List ℤ) (h : SubscriptIn s b so) (t a 
   parts-small =
       record {
         times = omega (arith, h .times);
-        variable = subst (λ z. natAbs z < 1000000000) (sym variable-is) (h .at .small);
-        plus = subst (λ z. natAbs z < 1000000000) (sym plus-same) (h .plus);
+        variable = subst (λ z. natAbs z < 2 ^ 31) (sym variable-is) (h .at .small);
+        plus = subst (λ z. natAbs z < 2 ^ 31) (sym plus-same) (h .plus);
       }
 
   pub parts-are : (d : ℕ) → right d (record { times = t; variable = toZ w64 (ofZ w64 (cell so a)); plus = toZ w64 (ofZ w64 u) }) ≡ right d (subscriptOf so (subscriptAt s b))

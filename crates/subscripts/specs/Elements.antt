@@ -2,7 +2,7 @@
 -- Assumes nothing.
 use mathlib.Core.List.{List}
 use mathlib.Core.Option.{Option, none, some}
-use Prim.Native.Nat.{ℕ, _+_, _*_, _≤_, _<_}
+use Prim.Native.Nat.{ℕ, _+_, _*_, _^_, _≤_, _<_}
 use lib.ListN.{length}
 use lib.IntN.{ℤ, natAbs}
 use Rattle.rules_object.specs.Object.{SubscriptEntry}
@@ -12,10 +12,10 @@ use Rattle.word.specs.Word.{wordAt}
 use Rattle.subscripts.specs.declared.Place.{Place}
 use Rattle.subscripts.specs.declared.Place.the-variants.{At, Nowhere}
 
--- a cell of the store, and its number within nine digits
+-- a cell of the store, and its number below 2 ^ 31
 pub record Cell (so : List ℤ) (a : ℕ) : Type 0 where
   pub inside : a < length so
-  pub small : natAbs (cell so a) < 1000000000
+  pub small : natAbs (cell so a) < 2 ^ 31
 
 -- a subscript at byte b: multiplier, cell, addend
 abbrev pub subscriptAt : List ℕ → ℕ → SubscriptEntry
@@ -23,15 +23,15 @@ subscriptAt s b = record { times = wordAt s b; cell = wordAt s (b + 4); plus = s
 
 -- a subscript's parts, each within nine digits
 pub record Worked (t : ℕ) (v u : ℤ) : Type 0 where
-  pub times : t < 1000000000
-  pub variable : natAbs v < 1000000000
-  pub plus : natAbs u < 1000000000
+  pub times : t < 2 ^ 31
+  pub variable : natAbs v < 2 ^ 31
+  pub plus : natAbs u < 2 ^ 31
 
 pub record SubscriptIn (s : List ℕ) (b : ℕ) (so : List ℤ) : Type 0 where
   pub whole : b + 12 ≤ length s
-  pub times : wordAt s b < 1000000000
+  pub times : wordAt s b < 2 ^ 31
   pub at : Cell so (wordAt s (b + 4))
-  pub plus : natAbs (signedOf (wordAt s (b + 8))) < 1000000000
+  pub plus : natAbs (signedOf (wordAt s (b + 8))) < 2 ^ 31
 
 -- the entry of an element at byte b
 pub record ElementIn (s : List ℕ) (b : ℕ) (so : List ℤ) : Type 0 where

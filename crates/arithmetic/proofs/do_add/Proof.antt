@@ -1,9 +1,12 @@
 -- `arithmetic::do_add` meets its contract. Assumes nothing.
-use mathlib.Core.Path.{_∙_}
+use mathlib.Core.Path.{sym, ap, _∙_, subst}
 use Prim.Native.Nat.{_-_}
-use lib.IntN.{_+ℤ_}
+use Rattle.number.specs.Number.{add}
+use Rattle.number.specs.Code.{ruled, Sized}
+use Rattle.number.proofs.Laws.{apply-sized}
 use Rattle.rules_object.specs.Machine.{cell}
-use Rattle.arithmetic.proofs.Laws.{makes}
+use Rattle.arithmetic.specs.Performed.{joined}
+use Rattle.arithmetic.proofs.Laws.{read-both, read-same}
 use borrow.Author.Needs.{needs}
 use Rattle.arithmetic.proofs.do_add.Statement.{statement}
 use Rattle.arithmetic.proofs.do_add.Tie as tie
@@ -27,17 +30,27 @@ element-copy-out-y : tie.Need-element-copy-out-y
 element-copy-out-y c = search needs
 
 add-requires : tie.Need-add-requires
-add-requires c κs = search needs
+add-requires c κs =
+    let a = c .before .before .before .before .before .args in
+    read-both (ruled (a .rule)) (cell (a .stack .now) (a .r .height - 2)) (cell (a .stack .now) (a .r .height - 1)) (c .before .before .before .before .before .pre .1)
 
 join-requires : tie.Need-join-requires
-join-requires c κs = search needs
+join-requires c κs =
+    let a = c .before .before .before .before .before .before .args in
+    let h = c .before .before .before .before .before .before .pre in
+    let k = ruled (a .rule) in
+    let x = cell (a .stack .now) (a .r .height - 2) in
+    let y = cell (a .stack .now) (a .r .height - 1) in
+    (h .0, subst Sized (sym (c .add .ensures ∙ read-same k x y (h .1) add)) (apply-sized k (h .1 .narrow) add x y (h .1 .left)))
 
 returns : tie.Need-returns
 returns c =
-    let a = c .before .before .before .before .before .before .before .before .args in
-    let st = c .before .before .before .before .before .before .before .before .args .stack .now in
-    let r = c .before .before .before .before .before .before .before .before .args .r in
-    λ so. c .join .ensures so ∙ makes _+ℤ_ (a .p) (cell st (r .height - 2)) (cell st (r .height - 1)) (c .before .before .before .before .before .before .before .before .pre .1) (c .before .before .before .add .result) (c .before .before .before .add .ensures) r st so
+    let a = c .before .before .before .before .before .before .before .args in
+    let h = c .before .before .before .before .before .before .before .pre .1 in
+    let k = ruled (a .rule) in
+    let x = cell (a .stack .now) (a .r .height - 2) in
+    let y = cell (a .stack .now) (a .r .height - 1) in
+    λ so. c .join .ensures so ∙ ap (λ q. joined q (a .r) (a .stack .now) so) (c .before .add .ensures ∙ read-same k x y h add)
 
 pub do-add-spec : {M : Type 1} → statement M
 do-add-spec =

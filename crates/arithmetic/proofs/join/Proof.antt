@@ -1,10 +1,13 @@
 -- `arithmetic::join` meets its contract. Assumes nothing.
-use mathlib.Core.Path.{ap₂}
-use Prim.Native.Nat.{_+_, _-_}
+use mathlib.Core.Path.{sym, ap, ap₂, _∙_, subst}
+use Prim.Native.Nat.{_-_, _<_}
 use lib.ListN.{set}
 use lib.IntN.{pos}
-use mir.Facts.{toZ-ofZ}
-use Rattle.arithmetic.specs.Performed.{next, regs}
+use Rattle.number.specs.Code.{resultOf, Sized}
+use Rattle.number.proofs.Whole.{back}
+use Rattle.rules_object.specs.Halts.{haltNumber}
+use Rattle.registers.specs.Registers.{onward}
+use Rattle.arithmetic.specs.Performed.{next, joined}
 use borrow.Author.Needs.{needs}
 use Rattle.arithmetic.proofs.join.Statement.{statement}
 use Rattle.arithmetic.proofs.join.Tie as tie
@@ -14,6 +17,9 @@ sub-h c = search needs
 
 sub-g : tie.Need-sub-g
 sub-g c = search needs
+
+enum-known-w : tie.Need-enum-known-w
+enum-known-w c = search needs
 
 mul-v : tie.Need-mul-v
 mul-v c = search needs
@@ -27,17 +33,28 @@ mul-stack c = search needs
 element-set-of-stack : tie.Need-element-set-of-stack
 element-set-of-stack c = search needs
 
-add-t7 : tie.Need-add-t7
-add-t7 c = search needs
+marking-requires : tie.Need-marking-requires
+marking-requires c κs = search needs
 
-mark-after-requires : tie.Need-mark-after-requires
-mark-after-requires c κs = search needs
+onward-requires : tie.Need-onward-requires
+onward-requires c κs = subst (λ q. q .index < 4096) (sym (c .marking .ensures)) (c .before .before .before .before .before .before .pre .0 .1 .1)
+
+enum-told : tie.Need-enum-told
+enum-told c = search needs
 
 returns : tie.Need-returns
 returns c =
-    let st = c .before .before .before .before .args .stack .now in
-    let r = c .before .before .before .before .args .r in
-    λ so. ap₂ (λ m v. next (regs (r .index + 1) (r .height - 1) m) (set (set st (r .height - 2) v) (r .height - 1) (pos 0)) so) (c .mark-after .ensures) (toZ-ofZ (c .before .before .before .before .fits .v))
+    let a = c .before .before .before .before .before .before .before .args in
+    let st = a .stack .now in
+    let r = a .r in
+    let g = c .before .before .before .w .given in
+    let v = back (g .0 .0) (subst (λ w. Sized (resultOf w)) (g .1) (c .before .before .before .before .before .before .before .pre .1)) in
+    λ so. ap₂ (λ q z. next q (set (set st (r .height - 2) z) (r .height - 1) (pos 0)) so) (c .onward .ensures ∙ ap (onward (r .height - 1)) (c .before .marking .ensures)) v
+    ∙ sym (ap (λ w. joined (resultOf w) r st so) (g .1))
+
+returns-2 : tie.Need-returns-2
+unfolding haltNumber
+returns-2 c = let a = c .before .before .before .before .args in λ so. sym (ap (λ w. joined (resultOf w) (a .r) (a .stack .now) so) (c .enum-told .given .1))
 
 pub join-spec : {M : Type 1} → statement M
 join-spec =
@@ -45,10 +62,13 @@ join-spec =
     (tie.spec
     sub-h
     sub-g
+    enum-known-w
     mul-v
     element-set-from-v
     mul-stack
     element-set-of-stack
-    add-t7
-    mark-after-requires
-    returns)
+    marking-requires
+    onward-requires
+    enum-told
+    returns
+    returns-2)

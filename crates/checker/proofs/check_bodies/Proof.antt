@@ -1,10 +1,10 @@
 -- `checker::check_bodies` meets its contract. Assumes nothing.
 use mathlib.Core.Path.{sym, ap, _∙_}
-use Prim.Native.Nat.{ℕ, _^_}
 use native.Mathlib.Omega.{arith}
 use borrow.Author.Tests.{not-true, not-false}
 use Rattle.object.specs.Layout.{objectAt}
-use Rattle.checker.proofs.Laws.{says, digits-low, ceiling-is, place-42, found-42, none-42, over-limit}
+use Rattle.number.specs.Number.{digitsRule}
+use Rattle.checker.proofs.Laws.{says, digits-low, rule-is, place-42, found-42, none-42, over-limit}
 use borrow.Author.Needs.{needs}
 use Rattle.checker.proofs.check_bodies.Statement.{statement}
 use Rattle.checker.proofs.check_bodies.Tie as tie
@@ -25,8 +25,8 @@ returns c =
 index-requires : tie.Need-index-requires
 index-requires c κs = search needs
 
-ten-requires : tie.Need-ten-requires
-ten-requires c κs =
+of-digits-requires : tie.Need-of-digits-requires
+of-digits-requires c κs =
     let s = c .before .before .before .before .args .o .now in
     let e = c .before .before .before .before .args .e in
     let right = sym (c .before .before .limits-right .ensures s) ∙ not-false _ (c .before .if1 .left) in
@@ -36,7 +36,7 @@ entries-requires : tie.Need-entries-requires
 entries-requires c κs =
     let s = c .before .before .before .before .before .args .o .now in
     let e = c .before .before .before .before .before .args .e in
-    (c .ten .ensures ∙ ap (λ (k : ℕ). 10 ^ k) (c .before .index .ensures) ∙ ceiling-is e s, c .before .before .before .before .before .pre .0)
+    (c .of-digits .ensures ∙ ap digitsRule (c .before .index .ensures) ∙ rule-is e s, c .before .before .before .before .before .pre .0)
 
 enum-known-found : tie.Need-enum-known-found
 enum-known-found c = search needs
@@ -85,7 +85,7 @@ check-bodies-spec =
     refuse-requires
     returns
     index-requires
-    ten-requires
+    of-digits-requires
     entries-requires
     enum-known-found
     refuse-requires-2

@@ -2,7 +2,6 @@
 use mathlib.Core.Path.{sym, _∙_}
 use native.Mathlib.Omega.{arith}
 use borrow.Author.Tests.{not-true, not-false}
-use Rattle.number.specs.Number.{ceiling}
 use Rattle.object.specs.Layout.{objectAt}
 use Rattle.object.proofs.Entries.{code-inside}
 use Rattle.guards.proofs.Guards.{word-sixteen, guard-past, guard-43, guard-42, guard-room}
@@ -59,7 +58,6 @@ returns-2 c =
     guard-43 e s i h (c .before .before .before .before .if1 .left) (c .before .before .load .result) (c .before .before .load .ensures) (sym (c .before .word-right .ensures) ∙ not-true _ (c .if2 .taken))
 
 entry-right-requires : tie.Need-entry-right-requires
-unfolding ceiling objectAt
 entry-right-requires c κs =
     let pl = c .before .before .before .before .before .before .before .pre .0 .0 in
     (c .before .before .before .before .before .before .before .pre .0 .1, (pl, (sym (c .before .word-right .ensures) ∙ not-false _ (c .if2 .left))))

@@ -1,5 +1,6 @@
 -- `judge::element_right` meets its contract. Assumes nothing.
 use native.Mathlib.Omega.{arith}
+use Rattle.number.specs.Code.{ruled}
 use Rattle.object.proofs.Entries.{element-inside}
 use Rattle.judge.proofs.Says.{element-says}
 use borrow.Author.Needs.{needs}
@@ -50,7 +51,7 @@ inside-requires c κs = search needs
 returns : tie.Need-returns
 returns c =
     let a = c .before .before .before .before .before .before .before .before in
-    element-says (a .args .e) (a .args .o .now) (a .args .i) (a .args .p) (a .pre .0) (a .pre .1 .1) (c .before .before .before .before .before .load .result) (c .before .before .before .before .load2 .result) (c .inside .result) (c .before .before .before .subscript-right .result) (c .before .before .subscript-right2 .result)
+    element-says (a .args .e) (a .args .o .now) (a .args .i) (ruled (a .args .rule)) (a .pre .0) (a .pre .1 .1) (c .before .before .before .before .before .load .result) (c .before .before .before .before .load2 .result) (c .inside .result) (c .before .before .before .subscript-right .result) (c .before .before .subscript-right2 .result)
     (c .before .before .before .before .before .load .ensures) (c .before .before .before .before .load2 .ensures) (simp (c .inside .ensures, c .before .load3 .ensures)) (c .before .before .before .subscript-right .ensures) (c .before .before .subscript-right2 .ensures)
 
 pub element-right-spec : {M : Type 1} → statement M

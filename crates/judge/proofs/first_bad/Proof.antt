@@ -12,10 +12,10 @@ use Rattle.judge.proofs.first_bad.Statement.{statement}
 use Rattle.judge.proofs.first_bad.Tie as tie
 
 abbrev Inv-loop : tie.InvT-loop
-Inv-loop o e p kind n i₀ i = (i ≤ n) × (firstFrom (passes (objectAt e o) kind) n 0 ≡ firstFrom (passes (objectAt e o) kind) (n - i) i)
+Inv-loop o e rule kind n i₀ i = (i ≤ n) × (firstFrom (passes (objectAt e o) kind) n 0 ≡ firstFrom (passes (objectAt e o) kind) (n - i) i)
 
 abbrev μ-loop : tie.MeasureT-loop
-μ-loop o e p kind n i₀ i = n - i
+μ-loop o e rule kind n i₀ i = n - i
 
 loop-holds : tie.Need-loop-holds Inv-loop μ-loop
 loop-holds c =

@@ -1,31 +1,32 @@
 -- `lent::fit` meets its contract. Assumes nothing.
 use mathlib.Core.Path.{ap, _∙_}
-use lib.Dec.{ltb}
 use lib.ListN.{getD}
-use lib.IntN.{ℤ, pos, natAbs}
+use lib.IntN.{pos}
 use mir.Syntax.{w64}
 use mir.Val.{SFits}
 use mir.Facts.{toZ-ofZ}
 use Prim.Native.Nat.{_-_, _≤_}
 use native.Mathlib.Omega.{arith}
 use borrow.Author.Tests.{not-true, not-false}
+use Rattle.number.specs.Number.{fits}
+use Rattle.number.specs.Code.{ruled}
 use Rattle.lent.proofs.Lent.{Fitting, fitting-none, fitting-more, not-fitting, all-fitting}
 use borrow.Author.Needs.{needs}
 use Rattle.lent.proofs.fit.Statement.{statement}
 use Rattle.lent.proofs.fit.Tie as tie
 
 abbrev Inv-loop : tie.InvT-loop
-Inv-loop numbers n p i₀ i = (i ≤ n) × Fitting numbers n p i
+Inv-loop numbers n rule i₀ i = (i ≤ n) × Fitting numbers n (ruled rule) i
 
 abbrev μ-loop : tie.MeasureT-loop
-μ-loop numbers n p i₀ i = n - i
+μ-loop numbers n rule i₀ i = n - i
 
 loop-holds : tie.Need-loop-holds Inv-loop μ-loop
 loop-holds c =
     let l = c .args .numbers .now in
     let n = c .args .n in
-    let p = c .args .p in
-    (omega arith, fitting-none l n p)
+    let k = ruled (c .args .rule) in
+    (omega arith, fitting-none l n k)
 
 mul-fits : tie.Need-mul-fits Inv-loop μ-loop
 mul-fits c =
@@ -44,12 +45,12 @@ returns : tie.Need-returns Inv-loop μ-loop
 returns c =
     let l = c .before .before .before .before .before .args .numbers .now in
     let n = c .before .before .before .before .before .args .n in
-    let p = c .before .before .before .before .before .args .p in
+    let k = ruled (c .before .before .before .before .before .args .rule) in
     let lp = c .before .before .before .before .loop in
     let z = getD l (lp .i) (pos 0) in
     let known : SFits w64 z = record { sfits = c .before .before .fits-arg .given } in
-    let told = c .before .fits2 .ensures ∙ ap (λ (y : ℤ). ltb (natAbs y) p) (toZ-ofZ {w = w64} {z = z} known) in
-    not-fitting l n p (lp .i) (c .before .before .before .loop-test .taken) (c .before .before .before .before .before .pre) (lp .inv .1) _ told (not-true _ (c .if1 .taken))
+    let told = c .before .fits2 .ensures ∙ ap (fits k) (toZ-ofZ {w = w64} {z = z} known) in
+    not-fitting l n k (lp .i) (c .before .before .before .loop-test .taken) (c .before .before .before .before .before .pre) (lp .inv .1) _ told (not-true _ (c .if1 .taken))
 
 add-i : tie.Need-add-i Inv-loop μ-loop
 add-i c =
@@ -65,20 +66,20 @@ loop-again : tie.Need-loop-again Inv-loop μ-loop
 loop-again c =
     let l = c .before .before .before .before .before .args .numbers .now in
     let n = c .before .before .before .before .before .args .n in
-    let p = c .before .before .before .before .before .args .p in
+    let k = ruled (c .before .before .before .before .before .args .rule) in
     let lp = c .before .before .before .before .loop in
     let z = getD l (lp .i) (pos 0) in
     let known : SFits w64 z = record { sfits = c .before .before .fits-arg .given } in
-    let told = c .before .fits2 .ensures ∙ ap (λ (y : ℤ). ltb (natAbs y) p) (toZ-ofZ {w = w64} {z = z} known) in
-    (omega (arith, lp .inv .0, c .before .before .before .loop-test .taken), fitting-more l n p (lp .i) (c .before .before .before .loop-test .taken) (c .before .before .before .before .before .pre) (lp .inv .1) _ told (not-false _ (c .if1 .left)))
+    let told = c .before .fits2 .ensures ∙ ap (fits k) (toZ-ofZ {w = w64} {z = z} known) in
+    (omega (arith, lp .inv .0, c .before .before .before .loop-test .taken), fitting-more l n k (lp .i) (c .before .before .before .loop-test .taken) (c .before .before .before .before .before .pre) (lp .inv .1) _ told (not-false _ (c .if1 .left)))
 
 returns-2 : tie.Need-returns-2 Inv-loop μ-loop
 returns-2 c =
     let l = c .before .before .args .numbers .now in
     let n = c .before .before .args .n in
-    let p = c .before .before .args .p in
+    let k = ruled (c .before .before .args .rule) in
     let lp = c .before .loop in
-    all-fitting l n p (lp .i) (c .loop-test .left) (lp .inv .1)
+    all-fitting l n k (lp .i) (c .loop-test .left) (lp .inv .1)
 
 pub fit-spec : {M : Type 1} → statement M
 fit-spec =

@@ -4,11 +4,9 @@ use mathlib.Core.Bool.{Bool, _&&_}
 use Prim.Native.Nat.{ℕ}
 use native.Mathlib.Omega.{arith}
 use lib.Dec.{leb}
-use lib.ListN.{getD}
+use lib.ListN.{getD, take}
 use borrow.Author.Tests.{not-true, not-false}
-use Rattle.rules_object.specs.Object.{ruleOf}
-use Rattle.object.specs.Layout.{objectAt}
-use Rattle.lent.proofs.Lent.{outside, too-high, other-height, at-height}
+use Rattle.lent.proofs.Lent.{fit-same, outside, too-high, other-height, at-height}
 use borrow.Author.Needs.{needs}
 use Rattle.lent.proofs.state_right.Statement.{statement}
 use Rattle.lent.proofs.state_right.Tie as tie
@@ -73,7 +71,7 @@ returns-4 c =
     let places = c .before .before .before .before .before .before .before .before .before .before .args .places .now in
     let same : c .before .before .before .before .before .before .before .before .before .index .result ≡ i = c .before .before .before .before .before .before .before .before .before .index .ensures in
     let height = c .before .before .before .before .before .wide .ensures ∙ ap (λ (k : ℕ). getD table k 0) same in
-    λ s q. sym (at-height e s table i h m places (omega (arith, same, c .before .before .before .before .before .before .before .if1 .left)) (omega (arith, height, c .before .before .before .before .if2 .left)) (c .before .before .before .if3 .left ∙ height) _ _ (c .before .before .index2 .ensures) (c .before .fit .ensures (ruleOf (objectAt e s)) q) ∙ ap (λ (b : Bool). b && leb m (e .«code_count»)) (not-true (c .before .fit .result) (c .if4 .taken)))
+    λ s q. sym (at-height e s table i h m places (omega (arith, same, c .before .before .before .before .before .before .before .if1 .left)) (omega (arith, height, c .before .before .before .before .if2 .left)) (c .before .before .before .if3 .left ∙ height) _ _ (c .before .before .index2 .ensures) (fit-same (take (c .before .before .index2 .result) places) (c .before .fit .ensures) q) ∙ ap (λ (b : Bool). b && leb m (e .«code_count»)) (not-true (c .before .fit .result) (c .if4 .taken)))
 
 index-requires-3 : tie.Need-index-requires-3
 index-requires-3 c κs = search needs
@@ -88,7 +86,7 @@ returns-5 c =
     let places = c .before .before .before .before .before .before .before .before .before .before .before .before .args .places .now in
     let same : c .before .before .before .before .before .before .before .before .before .before .before .index .result ≡ i = c .before .before .before .before .before .before .before .before .before .before .before .index .ensures in
     let height = c .before .before .before .before .before .before .before .wide .ensures ∙ ap (λ (k : ℕ). getD table k 0) same in
-    λ s q. ap (λ (k : ℕ). leb k (e .«code_count»)) (c .before .index3 .ensures) ∙ sym (at-height e s table i h m places (omega (arith, same, c .before .before .before .before .before .before .before .before .before .if1 .left)) (omega (arith, height, c .before .before .before .before .before .before .if2 .left)) (c .before .before .before .before .before .if3 .left ∙ height) _ _ (c .before .before .before .before .index2 .ensures) (c .before .before .before .fit .ensures (ruleOf (objectAt e s)) q) ∙ ap (λ (b : Bool). b && leb m (e .«code_count»)) (not-false (c .before .before .before .fit .result) (c .before .before .if4 .left)))
+    λ s q. ap (λ (k : ℕ). leb k (e .«code_count»)) (c .before .index3 .ensures) ∙ sym (at-height e s table i h m places (omega (arith, same, c .before .before .before .before .before .before .before .before .before .if1 .left)) (omega (arith, height, c .before .before .before .before .before .before .if2 .left)) (c .before .before .before .before .before .if3 .left ∙ height) _ _ (c .before .before .before .before .index2 .ensures) (fit-same (take (c .before .before .before .before .index2 .result) places) (c .before .before .before .fit .ensures) q) ∙ ap (λ (b : Bool). b && leb m (e .«code_count»)) (not-false (c .before .before .before .fit .result) (c .before .before .if4 .left)))
 
 pub state-right-spec : {M : Type 1} → statement M
 state-right-spec =

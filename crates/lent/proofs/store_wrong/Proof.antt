@@ -3,9 +3,8 @@ use mathlib.Core.Path.{sym, ap, _∙_}
 use mathlib.Core.Bool.{Bool}
 use native.Mathlib.Omega.{arith}
 use Rattle.rules_shared.specs.Refusals.{unless}
-use Rattle.rules_object.specs.Object.{ruleOf}
-use Rattle.object.specs.Layout.{objectAt}
-use Rattle.lent.proofs.Lent.{store-short, store-fits}
+use lib.ListN.{take}
+use Rattle.lent.proofs.Lent.{fit-same, store-short, store-fits}
 use borrow.Author.Needs.{needs}
 use Rattle.lent.proofs.store_wrong.Statement.{statement}
 use Rattle.lent.proofs.store_wrong.Tie as tie
@@ -26,13 +25,13 @@ returns-2 : tie.Need-returns-2
 returns-2 c =
     let e = c .before .before .before .before .args .e in
     let store = c .before .before .before .before .args .store .now in
-    λ s q. sym (store-fits e s store _ (omega (arith, c .before .before .before .index .ensures, c .before .before .if1 .left)) (c .before .before .before .index .ensures) _ (c .before .fit .ensures (ruleOf (objectAt e s)) q) ∙ ap (λ (b : Bool). unless b 51) (c .if2 .taken))
+    λ s q. sym (store-fits e s store _ (omega (arith, c .before .before .before .index .ensures, c .before .before .if1 .left)) (c .before .before .before .index .ensures) _ (fit-same (take (c .before .before .before .index .result) store) (c .before .fit .ensures) q) ∙ ap (λ (b : Bool). unless b 51) (c .if2 .taken))
 
 returns-3 : tie.Need-returns-3
 returns-3 c =
     let e = c .before .before .before .before .args .e in
     let store = c .before .before .before .before .args .store .now in
-    λ s q. sym (store-fits e s store _ (omega (arith, c .before .before .before .index .ensures, c .before .before .if1 .left)) (c .before .before .before .index .ensures) _ (c .before .fit .ensures (ruleOf (objectAt e s)) q) ∙ ap (λ (b : Bool). unless b 51) (c .if2 .left))
+    λ s q. sym (store-fits e s store _ (omega (arith, c .before .before .before .index .ensures, c .before .before .if1 .left)) (c .before .before .before .index .ensures) _ (fit-same (take (c .before .before .before .index .result) store) (c .before .fit .ensures) q) ∙ ap (λ (b : Bool). unless b 51) (c .if2 .left))
 
 pub store-wrong-spec : {M : Type 1} → statement M
 store-wrong-spec = tie.close (tie.spec index-requires returns fit-requires returns-2 returns-3)

@@ -1,7 +1,7 @@
 -- `machine::run` meets its contract. Assumes nothing.
 use mathlib.Core.Path.{_∙_}
 use Rattle.object.specs.Layout.{objectAt}
-use Rattle.arithmetic.specs.Performed.{stateOf}
+use Rattle.registers.specs.Registers.{stateOf}
 use Rattle.machine.proofs.Going.{run-bench}
 use Rattle.guards.proofs.Seen.{sees-none}
 use borrow.Author.Needs.{needs}

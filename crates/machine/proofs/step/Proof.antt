@@ -69,7 +69,7 @@ perform-requires c κs =
     let h = c .before .before .before .before .before .before .before .before .args .r .height in
     let H = c .before .before .before .before .before .before .before .before .pre .0 in
     let P = guard-passes (objectAt e s) i h (c .before .before .before .before .before .before .before .before .pre .1) in
-    let b = held-bounds e s (a .p) r st so H in
+    let b = held-bounds e s (a .rule) r st so H in
     let w = c .before .before .before .before .before .load .ensures ∙ sym (word-is e s i h (omega (arith, P .inside, code-length e s))) in
     let x = c .before .before .before .index .ensures ∙ c .before .before .before .before .operand .ensures .0 in
     (H, (passes-ready (objectAt e s) i h (c .before .before .before .before .before .load .result) (c .before .before .operation .result) (c .before .before .before .index .result) P w (c .before .before .operation .ensures .0) x, (omega (arith, P .inside, code-length e s, b .code), omega (arith, c .before .before .before .index .ensures, c .before .before .before .before .operand .ensures .1))))

@@ -11,15 +11,15 @@ use Rattle.machine.proofs.turns.Statement.{statement}
 use Rattle.machine.proofs.turns.Tie as tie
 
 abbrev Inv-loop : tie.InvT-loop
-Inv-loop guarded o e p stack₀ store₀ allowance seen₀ r₀ steps₀ stack store seen r steps = Going guarded e o p allowance r₀ stack₀ store₀ r stack store steps × Sees (objectAt e o) seen
+Inv-loop guarded o e rule stack₀ store₀ allowance seen₀ r₀ steps₀ stack store seen r steps = Going guarded e o rule allowance r₀ stack₀ store₀ r stack store steps × Sees (objectAt e o) seen
 
 abbrev μ-loop : tie.MeasureT-loop
-μ-loop guarded o e p stack₀ store₀ allowance seen₀ r₀ steps₀ stack store seen r steps = allowance - steps
+μ-loop guarded o e rule stack₀ store₀ allowance seen₀ r₀ steps₀ stack store seen r steps = allowance - steps
 
 loop-holds : tie.Need-loop-holds Inv-loop μ-loop
 loop-holds c =
     let a = c .before .args in
-    (begins (a .guarded) (a .e) (a .o .now) (a .p) (a .allowance) (a .start) (a .stack .now) (a .store .now) (c .before .pre .0) (c .before .pre .1 .0), c .before .pre .1 .1)
+    (begins (a .guarded) (a .e) (a .o .now) (a .rule) (a .allowance) (a .start) (a .stack .now) (a .store .now) (c .before .pre .0) (c .before .pre .1 .0), c .before .pre .1 .1)
 
 test-requires : tie.Need-test-requires Inv-loop μ-loop
 test-requires c κs =
@@ -27,7 +27,7 @@ test-requires c κs =
     let l = c .before .before .loop in
     let g = l .inv .0 in
     let h = g .held in
-    ((h .placed, (h .power, held-bounds (a .e) (a .o .now) (a .p) (l .r) (l .stack) (l .store) h .code)), (h .low, (l .inv .1, λ q. rights-guard (a .e) (a .o .now) (a .p) (l .r) (l .stack) (l .store) h (g .rights q))))
+    ((h .placed, (h .rule, held-bounds (a .e) (a .o .now) (a .rule) (l .r) (l .stack) (l .store) h .code)), (h .low, (l .inv .1, λ q. rights-guard (a .e) (a .o .now) (a .rule) (l .r) (l .stack) (l .store) h (g .rights q))))
 
 add-steps : tie.Need-add-steps Inv-loop μ-loop
 add-steps c = search needs
@@ -40,7 +40,7 @@ returns c =
     let a = c .before .before .before .before .before .before .args in
     let l = c .before .before .before .before .loop in
     let g = l .inv .0 in
-    guard-ends (a .guarded) (a .e) (a .o .now) (a .p) (a .allowance) (a .start) (a .stack .now) (a .store .now) (l .r) (l .stack) (l .store) (l .steps) g (c .before .before .before .loop-test .taken) (c .before .test .result) (c .before .test .ensures .0) (c .if1 .taken)
+    guard-ends (a .guarded) (a .e) (a .o .now) (a .rule) (a .allowance) (a .start) (a .stack .now) (a .store .now) (l .r) (l .stack) (l .store) (l .steps) g (c .before .before .before .loop-test .taken) (c .before .test .result) (c .before .test .ensures .0) (c .if1 .taken)
 
 step-requires : tie.Need-step-requires Inv-loop μ-loop
 step-requires c κs =
@@ -60,7 +60,7 @@ loop-again c =
     let l = c .before .before .before .before .before .before .before .before .before .before .before .loop in
     let g = l .inv .0 in
     let d = c .before .before .before .before .step in
-    (goes (a .guarded) (a .e) (a .o .now) (a .p) (a .allowance) (a .start) (a .stack .now) (a .store .now) (l .r) (l .stack) (l .store) (l .steps) g (c .before .before .before .before .before .before .before .before .before .before .loop-test .taken) (sym (c .before .before .before .before .before .before .before .before .test .ensures .0) ∙ c .before .before .before .before .before .before .before .if1 .left) (after (d .result) (d .last .1 .1 .1 .1 .0) (d .last .1 .1 .1 .1 .1 .0)) (d .ensures) (c .before .t .given .0 .0) (c .before .t .given .1), c .before .before .before .before .before .before .before .before .test .ensures .1)
+    (goes (a .guarded) (a .e) (a .o .now) (a .rule) (a .allowance) (a .start) (a .stack .now) (a .store .now) (l .r) (l .stack) (l .store) (l .steps) g (c .before .before .before .before .before .before .before .before .before .before .loop-test .taken) (sym (c .before .before .before .before .before .before .before .before .test .ensures .0) ∙ c .before .before .before .before .before .before .before .if1 .left) (after (d .result) (d .last .1 .1 .1 .1 .0) (d .last .1 .1 .1 .1 .1 .0)) (d .ensures) (c .before .t .given .0 .0) (c .before .t .given .1), c .before .before .before .before .before .before .before .before .test .ensures .1)
 
 enum-known-t-2 : tie.Need-enum-known-t-2 Inv-loop μ-loop
 enum-known-t-2 c = search needs
@@ -74,7 +74,7 @@ returns-2 c =
     let l = c .before .before .before .before .before .before .before .before .before .before .before .loop in
     let g = l .inv .0 in
     let d = c .before .before .before .before .step in
-    stops (a .guarded) (a .e) (a .o .now) (a .p) (a .allowance) (a .start) (a .stack .now) (a .store .now) (l .r) (l .stack) (l .store) (l .steps) g (c .before .before .before .before .before .before .before .before .before .before .loop-test .taken) (sym (c .before .before .before .before .before .before .before .before .test .ensures .0) ∙ c .before .before .before .before .before .before .before .if1 .left) (after (d .result) (d .last .1 .1 .1 .1 .0) (d .last .1 .1 .1 .1 .1 .0)) (d .ensures) (c .before .t2 .given .0 .0) (c .before .t2 .given .1)
+    stops (a .guarded) (a .e) (a .o .now) (a .rule) (a .allowance) (a .start) (a .stack .now) (a .store .now) (l .r) (l .stack) (l .store) (l .steps) g (c .before .before .before .before .before .before .before .before .before .before .loop-test .taken) (sym (c .before .before .before .before .before .before .before .before .test .ensures .0) ∙ c .before .before .before .before .before .before .before .if1 .left) (after (d .result) (d .last .1 .1 .1 .1 .0) (d .last .1 .1 .1 .1 .1 .0)) (d .ensures) (c .before .t2 .given .0 .0) (c .before .t2 .given .1)
 
 same-length-3 : tie.Need-same-length-3 Inv-loop μ-loop
 same-length-3 c = search needs
@@ -84,7 +84,7 @@ returns-3 c =
     let a = c .before .before .before .args in
     let l = c .before .loop in
     let g = l .inv .0 in
-    used (a .guarded) (a .e) (a .o .now) (a .p) (a .allowance) (a .start) (a .stack .now) (a .store .now) (l .r) (l .stack) (l .store) (l .steps) g (c .loop-test .left)
+    used (a .guarded) (a .e) (a .o .now) (a .rule) (a .allowance) (a .start) (a .stack .now) (a .store .now) (l .r) (l .stack) (l .store) (l .steps) g (c .loop-test .left)
 
 pub turns-spec : {M : Type 1} → statement M
 turns-spec =

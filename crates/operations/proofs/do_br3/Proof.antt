@@ -7,7 +7,8 @@ use mir.Syntax.{w64}
 use mir.Facts.{toZ-ofZ}
 use Rattle.rules_object.specs.Machine.{cell}
 use Rattle.word.specs.Word.{wordAt}
-use Rattle.arithmetic.specs.Performed.{next, regs}
+use Rattle.registers.specs.Registers.{regs}
+use Rattle.arithmetic.specs.Performed.{next}
 use Rattle.operations.specs.Ready.{signOf}
 use borrow.Author.Needs.{needs}
 use Rattle.operations.proofs.do_br3.Statement.{statement}
@@ -43,13 +44,17 @@ load-requires c κs = search needs
 index-requires : tie.Need-index-requires
 index-requires c κs = search needs
 
+going-to-requires : tie.Need-going-to-requires
+going-to-requires c κs = search needs
+
 returns : tie.Need-returns
 returns c =
-    let a = c .before .before .before .before .before .before .args in
-    let st = c .before .before .before .before .before .before .args .stack .now in
-    let s = c .before .before .before .before .before .before .args .o .now in
-    let r = c .before .before .before .before .before .before .args .r in
-    λ so. ap (λ t. next (regs t (r .height - 1) (r .mark)) (set st (r .height - 1) (pos 0)) so) (c .index .ensures ∙ c .before .load .ensures ∙ ap (λ n. wordAt s (a .b + 4 * n)) (c .before .before .sign .ensures .0 ∙ ap signOf (toZ-ofZ {w = w64} {z = cell st (r .height - 1)} (record { sfits = c .before .before .before .v .given }))))
+    let a = c .before .before .before .before .before .before .before .args in
+    let st = c .before .before .before .before .before .before .before .args .stack .now in
+    let s = c .before .before .before .before .before .before .before .args .o .now in
+    let r = c .before .before .before .before .before .before .before .args .r in
+    λ so. ap (λ q. next q (set st (r .height - 1) (pos 0)) so) (c .going-to .ensures)
+    ∙ ap (λ t. next (regs t (r .height - 1) (r .mark)) (set st (r .height - 1) (pos 0)) so) (c .before .index .ensures ∙ c .before .before .load .ensures ∙ ap (λ n. wordAt s (a .b + 4 * n)) (c .before .before .before .sign .ensures .0 ∙ ap signOf (toZ-ofZ {w = w64} {z = cell st (r .height - 1)} (record { sfits = c .before .before .before .before .v .given }))))
 
 pub do-br3-spec : {M : Type 1} → statement M
 do-br3-spec =
@@ -65,4 +70,5 @@ do-br3-spec =
     add-load
     load-requires
     index-requires
+    going-to-requires
     returns)

@@ -11,7 +11,8 @@ use Rattle.word.specs.Word.{wordAt}
 use borrow.Author.Tests.{not-true, not-false}
 use Rattle.rules_shared.specs.Choose.{positive}
 use Rattle.operations.proofs.Laws.{chosen-low, chosen-far, chosen-some}
-use Rattle.arithmetic.specs.Performed.{next, regs, branched}
+use Rattle.registers.specs.Registers.{regs}
+use Rattle.arithmetic.specs.Performed.{next, branched}
 use borrow.Author.Needs.{needs}
 use Rattle.operations.proofs.do_brc.Statement.{statement}
 use Rattle.operations.proofs.do_brc.Tie as tie
@@ -79,18 +80,22 @@ load-requires-2 c κs = search needs
 index-requires-2 : tie.Need-index-requires-2
 index-requires-2 c κs = search needs
 
+going-to-requires : tie.Need-going-to-requires
+going-to-requires c κs = search needs
+
 returns-3 : tie.Need-returns-3
 returns-3 c =
-    let a = c .before .before .before .before .before .before .before .before .before .before .before .args in
-    let st = c .before .before .before .before .before .before .before .before .before .before .before .args .stack .now in
-    let s = c .before .before .before .before .before .before .before .before .before .before .before .args .o .now in
-    let r = c .before .before .before .before .before .before .before .before .before .before .before .args .r in
+    let a = c .before .before .before .before .before .before .before .before .before .before .before .before .args in
+    let st = c .before .before .before .before .before .before .before .before .before .before .before .before .args .stack .now in
+    let s = c .before .before .before .before .before .before .before .before .before .before .before .before .args .o .now in
+    let r = c .before .before .before .before .before .before .before .before .before .before .before .before .args .r in
     let v = cell st (r .height - 1) in
-    let hv = toZ-ofZ {w = w64} {z = cell st (r .height - 1)} (record { sfits = c .before .before .before .before .before .before .before .before .v .given }) in
-    let e = sym (ap positive hv) ∙ sym (c .before .before .before .before .before .before .before .above-zero .ensures) in
-    let k = c .before .before .before .before .before .size .ensures ∙ ap natAbs hv in
-    let n = c .before .before .before .index .ensures ∙ c .before .before .before .before .load .ensures in
-    λ so. ap (λ t. next (regs t (r .height - 1) (r .mark)) (set st (r .height - 1) (pos 0)) so) (c .index2 .ensures ∙ c .before .load2 .ensures ∙ ap (λ m. wordAt s (a .b + 4 * m)) k) ∙ ap (λ q. branched q r st so) (chosen-some s (a .b) (wordAt s (a .b)) v (e ∙ not-false _ (c .before .before .before .before .before .before .if1 .left)) (omega (arith, c .before .before .if2 .left, k, n)))
+    let hv = toZ-ofZ {w = w64} {z = cell st (r .height - 1)} (record { sfits = c .before .before .before .before .before .before .before .before .before .v .given }) in
+    let e = sym (ap positive hv) ∙ sym (c .before .before .before .before .before .before .before .before .above-zero .ensures) in
+    let k = c .before .before .before .before .before .before .size .ensures ∙ ap natAbs hv in
+    let n = c .before .before .before .before .index .ensures ∙ c .before .before .before .before .before .load .ensures in
+    λ so. ap (λ q. next q (set st (r .height - 1) (pos 0)) so) (c .going-to .ensures)
+    ∙ ap (λ t. next (regs t (r .height - 1) (r .mark)) (set st (r .height - 1) (pos 0)) so) (c .before .index2 .ensures ∙ c .before .before .load2 .ensures ∙ ap (λ m. wordAt s (a .b + 4 * m)) k) ∙ ap (λ q. branched q r st so) (chosen-some s (a .b) (wordAt s (a .b)) v (e ∙ not-false _ (c .before .before .before .before .before .before .before .if1 .left)) (omega (arith, c .before .before .before .if2 .left, k, n)))
 
 pub do-brc-spec : {M : Type 1} → statement M
 do-brc-spec =
@@ -111,4 +116,5 @@ do-brc-spec =
     add-load
     load-requires-2
     index-requires-2
+    going-to-requires
     returns-3)

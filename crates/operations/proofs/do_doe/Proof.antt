@@ -91,22 +91,25 @@ load-requires-4 c κs = search needs
 index-requires-4 : tie.Need-index-requires-4
 index-requires-4 c κs = search needs
 
+going-to-requires : tie.Need-going-to-requires
+going-to-requires c κs = search needs
+
 same-length : tie.Need-same-length
 same-length c = search needs
 
 returns-2 : tie.Need-returns-2
 returns-2 c =
-    let a = c .before .before .before .before .before .before .before .before .before .before .before .before .before .before .before .args in
-    let so = c .before .before .before .before .before .before .before .before .before .before .before .before .before .before .before .args .store .now in
-    let s = c .before .before .before .before .before .before .before .before .before .before .before .before .before .before .before .args .o .now in
-    let i = c .before .before .before .before .before .before .before .before .before .before .before .before .index .ensures ∙ c .before .before .before .before .before .before .before .before .before .before .before .before .before .load .ensures in
-    let l = c .before .before .before .before .before .before .before .before .before .before .index2 .ensures ∙ c .before .before .before .before .before .before .before .before .before .before .before .load2 .ensures in
-    let k = c .before .before .before .before .before .before .before .before .index3 .ensures ∙ c .before .before .before .before .before .before .before .before .before .load3 .ensures in
-    let e = sym (c .before .before .before .before .before .before .above-zero .ensures ∙ ap positive (toZ-ofZ {w = w64} {z = cell so (c .before .before .before .before .before .before .before .before .index3 .result)} (record { sfits = c .before .before .before .before .before .before .before .step .given }) ∙ ap (cell so) k)) in
-    λ st. turn-again s (a .b) (a .r) so (c .before .before .before .before .before .before .before .before .before .before .before .before .before .before .before .pre .0) (c .before .before .before .before .before .before .before .before .before .before .before .before .index .result) (c .before .before .before .before .before .before .before .before .before .before .index2 .result) (c .before .before .before .before .before .before .before .before .index3 .result) i l k st (c .index4 .result) (e ∙ not-false _ (c .before .before .before .before .before .if1 .left)) (c .before .before .if2 .taken) (c .index4 .ensures ∙ c .before .load4 .ensures)
+    let a = c .before .before .before .before .before .before .before .before .before .before .before .before .before .before .before .before .args in
+    let so = c .before .before .before .before .before .before .before .before .before .before .before .before .before .before .before .before .args .store .now in
+    let s = c .before .before .before .before .before .before .before .before .before .before .before .before .before .before .before .before .args .o .now in
+    let i = c .before .before .before .before .before .before .before .before .before .before .before .before .before .index .ensures ∙ c .before .before .before .before .before .before .before .before .before .before .before .before .before .before .load .ensures in
+    let l = c .before .before .before .before .before .before .before .before .before .before .before .index2 .ensures ∙ c .before .before .before .before .before .before .before .before .before .before .before .before .load2 .ensures in
+    let k = c .before .before .before .before .before .before .before .before .before .index3 .ensures ∙ c .before .before .before .before .before .before .before .before .before .before .load3 .ensures in
+    let e = sym (c .before .before .before .before .before .before .before .above-zero .ensures ∙ ap positive (toZ-ofZ {w = w64} {z = cell so (c .before .before .before .before .before .before .before .before .before .index3 .result)} (record { sfits = c .before .before .before .before .before .before .before .before .step .given }) ∙ ap (cell so) k)) in
+    λ st. turn-again s (a .b) (a .r) so (c .before .before .before .before .before .before .before .before .before .before .before .before .before .before .before .before .pre .0) (c .before .before .before .before .before .before .before .before .before .before .before .before .before .index .result) (c .before .before .before .before .before .before .before .before .before .before .before .index2 .result) (c .before .before .before .before .before .before .before .before .before .index3 .result) i l k st (c .before .index4 .result) (c .going-to .ensures) (e ∙ not-false _ (c .before .before .before .before .before .before .if1 .left)) (c .before .before .before .if2 .taken) (c .before .index4 .ensures ∙ c .before .before .load4 .ensures)
 
-add-t14 : tie.Need-add-t14
-add-t14 c = search needs
+onward-requires : tie.Need-onward-requires
+onward-requires c κs = search needs
 
 returns-3 : tie.Need-returns-3
 returns-3 c =
@@ -117,7 +120,7 @@ returns-3 c =
     let l = c .before .before .before .before .before .before .before .before .before .index2 .ensures ∙ c .before .before .before .before .before .before .before .before .before .before .load2 .ensures in
     let k = c .before .before .before .before .before .before .before .index3 .ensures ∙ c .before .before .before .before .before .before .before .before .load3 .ensures in
     let e = sym (c .before .before .before .before .before .above-zero .ensures ∙ ap positive (toZ-ofZ {w = w64} {z = cell so (c .before .before .before .before .before .before .before .index3 .result)} (record { sfits = c .before .before .before .before .before .before .step .given }) ∙ ap (cell so) k)) in
-    λ st. turn-over s (a .b) (a .r) so (c .before .before .before .before .before .before .before .before .before .before .before .before .before .before .pre .0) (c .before .before .before .before .before .before .before .before .before .before .before .index .result) (c .before .before .before .before .before .before .before .before .before .index2 .result) (c .before .before .before .before .before .before .before .index3 .result) i l k st (e ∙ not-false _ (c .before .before .before .before .if1 .left)) (c .before .if2 .left)
+    λ st. turn-over s (a .b) (a .r) so (c .before .before .before .before .before .before .before .before .before .before .before .before .before .before .pre .0) (c .before .before .before .before .before .before .before .before .before .before .before .index .result) (c .before .before .before .before .before .before .before .before .before .index2 .result) (c .before .before .before .before .before .before .before .index3 .result) i l k st (c .onward .ensures) (e ∙ not-false _ (c .before .before .before .before .if1 .left)) (c .before .if2 .left)
 
 pub do-doe-spec : {M : Type 1} → statement M
 do-doe-spec =
@@ -145,7 +148,8 @@ do-doe-spec =
     add-load-3
     load-requires-4
     index-requires-4
+    going-to-requires
     same-length
     returns-2
-    add-t14
+    onward-requires
     returns-3)

@@ -1,6 +1,6 @@
 -- `operations::do_doi` meets its contract. Assumes nothing.
 use mathlib.Core.Path.{refl, sym, ap, ap₂, _∙_}
-use Prim.Native.Nat.{_+_, _-_}
+use Prim.Native.Nat.{_-_}
 use lib.ListN.{set}
 use lib.IntN.{pos}
 use mir.Syntax.{w64}
@@ -11,7 +11,7 @@ use borrow.Author.Tests.{not-true, not-false}
 use Rattle.rules_shared.specs.Choose.{allPositive}
 use Rattle.object.specs.Layout.{loopAt}
 use Rattle.operations.proofs.Laws.{sets-alike}
-use Rattle.arithmetic.specs.Performed.{next, regs, begun}
+use Rattle.arithmetic.specs.Performed.{next, begun}
 use borrow.Author.Needs.{needs}
 use Rattle.operations.proofs.do_doi.Statement.{statement}
 use Rattle.operations.proofs.do_doi.Tie as tie
@@ -80,8 +80,8 @@ mul-stack-3 c = search needs
 element-set-of-stack-3 : tie.Need-element-set-of-stack-3
 element-set-of-stack-3 c = search needs
 
-add-t12 : tie.Need-add-t12
-add-t12 c = search needs
+onward-requires : tie.Need-onward-requires
+onward-requires c κs = search needs
 
 same-length : tie.Need-same-length
 same-length c = search needs
@@ -98,7 +98,7 @@ returns-2 c =
     let v2 = toZ-ofZ {w = w64} {z = cell st (r .height - 2)} (record { sfits = c .before .before .before .before .before .before .before .m2 .given }) in
     let v3 = toZ-ofZ {w = w64} {z = cell st (r .height - 1)} (record { sfits = c .before .before .before .before .before .before .m3 .given }) in
     let e = c .before .before .before .before .before .all-above-zero .ensures ∙ ap (λ x. allPositive x (toZ w64 (ofZ w64 (cell st (r .height - 2)))) (toZ w64 (ofZ w64 (cell st (r .height - 1))))) v1 ∙ ap₂ (allPositive (cell st (r .height - 3))) v2 v3 in
-    ap (λ l. next (regs (r .index + 1) (r .height - 3) (r .mark)) (set (set (set st (r .height - 3) (pos 0)) (r .height - 2) (pos 0)) (r .height - 1) (pos 0)) l) (c .before .before .set-loop .ensures ∙ sets-alike so _ _ _ _ _ _ _ _ _ _ _ _ refl refl refl v1 v2 v3) ∙ ap (λ t. begun t (loopAt s (a .b)) r st so) (sym (not-false _ (c .before .before .before .before .if1 .left)) ∙ e)
+    ap₂ (λ q l. next q (set (set (set st (r .height - 3) (pos 0)) (r .height - 2) (pos 0)) (r .height - 1) (pos 0)) l) (c .onward .ensures) (c .before .before .set-loop .ensures ∙ sets-alike so _ _ _ _ _ _ _ _ _ _ _ _ refl refl refl v1 v2 v3) ∙ ap (λ t. begun t (loopAt s (a .b)) r st so) (sym (not-false _ (c .before .before .before .before .if1 .left)) ∙ e)
 
 pub do-doi-spec : {M : Type 1} → statement M
 do-doi-spec =
@@ -122,6 +122,6 @@ do-doi-spec =
     element-set-of-stack-2
     mul-stack-3
     element-set-of-stack-3
-    add-t12
+    onward-requires
     same-length
     returns-2)

@@ -2,17 +2,17 @@
 use mathlib.Core.Path.{_≡_, sym, ap, _∙_, subst}
 use Prim.Native.Nat.{_-_, ℕ}
 use native.Mathlib.Omega.{arith}
-use lib.IntN.{pos, _+ℤ_, _-ℤ_, _*ℤ_}
+use lib.IntN.{pos}
 use mir.Syntax.{w64}
 use mir.Facts.{toZ-ofZ, toZ-pos}
 use Rattle.rules_object.specs.Object.{ruleOf}
-use Rattle.rules_object.specs.Operations.{meant}
+use Rattle.rules_object.specs.Operations.{OP, meant}
 use Rattle.rules_object.specs.Machine.{cell, placeOf}
-use Rattle.number.specs.Number.{value, keep, drops, apply, kept}
+use Rattle.number.specs.Number.{add, sub, mul, div}
 use Rattle.rules_shared.specs.Choose.{positive, allPositive}
 use Rattle.object.specs.Layout.{elementAt, loopAt, objectAt}
-use Rattle.operations.proofs.Known.{is-ceiling, two, small, con-in, con-is, con-whole, con-small, lod-in, sto-in, element-is, lde-in, ste-in, loop-is, doi-in, doe-in, br3-in, br3-whole, br3-is, brc-in, brc-whole, brc-is, rest-halts}
-use Rattle.arithmetic.specs.Performed.{performed, pushed, popped, joined, loaded, put, branched, begun, ended}
+use Rattle.operations.proofs.Known.{two, small, con-in, con-is, con-whole, con-small, lod-in, sto-in, element-is, lde-in, ste-in, loop-is, doi-in, doe-in, br3-in, br3-whole, br3-is, brc-in, brc-whole, brc-is, rest-halts}
+use Rattle.arithmetic.specs.Performed.{next, performed, pushed, popped, loaded, put, branched, begun, ended}
 use Rattle.operations.specs.Ready.{Ready}
 use borrow.Author.Needs.{needs}
 use Rattle.operations.proofs.perform.Statement.{statement}
@@ -44,7 +44,7 @@ load-requires c κs =
     let x = c .before .before .before .args .x in
     let H = c .before .before .before .pre .0 in
     let y = ready (c .before .before .before) 1 (c .before .match .keys1) in
-    con-whole e s (a .p) r st so H x (con-in e s (a .p) r st so H x y)
+    con-whole e s (a .rule) r st so H x (con-in e s (a .rule) r st so H x y)
 
 cast-push : tie.Need-cast-push
 cast-push c = search needs
@@ -69,7 +69,7 @@ slice-copy-out-v c =
     let x = c .before .before .args .x in
     let H = c .before .before .pre .0 in
     let y = ready (c .before .before) 2 (c .match .keys2) in
-    lod-in e s (a .p) r st so H x y
+    lod-in e s (a .rule) r st so H x y
 
 push-requires-2 : tie.Need-push-requires-2
 push-requires-2 c κs =
@@ -90,7 +90,7 @@ store-top-requires c κs =
     let low = c .before .before .before .before .pre .0 .low in
     let ix = c .before .before .before .before .pre .1 .1 .0 in
     let y = ready (c .before .before .before .before) 3 (c .before .before .match .keys3) in
-    (omega (arith, y .popped), (low, (ix, sto-in e s (a .p) r st so H x y)))
+    (omega (arith, y .popped), (low, (ix, sto-in e s (a .rule) r st so H x y)))
 
 mul-do-lde : tie.Need-mul-do-lde
 mul-do-lde c = search needs
@@ -110,7 +110,7 @@ do-lde-requires c κs =
     let H = c .before .before .before .before .before .pre .0 in
     let ix = c .before .before .before .before .before .pre .1 .1 .0 in
     let y = ready (c .before .before .before .before .before) 4 (c .before .before .before .match .keys4) in
-    (lde-in e s (a .p) r st so H x y .1, (omega (arith, y .pushed), ix))
+    (lde-in e s (a .rule) r st so H x y .1, (omega (arith, y .pushed), ix))
 
 mul-do-ste : tie.Need-mul-do-ste
 mul-do-ste c = search needs
@@ -131,7 +131,7 @@ do-ste-requires c κs =
     let low = c .before .before .before .before .before .pre .0 .low in
     let ix = c .before .before .before .before .before .pre .1 .1 .0 in
     let y = ready (c .before .before .before .before .before) 5 (c .before .before .before .match .keys5) in
-    (ste-in e s (a .p) r st so H x y .1, (omega (arith, y .popped), (low, ix)))
+    (ste-in e s (a .rule) r st so H x y .1, (omega (arith, y .popped), (low, ix)))
 
 do-add-requires : tie.Need-do-add-requires
 do-add-requires c κs =
@@ -145,7 +145,7 @@ do-add-requires c κs =
     let low = c .before .before .before .pre .0 .low in
     let ix = c .before .before .before .pre .1 .1 .0 in
     let y = ready (c .before .before .before) 6 (c .before .match .keys6) in
-    ((omega (arith, y .popped), (low, ix)), two e s (a .p) r st so H)
+    ((omega (arith, y .popped), (low, ix)), two e s (a .rule) r st so H)
 
 do-sub-requires : tie.Need-do-sub-requires
 do-sub-requires c κs =
@@ -159,7 +159,7 @@ do-sub-requires c κs =
     let low = c .before .before .before .pre .0 .low in
     let ix = c .before .before .before .pre .1 .1 .0 in
     let y = ready (c .before .before .before) 7 (c .before .match .keys7) in
-    ((omega (arith, y .popped), (low, ix)), two e s (a .p) r st so H)
+    ((omega (arith, y .popped), (low, ix)), two e s (a .rule) r st so H)
 
 do-mul-requires : tie.Need-do-mul-requires
 do-mul-requires c κs =
@@ -173,7 +173,7 @@ do-mul-requires c κs =
     let low = c .before .before .before .pre .0 .low in
     let ix = c .before .before .before .pre .1 .1 .0 in
     let y = ready (c .before .before .before) 8 (c .before .match .keys8) in
-    ((omega (arith, y .popped), (low, ix)), two e s (a .p) r st so H)
+    ((omega (arith, y .popped), (low, ix)), two e s (a .rule) r st so H)
 
 do-div-requires : tie.Need-do-div-requires
 do-div-requires c κs =
@@ -187,7 +187,7 @@ do-div-requires c κs =
     let low = c .before .before .before .pre .0 .low in
     let ix = c .before .before .before .pre .1 .1 .0 in
     let y = ready (c .before .before .before) 9 (c .before .match .keys9) in
-    ((omega (arith, y .popped), (low, ix)), (small e s (a .p) r st so H (r .height - 2), small e s (a .p) r st so H (r .height - 1)))
+    ((omega (arith, y .popped), (low, ix)), two e s (a .rule) r st so H)
 
 do-neg-requires : tie.Need-do-neg-requires
 do-neg-requires c κs =
@@ -201,7 +201,10 @@ do-neg-requires c κs =
     let low = c .before .before .before .pre .0 .low in
     let ix = c .before .before .before .pre .1 .1 .0 in
     let y = ready (c .before .before .before) 10 (c .before .match .keys10) in
-    ((omega (arith, y .popped), (low, ix)), small e s (a .p) r st so H (r .height - 1))
+    ((omega (arith, y .popped), (low, ix)), omega (arith, small e s (a .rule) r st so H (r .height - 1)))
+
+going-to-requires : tie.Need-going-to-requires
+going-to-requires c κs = search needs
 
 mul-do-br3 : tie.Need-mul-do-br3
 mul-do-br3 c = search needs
@@ -221,7 +224,7 @@ do-br3-requires c κs =
     let H = c .before .before .before .before .pre .0 in
     let low = c .before .before .before .before .pre .0 .low in
     let y = ready (c .before .before .before .before) 12 (c .before .before .match .keys12) in
-    ((omega (arith, y .popped), low), br3-whole e s (a .p) r st so H x (br3-in e s (a .p) r st so H x y))
+    ((omega (arith, y .popped), low), br3-whole e s (a .rule) r st so H x (br3-in e s (a .rule) r st so H x y))
 
 mul-do-brc : tie.Need-mul-do-brc
 mul-do-brc c = search needs
@@ -241,7 +244,7 @@ do-brc-requires c κs =
     let H = c .before .before .before .before .pre .0 in
     let low = c .before .before .before .before .pre .0 .low in
     let y = ready (c .before .before .before .before) 13 (c .before .before .match .keys13) in
-    ((omega (arith, y .popped), low), brc-whole e s (a .p) r st so H x (brc-in e s (a .p) r st so H x y))
+    ((omega (arith, y .popped), low), brc-whole e s (a .rule) r st so H x (brc-in e s (a .rule) r st so H x y))
 
 mul-do-doi : tie.Need-mul-do-doi
 mul-do-doi c = search needs
@@ -262,7 +265,7 @@ do-doi-requires c κs =
     let low = c .before .before .before .before .before .pre .0 .low in
     let ix = c .before .before .before .before .before .pre .1 .1 .0 in
     let y = ready (c .before .before .before .before .before) 14 (c .before .before .before .match .keys14) in
-    (doi-in e s (a .p) r st so H x y .1, (omega (arith, y .popped), (low, ix)))
+    (doi-in e s (a .rule) r st so H x y .1, (omega (arith, y .popped), (low, ix)))
 
 mul-do-doe : tie.Need-mul-do-doe
 mul-do-doe c = search needs
@@ -282,10 +285,10 @@ do-doe-requires c κs =
     let H = c .before .before .before .before .pre .0 in
     let ix = c .before .before .before .before .pre .1 .1 .0 in
     let y = ready (c .before .before .before .before) 15 (c .before .before .match .keys15) in
-    (doe-in e s (a .p) r st so H x y .1, ix)
+    (doe-in e s (a .rule) r st so H x y .1, ix)
 
-cast-t62 : tie.Need-cast-t62
-cast-t62 c = search needs
+cast-t59 : tie.Need-cast-t59
+cast-t59 c = search needs
 
 returns : tie.Need-returns
 returns c =
@@ -299,8 +302,8 @@ returns c =
     let H = c .before .before .before .before .before .before .pre .0 in
     let y = ready (c .before .before .before .before .before .before) 1 (c .before .before .before .before .match .keys1) in
     let v = c .before .before .load .ensures in
-    let small = con-small e s (a .p) r st so H x y in
-    c .push .ensures so ∙ ap (pushed r st so) (toZ-pos w64 (omega (arith, v, small)) ∙ ap pos (v ∙ sym (con-is e s (a .p) r st so H x (con-in e s (a .p) r st so H x y)))) ∙ found (c .before .before .before .before .before .before) 1 (c .before .before .before .before .match .keys1)
+    let small = con-small e s (a .rule) r st so H x y in
+    c .push .ensures so ∙ ap (pushed r st so) (toZ-pos w64 (omega (arith, v, small)) ∙ ap pos (v ∙ sym (con-is e s (a .rule) r st so H x (con-in e s (a .rule) r st so H x y)))) ∙ found (c .before .before .before .before .before .before) 1 (c .before .before .before .before .match .keys1)
 
 returns-2 : tie.Need-returns-2
 returns-2 c =
@@ -332,7 +335,7 @@ returns-4 c =
     let x = c .before .before .before .before .before .before .args .x in
     let H = c .before .before .before .before .before .before .pre .0 in
     let y = ready (c .before .before .before .before .before .before) 4 (c .before .before .before .before .match .keys4) in
-    c .do-lde .ensures ∙ ap (λ n. loaded (placeOf so n) (n .base) r st so) (sym (element-is e s (a .p) r st so H x (lde-in e s (a .p) r st so H x y .0))) ∙ found (c .before .before .before .before .before .before) 4 (c .before .before .before .before .match .keys4)
+    c .do-lde .ensures ∙ ap (λ n. loaded (placeOf so n) (n .base) r st so) (sym (element-is e s (a .rule) r st so H x (lde-in e s (a .rule) r st so H x y .0))) ∙ found (c .before .before .before .before .before .before) 4 (c .before .before .before .before .match .keys4)
 
 same-length-3 : tie.Need-same-length-3
 same-length-3 c = search needs
@@ -349,52 +352,35 @@ returns-5 c =
     let x = c .before .before .before .before .before .before .before .args .x in
     let H = c .before .before .before .before .before .before .before .pre .0 in
     let y = ready (c .before .before .before .before .before .before .before) 5 (c .before .before .before .before .before .match .keys5) in
-    c .before .do-ste .ensures ∙ ap (λ n. put (placeOf so n) (n .base) r st so) (sym (element-is e s (a .p) r st so H x (ste-in e s (a .p) r st so H x y .0))) ∙ found (c .before .before .before .before .before .before .before) 5 (c .before .before .before .before .before .match .keys5)
+    c .before .do-ste .ensures ∙ ap (λ n. put (placeOf so n) (n .base) r st so) (sym (element-is e s (a .rule) r st so H x (ste-in e s (a .rule) r st so H x y .0))) ∙ found (c .before .before .before .before .before .before .before) 5 (c .before .before .before .before .before .match .keys5)
 
 returns-6 : tie.Need-returns-6
-unfolding apply kept
 returns-6 c =
     let a = c .before .before .before .before .args in
-    let st = c .before .before .before .before .args .stack .now in
-    let so = c .before .before .before .before .args .store .now in
-    let s = c .before .before .before .before .args .o .now in
-    let r = c .before .before .before .before .args .r in
-    let e = c .before .before .before .before .args .e in
     let H = c .before .before .before .before .pre .0 in
-    let z = cell st (r .height - 2) +ℤ cell st (r .height - 1) in
-    c .do-add .ensures so ∙ ap (λ q. joined (value (keep q z) (drops q z)) r st so) (is-ceiling e s (a .p) r st so H) ∙ found (c .before .before .before .before) 6 (c .before .before .match .keys6)
+    let so = a .store .now in
+    c .do-add .ensures so ∙ ap (λ k. performed k (OP add) (a .r) (a .stack .now) so) (H .rule) ∙ found (c .before .before .before .before) 6 (c .before .before .match .keys6)
 
 returns-7 : tie.Need-returns-7
-unfolding apply kept
 returns-7 c =
     let a = c .before .before .before .before .args in
-    let st = c .before .before .before .before .args .stack .now in
-    let so = c .before .before .before .before .args .store .now in
-    let s = c .before .before .before .before .args .o .now in
-    let r = c .before .before .before .before .args .r in
-    let e = c .before .before .before .before .args .e in
     let H = c .before .before .before .before .pre .0 in
-    let z = cell st (r .height - 2) -ℤ cell st (r .height - 1) in
-    c .do-sub .ensures so ∙ ap (λ q. joined (value (keep q z) (drops q z)) r st so) (is-ceiling e s (a .p) r st so H) ∙ found (c .before .before .before .before) 7 (c .before .before .match .keys7)
+    let so = a .store .now in
+    c .do-sub .ensures so ∙ ap (λ k. performed k (OP sub) (a .r) (a .stack .now) so) (H .rule) ∙ found (c .before .before .before .before) 7 (c .before .before .match .keys7)
 
 returns-8 : tie.Need-returns-8
-unfolding apply kept
 returns-8 c =
     let a = c .before .before .before .before .args in
-    let st = c .before .before .before .before .args .stack .now in
-    let so = c .before .before .before .before .args .store .now in
-    let s = c .before .before .before .before .args .o .now in
-    let r = c .before .before .before .before .args .r in
-    let e = c .before .before .before .before .args .e in
     let H = c .before .before .before .before .pre .0 in
-    let z = cell st (r .height - 2) *ℤ cell st (r .height - 1) in
-    c .do-mul .ensures so ∙ ap (λ q. joined (value (keep q z) (drops q z)) r st so) (is-ceiling e s (a .p) r st so H) ∙ found (c .before .before .before .before) 8 (c .before .before .match .keys8)
+    let so = a .store .now in
+    c .do-mul .ensures so ∙ ap (λ k. performed k (OP mul) (a .r) (a .stack .now) so) (H .rule) ∙ found (c .before .before .before .before) 8 (c .before .before .match .keys8)
 
 returns-9 : tie.Need-returns-9
-unfolding apply
 returns-9 c =
-    let so = c .before .before .before .before .args .store .now in
-    c .do-div .ensures so ∙ found (c .before .before .before .before) 9 (c .before .before .match .keys9)
+    let a = c .before .before .before .before .args in
+    let H = c .before .before .before .before .pre .0 in
+    let so = a .store .now in
+    c .do-div .ensures so ∙ ap (λ k. performed k (OP div) (a .r) (a .stack .now) so) (H .rule) ∙ found (c .before .before .before .before) 9 (c .before .before .match .keys9)
 
 returns-10 : tie.Need-returns-10
 returns-10 c =
@@ -403,7 +389,8 @@ returns-10 c =
 
 returns-11 : tie.Need-returns-11
 returns-11 c =
-    found (c .before .before) 11 (c .match .keys11)
+    let a = c .before .before .before .args in
+    ap (λ q. next q (a .stack .now) (a .store .now)) (c .going-to .ensures) ∙ found (c .before .before .before) 11 (c .before .match .keys11)
 
 returns-12 : tie.Need-returns-12
 returns-12 c =
@@ -416,7 +403,7 @@ returns-12 c =
     let x = c .before .before .before .before .before .args .x in
     let H = c .before .before .before .before .before .pre .0 in
     let y = ready (c .before .before .before .before .before) 12 (c .before .before .before .match .keys12) in
-    c .do-br3 .ensures so ∙ ap (popped r st so) (br3-is e s (a .p) r st so H x (br3-in e s (a .p) r st so H x y) (cell st (r .height - 1))) ∙ found (c .before .before .before .before .before) 12 (c .before .before .before .match .keys12)
+    c .do-br3 .ensures so ∙ ap (popped r st so) (br3-is e s (a .rule) r st so H x (br3-in e s (a .rule) r st so H x y) (cell st (r .height - 1))) ∙ found (c .before .before .before .before .before) 12 (c .before .before .before .match .keys12)
 
 returns-13 : tie.Need-returns-13
 returns-13 c =
@@ -429,7 +416,7 @@ returns-13 c =
     let x = c .before .before .before .before .before .args .x in
     let H = c .before .before .before .before .before .pre .0 in
     let y = ready (c .before .before .before .before .before) 13 (c .before .before .before .match .keys13) in
-    c .do-brc .ensures so ∙ ap (λ q. branched q r st so) (brc-is e s (a .p) r st so H x (brc-in e s (a .p) r st so H x y) (cell st (r .height - 1))) ∙ found (c .before .before .before .before .before) 13 (c .before .before .before .match .keys13)
+    c .do-brc .ensures so ∙ ap (λ q. branched q r st so) (brc-is e s (a .rule) r st so H x (brc-in e s (a .rule) r st so H x y) (cell st (r .height - 1))) ∙ found (c .before .before .before .before .before) 13 (c .before .before .before .match .keys13)
 
 same-length-4 : tie.Need-same-length-4
 same-length-4 c = search needs
@@ -445,7 +432,7 @@ returns-14 c =
     let x = c .before .before .before .before .before .before .before .args .x in
     let H = c .before .before .before .before .before .before .before .pre .0 in
     let y = ready (c .before .before .before .before .before .before .before) 14 (c .before .before .before .before .before .match .keys14) in
-    c .before .do-doi .ensures ∙ ap (λ d. begun (allPositive (cell st (r .height - 3)) (cell st (r .height - 2)) (cell st (r .height - 1))) d r st so) (sym (loop-is e s (a .p) r st so H x (doi-in e s (a .p) r st so H x y .0))) ∙ found (c .before .before .before .before .before .before .before) 14 (c .before .before .before .before .before .match .keys14)
+    c .before .do-doi .ensures ∙ ap (λ d. begun (allPositive (cell st (r .height - 3)) (cell st (r .height - 2)) (cell st (r .height - 1))) d r st so) (sym (loop-is e s (a .rule) r st so H x (doi-in e s (a .rule) r st so H x y .0))) ∙ found (c .before .before .before .before .before .before .before) 14 (c .before .before .before .before .before .match .keys14)
 
 same-length-5 : tie.Need-same-length-5
 same-length-5 c = search needs
@@ -462,7 +449,7 @@ returns-15 c =
     let x = c .before .before .before .before .before .before .args .x in
     let H = c .before .before .before .before .before .before .pre .0 in
     let y = ready (c .before .before .before .before .before .before) 15 (c .before .before .before .before .match .keys15) in
-    c .before .do-doe .ensures st ∙ ap (λ d. ended (positive (cell so (d .step))) d r st so) (sym (loop-is e s (a .p) r st so H x (doe-in e s (a .p) r st so H x y .0))) ∙ found (c .before .before .before .before .before .before) 15 (c .before .before .before .before .match .keys15)
+    c .before .do-doe .ensures st ∙ ap (λ d. ended (positive (cell so (d .step))) d r st so) (sym (loop-is e s (a .rule) r st so H x (doe-in e s (a .rule) r st so H x y .0))) ∙ found (c .before .before .before .before .before .before) 15 (c .before .before .before .before .match .keys15)
 
 returns-16 : tie.Need-returns-16
 returns-16 c =
@@ -500,6 +487,7 @@ perform-spec =
     do-mul-requires
     do-div-requires
     do-neg-requires
+    going-to-requires
     mul-do-br3
     add-do-br3
     do-br3-requires
@@ -512,7 +500,7 @@ perform-spec =
     mul-do-doe
     add-do-doe
     do-doe-requires
-    cast-t62
+    cast-t59
     returns
     returns-2
     same-length

@@ -1,11 +1,11 @@
 -- `runs::bench_read` meets its contract. Assumes nothing.
 use mathlib.Core.Path.{_≡_, sym, ap, _∙_}
-use Prim.Native.Nat.{ℕ, _^_}
 use native.Mathlib.Omega.{arith}
 use lib.ListN.{length}
 use borrow.Author.Tests.{not-true, not-false}
 use Rattle.object.specs.Layout.{objectAt}
-use Rattle.checker.proofs.Laws.{digits-low, ceiling-is}
+use Rattle.number.specs.Number.{digitsRule}
+use Rattle.checker.proofs.Laws.{digits-low, rule-is}
 use Rattle.lent.specs.Lending.{lent}
 use Rattle.runs.proofs.Runs.{made, bench-over, bench-refused, bench-held, bench-low, bench-ends, back, low-back}
 use borrow.Author.Needs.{needs}
@@ -30,8 +30,8 @@ returns c =
 index-requires : tie.Need-index-requires
 index-requires c κs = search needs
 
-ten-requires : tie.Need-ten-requires
-ten-requires c κs =
+of-digits-requires : tie.Need-of-digits-requires
+of-digits-requires c κs =
     let s = c .before .before .before .before .args .object .now in
     let e = c .before .before .before .before .args .e in
     let right = sym (c .before .before .limits-right .ensures s) ∙ not-false _ (c .before .if1 .left) in
@@ -54,58 +54,61 @@ returns-2 c =
     let l = lent (c .before .before .before .before .before .before .before .before .before .args .index .now) (c .before .before .before .before .before .before .before .before .before .args .height .now) (c .before .before .before .before .before .before .before .before .before .args .mark .now) (c .before .before .before .before .before .before .before .before .before .args .places .now) in
     let a = c .before .before .before .before .before .before .before .before .before .args .allowance in
     let right = sym (c .before .before .before .before .before .before .before .limits-right .ensures s) ∙ not-false _ (c .before .before .before .before .before .before .if1 .left) in
-    let power = c .before .before .before .before .ten .ensures ∙ ap (λ (k : ℕ). 10 ^ k) (c .before .before .before .before .before .index .ensures) in
-    let told = c .before .before .store-wrong .ensures s (power ∙ ceiling-is e s) in
+    let rule = c .before .before .before .before .of-digits .ensures ∙ ap digitsRule (c .before .before .before .before .before .index .ensures) ∙ rule-is e s in
+    let told = c .before .before .store-wrong .ensures s rule in
     made (c .not-run2 .ensures) (bench-refused e s store l a _ right told (c .before .if2 .taken))
+
+of-state-requires : tie.Need-of-state-requires
+of-state-requires c κs = search needs
 
 clear-requires : tie.Need-clear-requires
 clear-requires c κs = search needs
 
 bench-requires : tie.Need-bench-requires
 bench-requires c κs =
-    let s = c .before .before .before .before .before .before .before .before .before .before .before .before .args .object .now in
-    let e = c .before .before .before .before .before .before .before .before .before .before .before .before .args .e in
-    let store = c .before .before .before .before .before .before .before .before .before .before .before .before .args .store .now in
-    let l = lent (c .before .before .before .before .before .before .before .before .before .before .before .before .args .index .now) (c .before .before .before .before .before .before .before .before .before .before .before .before .args .height .now) (c .before .before .before .before .before .before .before .before .before .before .before .before .args .mark .now) (c .before .before .before .before .before .before .before .before .before .before .before .before .args .places .now) in
-    let a = c .before .before .before .before .before .before .before .before .before .before .before .before .args .allowance in
-    let placed = c .before .before .before .before .before .before .before .before .before .before .before .before .pre in
-    let right = sym (c .before .before .before .before .before .before .before .before .before .before .limits-right .ensures s) ∙ not-false _ (c .before .before .before .before .before .before .before .before .before .if1 .left) in
-    let power = c .before .before .before .before .before .before .before .ten .ensures ∙ ap (λ (k : ℕ). 10 ^ k) (c .before .before .before .before .before .before .before .before .index .ensures) in
-    let told = c .before .before .before .before .before .store-wrong .ensures s (power ∙ ceiling-is e s) in
-    let forty : length (c .before .before .before .before .before .before .before .before .before .before .before .before .args .places .now) ≡ 40 = c .before .before .before .clear-arg .given .0 .1 in
-    bench-held e s store l a _ placed right power _ told (c .before .before .before .before .if2 .left) _ _ forty (c .before .before .clear .ensures)
+    let s = c .before .before .before .before .before .before .before .before .before .before .before .before .before .args .object .now in
+    let e = c .before .before .before .before .before .before .before .before .before .before .before .before .before .args .e in
+    let store = c .before .before .before .before .before .before .before .before .before .before .before .before .before .args .store .now in
+    let l = lent (c .before .before .before .before .before .before .before .before .before .before .before .before .before .args .index .now) (c .before .before .before .before .before .before .before .before .before .before .before .before .before .args .height .now) (c .before .before .before .before .before .before .before .before .before .before .before .before .before .args .mark .now) (c .before .before .before .before .before .before .before .before .before .before .before .before .before .args .places .now) in
+    let a = c .before .before .before .before .before .before .before .before .before .before .before .before .before .args .allowance in
+    let placed = c .before .before .before .before .before .before .before .before .before .before .before .before .before .pre in
+    let right = sym (c .before .before .before .before .before .before .before .before .before .before .before .limits-right .ensures s) ∙ not-false _ (c .before .before .before .before .before .before .before .before .before .before .if1 .left) in
+    let rule = c .before .before .before .before .before .before .before .before .of-digits .ensures ∙ ap digitsRule (c .before .before .before .before .before .before .before .before .before .index .ensures) ∙ rule-is e s in
+    let told = c .before .before .before .before .before .before .store-wrong .ensures s rule in
+    let forty : length (c .before .before .before .before .before .before .before .before .before .before .before .before .before .args .places .now) ≡ 40 = c .before .before .before .clear-arg .given .0 .1 in
+    bench-held e s store l a _ placed right rule _ told (c .before .before .before .before .before .if2 .left) _ _ forty (c .before .before .clear .ensures) _ (c .before .before .before .before .of-state .ensures)
 
 finish-requires : tie.Need-finish-requires
 finish-requires c κs =
-    let s = c .before .before .before .before .before .before .before .before .before .before .before .before .before .before .before .before .before .args .object .now in
-    let e = c .before .before .before .before .before .before .before .before .before .before .before .before .before .before .before .before .before .args .e in
+    let s = c .before .before .before .before .before .before .before .before .before .before .before .before .before .before .before .before .before .before .args .object .now in
+    let e = c .before .before .before .before .before .before .before .before .before .before .before .before .before .before .before .before .before .before .args .e in
     let o = objectAt e s in
-    let store = c .before .before .before .before .before .before .before .before .before .before .before .before .before .before .before .before .before .args .store .now in
-    let l = lent (c .before .before .before .before .before .before .before .before .before .before .before .before .before .before .before .before .before .args .index .now) (c .before .before .before .before .before .before .before .before .before .before .before .before .before .before .before .before .before .args .height .now) (c .before .before .before .before .before .before .before .before .before .before .before .before .before .before .before .before .before .args .mark .now) (c .before .before .before .before .before .before .before .before .before .before .before .before .before .before .before .before .before .args .places .now) in
-    let a = c .before .before .before .before .before .before .before .before .before .before .before .before .before .before .before .before .before .args .allowance in
-    let placed = c .before .before .before .before .before .before .before .before .before .before .before .before .before .before .before .before .before .pre in
-    let right = sym (c .before .before .before .before .before .before .before .before .before .before .before .before .before .before .before .limits-right .ensures s) ∙ not-false _ (c .before .before .before .before .before .before .before .before .before .before .before .before .before .before .if1 .left) in
-    let power = c .before .before .before .before .before .before .before .before .before .before .before .before .ten .ensures ∙ ap (λ (k : ℕ). 10 ^ k) (c .before .before .before .before .before .before .before .before .before .before .before .before .before .index .ensures) in
-    let told = c .before .before .before .before .before .before .before .before .before .before .store-wrong .ensures s (power ∙ ceiling-is e s) in
-    let forty : length (c .before .before .before .before .before .before .before .before .before .before .before .before .before .before .before .before .before .args .places .now) ≡ 40 = c .before .before .before .before .before .before .before .before .clear-arg .given .0 .1 in
-    (placed, low-back e s (c .before .before .before .before .bench .result) _ right (back o (c .before .before .before .before .bench .result) _ _ a _ (bench-low e s store l a _ placed right power _ told (c .before .before .before .before .before .before .before .before .before .if2 .left) _ _ forty (c .before .before .before .before .before .before .before .clear .ensures)) (c .before .before .before .before .bench .ensures)))
+    let store = c .before .before .before .before .before .before .before .before .before .before .before .before .before .before .before .before .before .before .args .store .now in
+    let l = lent (c .before .before .before .before .before .before .before .before .before .before .before .before .before .before .before .before .before .before .args .index .now) (c .before .before .before .before .before .before .before .before .before .before .before .before .before .before .before .before .before .before .args .height .now) (c .before .before .before .before .before .before .before .before .before .before .before .before .before .before .before .before .before .before .args .mark .now) (c .before .before .before .before .before .before .before .before .before .before .before .before .before .before .before .before .before .before .args .places .now) in
+    let a = c .before .before .before .before .before .before .before .before .before .before .before .before .before .before .before .before .before .before .args .allowance in
+    let placed = c .before .before .before .before .before .before .before .before .before .before .before .before .before .before .before .before .before .before .pre in
+    let right = sym (c .before .before .before .before .before .before .before .before .before .before .before .before .before .before .before .before .limits-right .ensures s) ∙ not-false _ (c .before .before .before .before .before .before .before .before .before .before .before .before .before .before .before .if1 .left) in
+    let rule = c .before .before .before .before .before .before .before .before .before .before .before .before .before .of-digits .ensures ∙ ap digitsRule (c .before .before .before .before .before .before .before .before .before .before .before .before .before .before .index .ensures) ∙ rule-is e s in
+    let told = c .before .before .before .before .before .before .before .before .before .before .before .store-wrong .ensures s rule in
+    let forty : length (c .before .before .before .before .before .before .before .before .before .before .before .before .before .before .before .before .before .before .args .places .now) ≡ 40 = c .before .before .before .before .before .before .before .before .clear-arg .given .0 .1 in
+    (placed, low-back e s (c .before .before .before .before .bench .result) _ right (back o (c .before .before .before .before .bench .result) _ _ a _ (bench-low e s store l a _ placed right rule _ told (c .before .before .before .before .before .before .before .before .before .before .if2 .left) _ _ forty (c .before .before .before .before .before .before .before .clear .ensures) _ (c .before .before .before .before .before .before .before .before .before .of-state .ensures)) (c .before .before .before .before .bench .ensures)))
 
 same-length-2 : tie.Need-same-length-2
 same-length-2 c = search needs
 
 returns-3 : tie.Need-returns-3
 returns-3 c =
-    let s = c .before .before .before .before .before .before .before .before .before .before .before .before .before .before .before .before .before .before .args .object .now in
-    let e = c .before .before .before .before .before .before .before .before .before .before .before .before .before .before .before .before .before .before .args .e in
-    let store = c .before .before .before .before .before .before .before .before .before .before .before .before .before .before .before .before .before .before .args .store .now in
-    let l = lent (c .before .before .before .before .before .before .before .before .before .before .before .before .before .before .before .before .before .before .args .index .now) (c .before .before .before .before .before .before .before .before .before .before .before .before .before .before .before .before .before .before .args .height .now) (c .before .before .before .before .before .before .before .before .before .before .before .before .before .before .before .before .before .before .args .mark .now) (c .before .before .before .before .before .before .before .before .before .before .before .before .before .before .before .before .before .before .args .places .now) in
-    let a = c .before .before .before .before .before .before .before .before .before .before .before .before .before .before .before .before .before .before .args .allowance in
-    let placed = c .before .before .before .before .before .before .before .before .before .before .before .before .before .before .before .before .before .before .pre in
-    let right = sym (c .before .before .before .before .before .before .before .before .before .before .before .before .before .before .before .before .limits-right .ensures s) ∙ not-false _ (c .before .before .before .before .before .before .before .before .before .before .before .before .before .before .before .if1 .left) in
-    let power = c .before .before .before .before .before .before .before .before .before .before .before .before .before .ten .ensures ∙ ap (λ (k : ℕ). 10 ^ k) (c .before .before .before .before .before .before .before .before .before .before .before .before .before .before .index .ensures) in
-    let told = c .before .before .before .before .before .before .before .before .before .before .before .store-wrong .ensures s (power ∙ ceiling-is e s) in
-    let forty : length (c .before .before .before .before .before .before .before .before .before .before .before .before .before .before .before .before .before .before .args .places .now) ≡ 40 = c .before .before .before .before .before .before .before .before .before .clear-arg .given .0 .1 in
-    bench-ends e s store l a _ placed right power _ told (c .before .before .before .before .before .before .before .before .before .before .if2 .left) _ _ forty (c .before .before .before .before .before .before .before .before .clear .ensures) _ _ _ _ _ (c .before .before .before .before .before .bench .ensures) (c .finish .ensures _ _)
+    let s = c .before .before .before .before .before .before .before .before .before .before .before .before .before .before .before .before .before .before .before .args .object .now in
+    let e = c .before .before .before .before .before .before .before .before .before .before .before .before .before .before .before .before .before .before .before .args .e in
+    let store = c .before .before .before .before .before .before .before .before .before .before .before .before .before .before .before .before .before .before .before .args .store .now in
+    let l = lent (c .before .before .before .before .before .before .before .before .before .before .before .before .before .before .before .before .before .before .before .args .index .now) (c .before .before .before .before .before .before .before .before .before .before .before .before .before .before .before .before .before .before .before .args .height .now) (c .before .before .before .before .before .before .before .before .before .before .before .before .before .before .before .before .before .before .before .args .mark .now) (c .before .before .before .before .before .before .before .before .before .before .before .before .before .before .before .before .before .before .before .args .places .now) in
+    let a = c .before .before .before .before .before .before .before .before .before .before .before .before .before .before .before .before .before .before .before .args .allowance in
+    let placed = c .before .before .before .before .before .before .before .before .before .before .before .before .before .before .before .before .before .before .before .pre in
+    let right = sym (c .before .before .before .before .before .before .before .before .before .before .before .before .before .before .before .before .before .limits-right .ensures s) ∙ not-false _ (c .before .before .before .before .before .before .before .before .before .before .before .before .before .before .before .before .if1 .left) in
+    let rule = c .before .before .before .before .before .before .before .before .before .before .before .before .before .before .of-digits .ensures ∙ ap digitsRule (c .before .before .before .before .before .before .before .before .before .before .before .before .before .before .before .index .ensures) ∙ rule-is e s in
+    let told = c .before .before .before .before .before .before .before .before .before .before .before .before .store-wrong .ensures s rule in
+    let forty : length (c .before .before .before .before .before .before .before .before .before .before .before .before .before .before .before .before .before .before .before .args .places .now) ≡ 40 = c .before .before .before .before .before .before .before .before .before .clear-arg .given .0 .1 in
+    bench-ends e s store l a _ placed right rule _ told (c .before .before .before .before .before .before .before .before .before .before .before .if2 .left) _ _ forty (c .before .before .before .before .before .before .before .before .clear .ensures) _ (c .before .before .before .before .before .before .before .before .before .before .of-state .ensures) _ _ _ _ _ (c .before .before .before .before .before .bench .ensures) (c .finish .ensures _ _)
 
 pub bench-read-spec : {M : Type 1} → statement M
 bench-read-spec =
@@ -115,11 +118,12 @@ bench-read-spec =
     not-run-requires
     returns
     index-requires
-    ten-requires
+    of-digits-requires
     store-wrong-requires
     not-run-requires-2
     same-length
     returns-2
+    of-state-requires
     clear-requires
     bench-requires
     finish-requires

@@ -1,5 +1,6 @@
 -- `subscripts::subscript` meets its contract. Assumes nothing.
 use mathlib.Core.Path.{ap, _∙_}
+use Prim.Native.Nat.{_^_}
 use Rattle.rules_object.specs.Bytes.{signedOf}
 use Rattle.subscripts.proofs.Laws.{parts-small, parts-are}
 use borrow.Author.Needs.{needs}
