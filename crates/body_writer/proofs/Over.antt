@@ -7,10 +7,7 @@ use native.Mathlib.Omega.{arith}
 use lib.ListN.{length, take, drop, length-append, length-drop}
 use lib.Seq.{take-at, drop-at, length-take-le, drop-drop}
 use borrow.Rule.Slice.PartMut.{putMid}
-
--- a list with xs in the place of as many of its elements, from the a-th on
-unfoldable pub over : ℕ → List ℕ → List ℕ → List ℕ
-over a xs o = take a o ++ (xs ++ drop (a + length xs) o)
+use Rattle.body_writer.specs.Bodies.{over}
 
 -- the part from a to e, lent and given back with xs in it
 pub put-over : (a e : ℕ) (o xs : List ℕ) → a ≤ e → length xs ≡ e - a → putMid a (e - a) o xs ≡ over a xs o

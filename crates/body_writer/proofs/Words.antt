@@ -1,8 +1,8 @@
--- The bytes of words written one after the other, and of bodies each in its own part.
+-- The bytes of words written one after the other, and of bodies one after the other.
 -- Assumes nothing.
 use mathlib.Core.Path.{_≡_, refl, sym, ap, _∙_}
-use mathlib.Core.List.{List, [], _∷_, _++_, append-assoc, append-nil}
-use Prim.Native.Nat.{ℕ, _+_, _*_, _-_, _≤_, _<_}
+use mathlib.Core.List.{List, [], _∷_, _++_, append-nil}
+use Prim.Native.Nat.{ℕ, suc, _+_, _*_, _-_, _≤_, _<_}
 use native.Mathlib.Omega.{arith}
 use native.Mathlib.Numerals.{add-one}
 use lib.ListN.{length, take, drop, getD, length-append, drop-of-length-le}
@@ -10,7 +10,9 @@ use lib.Seq.{take-suc, length-take-le}
 use borrow.Rule.Slice.PartMut.{putMid}
 use Rattle.rules_object.specs.Bytes.{wordBytes, bytesOf, concat}
 use Rattle.rules_object.proofs.Words.{length-bytes}
-use Rattle.body_writer.proofs.Over.{over, over-over, put-over, length-over}
+use Rattle.bodies.specs.Edition.{head}
+use Rattle.body_writer.specs.Bodies.{over, PutBody, startOf}
+use Rattle.body_writer.proofs.Over.{put-over, over-over, length-over}
 
 pub bytes-append : (xs ys : List ℕ) → bytesOf (xs ++ ys) ≡ bytesOf xs ++ bytesOf ys
 bytes-append [] ys = refl
@@ -48,37 +50,56 @@ word-more xs o w i h room e =
     ∙ over-over 0 (i * 4) (bytesOf (take i xs)) (wordBytes (getD xs i 0)) o (omega arith) (omega arith)
     ∙ ap (λ (b : List ℕ). over 0 b o) (sym (bytes-more xs i h))
 
--- one more body, in its own part after those that are written
-pub body-more : {w p : List ℕ} (o ws b : List ℕ) (a e : ℕ) → w ≡ over 0 (bytesOf ws) o → 4 * length ws ≡ a → a + 4 * length b ≡ e → e ≤ length o → p ≡ bytesOf b
-    → putMid a (e - a) w p ≡ over 0 (bytesOf (ws ++ b)) o
-body-more {w = w} {p = p} o ws b a e before la lb room is =
-    let lw : length (bytesOf ws) ≡ 4 * length ws = length-bytes ws in
-    let ly : length (bytesOf b) ≡ 4 * length b = length-bytes b in
-    ap (λ (l : List ℕ). putMid a (e - a) l p) before
-    ∙ ap (putMid a (e - a) (over 0 (bytesOf ws) o)) is
-    ∙ put-over a e (over 0 (bytesOf ws) o) (bytesOf b) (omega arith) (omega arith)
-    ∙ over-over 0 a (bytesOf ws) (bytesOf b) o (omega arith) (omega arith)
-    ∙ ap (λ (l : List ℕ). over 0 l o) (sym (bytes-append ws b))
+-- a body in its own part
+pub put-part : {p : List ℕ} (o ws : List ℕ) (at n next : ℕ) → next ≡ at + 4 * n → n ≤ length ws → next ≤ length o → p ≡ bytesOf (take n ws)
+    → PutBody o at (take n ws) (putMid at (next - at) o p) next
+put-part {p} o ws at n next e h room is =
+    let l : length (take n ws) ≡ n = length-take-le n ws h in
+    record {
+      is = ap (putMid at (next - at) o) is ∙ put-over at next o (bytesOf (take n ws)) (omega arith) (omega (arith, length-first n ws h));
+      ends = omega arith;
+      inside = room;
+    }
 
--- a body in its own part leaves the length
-pub length-put : {p : List ℕ} (w : List ℕ) (m a e : ℕ) (b : List ℕ) → p ≡ bytesOf b → length w ≡ m → a + 4 * length b ≡ e → e ≤ m → length (putMid a (e - a) w p) ≡ m
-length-put {p = p} w m a e b is lw lb room =
-    ap (λ (l : List ℕ). length (putMid a (e - a) w l)) is ∙ ap length (put-over a e w (bytesOf b) (omega arith) (omega (arith, length-bytes b)))
-    ∙ length-over a (bytesOf b) w (omega (arith, length-bytes b)) ∙ lw
+-- ---- bodies
 
--- three bodies, each in its own part, fill what was lent
-pub three-parts : {p q r : List ℕ} (o x y z : List ℕ) (b c e : ℕ) → 4 * length x ≡ b → b + 4 * length y ≡ c → c + 4 * length z ≡ e → e ≡ length o
-    → p ≡ bytesOf x → q ≡ bytesOf y → r ≡ bytesOf z → putMid c (e - c) (putMid b (c - b) (putMid 0 (b - 0) o p) q) r ≡ bytesOf (x ++ (y ++ z))
-three-parts o x y z b c e lx ly lz all px qy rz =
-    let lxy : length (x ++ y) ≡ length x + length y = length-append x y in
-    let lxyz : length ((x ++ y) ++ z) ≡ length (x ++ y) + length z = length-append (x ++ y) z in
-    let one = body-more o [] x 0 b (over-none o) refl (omega arith) (omega arith) px in
-    let two = body-more o x y b c one lx ly (omega arith) qy in
-    let three = body-more o (x ++ y) z c e two (omega arith) lz (omega arith) rz in
-    three ∙ over-all (bytesOf ((x ++ y) ++ z)) o (omega (arith, length-bytes ((x ++ y) ++ z))) ∙ ap bytesOf (append-assoc x y z)
+-- written one after the other, from byte `at` on
+pub record Bodies (before : List ℕ) (at : ℕ) (bs : List (List ℕ)) (after : List ℕ) : Type 0 where
+  pub is : after ≡ over at (bytesOf (concat bs)) before
+  pub inside : at + 4 * length (concat bs) ≤ length before
 
-pub length-three : (x y z : List ℕ) (n m k : ℕ) → length x ≡ n → length y ≡ m → length z ≡ k → length (x ++ (y ++ z)) ≡ n + m + k
-length-three x y z n m k lx ly lz = omega (arith, length-append x (y ++ z), length-append y z)
+pub put-last : {o w x : List ℕ} {at next : ℕ} → PutBody o at x w next → Bodies o at (x ∷ []) w
+put-last {o} {w} {x} {at} p =
+    record {
+      is = p .is ∙ ap (λ (l : List ℕ). over at (bytesOf l) o) (sym (append-nil x));
+      inside = omega (arith, length-append x [], p .ends, p .inside);
+    }
 
-pub joined : (a b c d e f g : List ℕ) → (a ++ (b ++ c)) ++ ((d ++ (e ++ f)) ++ g) ≡ concat (a ∷ b ∷ c ∷ d ∷ e ∷ f ∷ g ∷ [])
-joined a b c d e f g = simp (append-assoc, append-nil)
+pub put-first : {o w v x : List ℕ} {bs : List (List ℕ)} {at next : ℕ} → PutBody o at x w next → Bodies w next bs v → Bodies o at (x ∷ bs) v
+put-first {o} {w} {v} {x} {bs} {at} {next} p r =
+    let lx : length (bytesOf x) ≡ 4 * length x = length-bytes x in
+    let ly : length (bytesOf (concat bs)) ≡ 4 * length (concat bs) = length-bytes (concat bs) in
+    let lw : length w ≡ length o = ap length (p .is) ∙ length-over at (bytesOf x) o (omega (arith, p .ends, p .inside)) in
+    record {
+      is = r .is ∙ ap (over next (bytesOf (concat bs))) (p .is)
+          ∙ over-over at next (bytesOf x) (bytesOf (concat bs)) o (omega (arith, p .ends)) (omega (arith, r .inside))
+          ∙ ap (λ (l : List ℕ). over at l o) (sym (bytes-append x (concat bs)));
+      inside = omega (arith, length-append x (concat bs), r .inside, p .ends);
+    }
+
+-- the bodies before kind k are written: the next starts here, and the output is as long as before
+pub record Upto (before counts : List ℕ) (k : ℕ) (now : List ℕ) (at : ℕ) : Type 0 where
+  pub starts : at ≡ startOf counts k
+  pub long : length now ≡ length before
+
+pub upto-none : (o counts : List ℕ) → Upto o counts 0 o head
+upto-none o counts = record { starts = refl; long = refl }
+
+pub upto-more : {o w v : List ℕ} {at next : ℕ} (t counts : List ℕ) (k : ℕ) → Upto o counts k w at → PutBody w at (take (getD counts k 0) t) v next → getD counts k 0 ≤ length t
+    → Upto o counts (suc k) v next
+upto-more {at = at} t counts k u p h =
+    let l = length-take-le (getD counts k 0) t h in
+    record {
+      starts = omega (arith, u .starts, p .ends);
+      long = ap length (p .is) ∙ length-over at (bytesOf (take (getD counts k 0) t)) _ (omega (arith, length-bytes (take (getD counts k 0) t), p .ends, p .inside)) ∙ u .long;
+    }

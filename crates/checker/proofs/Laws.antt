@@ -6,11 +6,8 @@ use mathlib.Core.List.{List, [], _∷_}
 use mathlib.Core.Option.{Option, none, some}
 use Prim.Native.Nat.{ℕ, zero, suc, _+_, _≤_, _<_}
 use native.Mathlib.Omega.{arith}
-use lib.Dec.{leb}
 use lib.ListN.{length, getD}
-use borrow.Author.Tests.{leb-true}
 use Rattle.number.specs.Number.{digitsRule}
-use Rattle.rules_shared.specs.Limits.{limits}
 use Rattle.rules_object.specs.Object.{Object, ruleOf}
 use Rattle.rules_object.specs.Check.{right41, rightConstant, rightElement, rightLoop, rightLine, rightNamed}
 use Rattle.rules_object.specs.Operations.{noElement, noLoop, right43, flowOf}
@@ -19,7 +16,8 @@ use Rattle.rules_object.specs.Bytes.{readObject}
 use Rattle.rules_shared.specs.Refusals.{Refusal, refusal, atEntry}
 use Rattle.rules_shared.specs.Lists.{firstBad}
 use Rattle.rules_object.specs.Calls.{refused42, refused43, Checked, refused, judged44, judged, checked}
-use Rattle.rules_object.proofs.Passed.{some-none, both}
+use Rattle.rules_object.proofs.Passed.{some-none}
+use Rattle.rules_object.proofs.Limited.{Limited, limited}
 use Rattle.rules_object.proofs.Accepts.{If, or-if}
 use Rattle.object.specs.declared.Layout.{Layout}
 use Rattle.object.specs.Layout.{objectAt, Placed}
@@ -83,37 +81,6 @@ low test l d number kind h = by (firstBad test l 0) (first test l 0 d)
     by (some i) g = omega arith
 
 -- ---- 41 and what it settles
-
-pub record Limited (o : Object) : Type 0 where
-  pub digits : o .digits ≤ 9
-  pub constants : length (o .constants) ≤ 256
-  pub elements : length (o .elements) ≤ 256
-  pub dos : length (o .dos) ≤ 64
-  pub code : length (o .code) ≤ 4096
-  pub lines : length (o .lines) ≤ 400
-  pub names : length (o .names) ≤ 100
-
-pub limited : (o : Object) → right41 o ≡ true → Limited o
-unfolding right41
-limited o h =
-    let t₁ = both (leb 1 (o .digits)) _ h in
-    let t₂ = both (leb (o .digits) (limits .digits)) _ (t₁ .1) in
-    let t₃ = both (leb (o .cells) (limits .cells)) _ (t₂ .1) in
-    let t₄ = both (leb (length (o .constants)) (limits .constants)) _ (t₃ .1) in
-    let t₅ = both (leb (length (o .elements)) (limits .elements)) _ (t₄ .1) in
-    let t₆ = both (leb (length (o .exits)) (limits .exits)) _ (t₅ .1) in
-    let t₇ = both (leb (length (o .dos)) (limits .dos)) _ (t₆ .1) in
-    let t₈ = both (leb (length (o .code)) (limits .code)) _ (t₇ .1) in
-    let t₉ = both (leb (length (o .lines)) (limits .statements)) _ (t₈ .1) in
-    record {
-      digits = leb-true _ _ (t₂ .0);
-      constants = leb-true _ _ (t₄ .0);
-      elements = leb-true _ _ (t₅ .0);
-      dos = leb-true _ _ (t₇ .0);
-      code = leb-true _ _ (t₈ .0);
-      lines = leb-true _ _ (t₉ .0);
-      names = leb-true _ _ (t₉ .1);
-    }
 
 pub digits-low : (e : Layout) (s : List ℕ) → right41 (objectAt e s) ≡ true → e .digits < 10
 unfolding objectAt

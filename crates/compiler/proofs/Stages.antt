@@ -8,7 +8,7 @@ use native.Mathlib.Omega.{arith}
 use lib.ListN.{length, getElem?}
 use Rattle.rules_shared.specs.House.{house1401}
 use Rattle.rules_object.specs.Bytes.{objectBytes}
-use Rattle.rules_shared.specs.Refusals.{Refusal, refusal}
+use Rattle.rules_shared.specs.Refusals.{Refusal, refusal, noRoom}
 use Rattle.rules_shared.specs.Output.{notWritten, write}
 use Rattle.rules_shared.specs.Lists.{Each}
 use Rattle.rules_deck.specs.Trees.{Name, Form, assign, loop, Target, cell, Statement}
@@ -139,16 +139,16 @@ module _ {k : ℕ} {deck : List Statement} {n : Counts} {names constants element
       }
 
   whole-right : (output : List ℕ) (r : Placed) → whole.Judged deck r → r .verdict ≡ verdict.Right
-      → write (objectBytes (translate (house1401 k) deck)) output ≡ writeRead (house1401 k) output (judgeRead (read deck))
+      → write noRoom (objectBytes (translate (house1401 k) deck)) output ≡ writeRead (house1401 k) output (judgeRead (read deck))
   whole-right output r j e = sym (ap (λ (o : Option Refusal). writeRead (house1401 k) output (orRefuse deck o)) (right r j e))
 
   pub whole-object : {length : ℕ} (output output′ : List ℕ) (r : Placed) → whole.Judged deck r → r .verdict ≡ verdict.Right → (w : Wrote)
-      → written.answer w output′ ≡ write (objectBytes (translate (house1401 k) deck)) output → w ≡ wrote.Bytes length → answer (Object length) output′ ≡ writeRead (house1401 k) output (judgeRead (read deck))
+      → written.answer w output′ ≡ write noRoom (objectBytes (translate (house1401 k) deck)) output → w ≡ wrote.Bytes length → answer (Object length) output′ ≡ writeRead (house1401 k) output (judgeRead (read deck))
   whole-object output output′ r j e w a i =
       sym (ap (λ (x : Wrote). written.answer x output′) i) ∙ a ∙ whole-right output r j e
 
   pub whole-short : (output output′ : List ℕ) (r : Placed) → whole.Judged deck r → r .verdict ≡ verdict.Right → (w : Wrote)
-      → written.answer w output′ ≡ write (objectBytes (translate (house1401 k) deck)) output → w ≡ wrote.Short → answer Short output′ ≡ writeRead (house1401 k) output (judgeRead (read deck))
+      → written.answer w output′ ≡ write noRoom (objectBytes (translate (house1401 k) deck)) output → w ≡ wrote.Short → answer Short output′ ≡ writeRead (house1401 k) output (judgeRead (read deck))
   whole-short output output′ r j e w a i =
       sym (ap (λ (x : Wrote). written.answer x output′) i) ∙ a ∙ whole-right output r j e
 

@@ -5,7 +5,7 @@ use Prim.Native.Nat.{ℕ}
 use mathlib.Core.List.{List}
 use lib.ListN.{length}
 use Rattle.rules_shared.specs.House.{house1401}
-use Rattle.rules_shared.specs.Refusals.{refusal, accepted}
+use Rattle.rules_shared.specs.Refusals.{refusal, accepted, noRoom}
 use Rattle.rules_shared.specs.Output.{Written, notWritten}
 use Rattle.rules_deck.specs.Trees.{Statement}
 use Rattle.rules_deck.specs.Cards.{Punched, statements, carded}
@@ -20,7 +20,7 @@ use Rattle.compiler.specs.declared.Compiled.the-variants.{Refused, Objec
 abbrev pub answer : Compiled → List ℕ → Written
 answer (Refused number place) output = notWritten (refusal number place 0) output
 answer (Object n) output = record { refusal = accepted; length = n; output = output }
-answer Short output = notWritten (refusal 30 0 0) output
+answer Short output = notWritten (refusal noRoom 0 0) output
 
 -- a deck whose cards are right
 pub record Punches (k : ℕ) (bytes : List ℕ) : Type 0 where

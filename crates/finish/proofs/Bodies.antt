@@ -6,7 +6,7 @@ use mathlib.Core.List.{List, [], _∷_, map}
 use native.Mathlib.Omega.{arith}
 use lib.ListN.{length, take, length-take}
 use Rattle.rules_shared.specs.House.{house1401}
-use Rattle.rules_object.specs.Bytes.{bytesOf, concat, loopWords, lineWords, nameWords, bodies, objectBytes}
+use Rattle.rules_object.specs.Bytes.{bytesOf, concat, loopWords, lineWords, nameWords, objectBytes, bodyWords}
 use Rattle.rules_deck.specs.Trees.{Statement}
 use Rattle.rules_deck.specs.Deck.{dosOf}
 use Rattle.rules_deck.specs.Translation.{heldOf, linesFrom, namesFrom, loopEntry, translate}
@@ -14,16 +14,17 @@ use Rattle.draft.specs.declared.Counts.{Counts}
 use Rattle.addresses.specs.Given.{Judged, Starts, Holds}
 use Rattle.lines.specs.Names.{Names}
 use Rattle.settle.specs.Settling.{Settling, Leading}
-use Rattle.body_writer.specs.declared.Counts as words
+use Rattle.rules_object.proofs.RoundTrip.{ones}
+use Rattle.bodies.specs.Edition.{count}
 use Rattle.contents_writer.specs.Contents.{wordsOfBodies}
-use Rattle.body_writer.specs.Counts.{total, Within, firstWords}
+use Rattle.body_writer.specs.Bodies.{firstWords, Within, startOf}
 use Rattle.contents_writer.proofs.Words.{object-bytes}
 use Rattle.finish.specs.Finishing.{Finished}
 
 -- how many words each body has, as the writer counts them
-abbrev pub wordsIn : Counts → ℕ → ℕ → ℕ → words.Counts
+abbrev pub wordsIn : Counts → ℕ → ℕ → ℕ → List ℕ
 wordsIn n exits code lines =
-    record { constants = n .constants; elements = 9 * n .elements; exits = exits; dos = 4 * n .dos; code = code; lines = lines; names = 5 * n .names }
+    n .constants ∷ 9 * n .elements ∷ exits ∷ 4 * n .dos ∷ code ∷ lines ∷ 5 * n .names ∷ []
 
 seven : {a b c d e f g a′ b′ c′ d′ e′ f′ g′ : List ℕ} → a ≡ a′ → b ≡ b′ → c ≡ c′ → d ≡ d′ → e ≡ e′ → f ≡ f′ → g ≡ g′
     → _≡_ {A = List (List ℕ)} (a ∷ b ∷ c ∷ d ∷ e ∷ f ∷ g ∷ []) (a′ ∷ b′ ∷ c′ ∷ d′ ∷ e′ ∷ f′ ∷ g′ ∷ [])
@@ -38,25 +39,26 @@ module _ {k : ℕ} {deck : List Statement} {n : Counts} {names constants element
   pub bodies-are : {exits settled lines : List ℕ} {x c l : ℕ} (dos′ entries : List ℕ) → Holds exits x (translate (house1401 k) deck .exits) → Holds settled c (translate (house1401 k) deck .code)
       → take (4 * n .dos) dos′ ≡ concat (map loopWords (map (loopEntry deck) (dosOf deck))) → Holds lines l (concat (map lineWords (linesFrom deck 0 deck)))
       → take (5 * n .names) entries ≡ concat (map nameWords (namesFrom (house1401 k) 0 (heldOf deck)))
-      → firstWords (wordsIn n x c l) constants elements exits dos′ settled lines entries ≡ bodies (translate (house1401 k) deck)
+      → firstWords (wordsIn n x c l) (constants ∷ elements ∷ exits ∷ dos′ ∷ settled ∷ lines ∷ entries ∷ []) ≡ bodyWords (translate (house1401 k) deck)
   unfolding translate
-  bodies-are dos′ entries hx hc hd hl hn = seven (f .kept .constants-are) (f .kept .elements-are) (hx .words) hd (hc .words) (hl .words) hn
+  bodies-are dos′ entries hx hc hd hl hn =
+      seven (f .kept .constants-are ∙ sym (ones _)) (f .kept .elements-are) (hx .words ∙ sym (ones _)) hd (hc .words ∙ sym (ones _)) (hl .words) hn
 
   cells-are : n .cells ≡ translate (house1401 k) deck .cells
   unfolding translate
   cells-are = f .kept .cells-count
 
-  digits-are : bytesOf (wordsOfBodies k (translate (house1401 k) deck .cells) (bodies (translate (house1401 k) deck))) ≡ bytesOf (wordsOfBodies (translate (house1401 k) deck .digits) (translate (house1401 k) deck .cells) (bodies (translate (house1401 k) deck)))
+  digits-are : bytesOf (wordsOfBodies k (translate (house1401 k) deck .cells) (bodyWords (translate (house1401 k) deck))) ≡ bytesOf (wordsOfBodies (translate (house1401 k) deck .digits) (translate (house1401 k) deck .cells) (bodyWords (translate (house1401 k) deck)))
   unfolding translate
   digits-are = refl
 
   pub bytes-are : {exits settled lines : List ℕ} {x c l : ℕ} (dos′ entries : List ℕ) → Holds exits x (translate (house1401 k) deck .exits) → Holds settled c (translate (house1401 k) deck .code)
       → take (4 * n .dos) dos′ ≡ concat (map loopWords (map (loopEntry deck) (dosOf deck))) → Holds lines l (concat (map lineWords (linesFrom deck 0 deck)))
       → take (5 * n .names) entries ≡ concat (map nameWords (namesFrom (house1401 k) 0 (heldOf deck)))
-      → bytesOf (wordsOfBodies k (n .cells) (firstWords (wordsIn n x c l) constants elements exits dos′ settled lines entries)) ≡ objectBytes (translate (house1401 k) deck)
+      → bytesOf (wordsOfBodies k (n .cells) (firstWords (wordsIn n x c l) (constants ∷ elements ∷ exits ∷ dos′ ∷ settled ∷ lines ∷ entries ∷ []))) ≡ objectBytes (translate (house1401 k) deck)
   bytes-are dos′ entries hx hc hd hl hn =
       ap (λ (b : List (List ℕ)). bytesOf (wordsOfBodies k (n .cells) b)) (bodies-are dos′ entries hx hc hd hl hn)
-      ∙ ap (λ (i : ℕ). bytesOf (wordsOfBodies k i (bodies (translate (house1401 k) deck)))) (cells-are)
+      ∙ ap (λ (i : ℕ). bytesOf (wordsOfBodies k i (bodyWords (translate (house1401 k) deck)))) (cells-are)
       ∙ digits-are
       ∙ sym (object-bytes (translate (house1401 k) deck))
 
@@ -84,7 +86,7 @@ module _ {k : ℕ} {deck : List Statement} {n : Counts} {names constants element
 
   pub fits : {exits settled lines : List ℕ} {x c l : ℕ} {xs cs ls : List ℕ} (dos′ entries : List ℕ) → Holds exits x xs → Holds settled c cs → Holds lines l ls
       → length exits ≡ 1024 → length settled ≡ 4096 → length lines ≡ 1200 → length dos′ ≡ 256 → length entries ≡ 500
-      → (100 + 4 * total (wordsIn n x c l) < 2 ^ 32) × Within (wordsIn n x c l) constants elements exits dos′ settled lines entries
+      → (startOf (wordsIn n x c l) count < 2 ^ 32) × Within (wordsIn n x c l) (constants ∷ elements ∷ exits ∷ dos′ ∷ settled ∷ lines ∷ entries ∷ [])
   fits {exits} {settled} {lines} {x} {c} {l} dos′ entries hx hc hl ex es el ed en =
       let a = holds-fits hx in
       let b = holds-fits hc in
@@ -95,4 +97,4 @@ module _ {k : ℕ} {deck : List Statement} {n : Counts} {names constants element
       let es′ : 9 * n .elements ≤ length elements = omega (arith, t .elements, r .elements-long) in
       let ds : 4 * n .dos ≤ length dos′ = omega (arith, t .dos) in
       let ns : 5 * n .names ≤ length entries = omega (arith, t .names) in
-      (omega (arith, t .constants, t .elements, t .dos, t .names), (cs, es′, a, ds, b, d, ns))
+      (omega (arith, t .constants, t .elements, t .dos, t .names), (cs, es′, a, ds, b, d, ns, tt))

@@ -2,6 +2,7 @@
 ghost use mathlib.Core.Path.{_≡_};
 ghost use mathlib.Core.List.{List};
 ghost use Rattle.rules_object.specs.Bytes.{objectBytes};
+ghost use Rattle.rules_shared.specs.Refusals.{noRoom};
 ghost use Rattle.rules_shared.specs.Output.{write};
 ghost use Rattle.rules_shared.specs.House.{house1401};
 ghost use Rattle.rules_deck.specs.Trees.{Statement};
@@ -26,7 +27,7 @@ pub fn finish(
     output: &mut [u8],
 ) -> Wrote
     requires { ⌜ Finishes k n (now names) (now constants) (now elements) (now dos) (now loops) (now code) (now rows) (now jumps) ⌝ }
-    ensures { λ r. ⌜ ((deck : List Statement) → Finished k deck n (now (names .entry)) (now (constants .entry)) (now (elements .entry)) (now (dos .entry)) (now (loops .entry)) (now (code .entry)) (now (rows .entry)) (now (jumps .entry)) → answer r (now (output .exit)) ≡ write (objectBytes (translate (house1401 k) deck)) (now (output .entry))) × Low r ⌝ }
+    ensures { λ r. ⌜ ((deck : List Statement) → Finished k deck n (now (names .entry)) (now (constants .entry)) (now (elements .entry)) (now (dos .entry)) (now (loops .entry)) (now (code .entry)) (now (rows .entry)) (now (jumps .entry)) → answer r (now (output .exit)) ≡ write noRoom (objectBytes (translate (house1401 k) deck)) (now (output .entry))) × Low r ⌝ }
 {
     let mut starts = [0u32; 401];
     addresses::addresses(rows, n.statements, loops, n.dos, jumps, &mut starts);
@@ -48,15 +49,15 @@ pub fn finish(
     let line_words = lines::lines(rows, n.statements, &starts, &mut table);
     let mut entries = [0u32; 500];
     lines::names(names, n.names, &mut entries);
-    let counts = body_writer::Counts {
-        constants: n.constants,
-        elements: 9 * n.elements,
-        exits: exit_words,
-        dos: 4 * n.dos,
-        code: words,
-        lines: line_words,
-        names: 5 * n.names,
-    };
+    let counts = [
+        n.constants,
+        bodies::ELEMENT * n.elements,
+        exit_words,
+        bodies::LOOP * n.dos,
+        words,
+        line_words,
+        bodies::NAME * n.names,
+    ];
     writer::write(
         output,
         k,

@@ -5,17 +5,12 @@ use mathlib.Core.Bool.{true}
 use mathlib.Core.List.{List}
 use Prim.Native.Nat.{ℕ, _+_, _*_, _/_, _%_, _^_, _≤_, _<_}
 use native.Mathlib.Omega.{arith}
-use lib.Dec.{leb}
 use lib.ListN.{length, getD}
-use borrow.Author.Tests.{leb-true}
-use Rattle.rules_shared.specs.Limits.{limits}
-use Rattle.rules_object.specs.Object.{Object}
-use Rattle.rules_object.specs.Check.{right41}
 use Rattle.rules_object.specs.Operations.{Instr, operationOf, operandOf, meant, decode, right43, operationAt, operationNumber, successors, instruction, flowOf}
 use Rattle.rules_object.specs.Heights.{waiting}
 use Rattle.rules_object.specs.Filling.{Filling}
 use Rattle.rules_object.proofs.Fills.{there}
-use Rattle.rules_object.proofs.Passed.{both}
+use Rattle.rules_object.proofs.Limited.{limited}
 use Rattle.word.specs.Word.{wordAt}
 use Rattle.object.specs.Layout.{objectAt}
 use Rattle.object.specs.declared.Layout.{Layout}
@@ -32,20 +27,8 @@ flow-length e s = code-length e s
 pub waits-inside : (e : Layout) (s H W : List ℕ) (b : ℕ) {a : ℕ} → waiting W b ≡ a → Filling (flowOf (objectAt e s)) H W (b + 1) → a < e .«code_count»
 waits-inside e s H W b {a} is f = omega (arith, there (flowOf (objectAt e s)) H W b a is f .0, flow-length e s)
 
-within : (o : Object) → right41 o ≡ true → length (o .code) ≤ limits .code
-unfolding right41
-within o r =
-    let r₁ = both (leb 1 (o .digits)) _ r .1 in
-    let r₂ = both (leb (o .digits) (limits .digits)) _ r₁ .1 in
-    let r₃ = both (leb (o .cells) (limits .cells)) _ r₂ .1 in
-    let r₄ = both (leb (length (o .constants)) (limits .constants)) _ r₃ .1 in
-    let r₅ = both (leb (length (o .elements)) (limits .elements)) _ r₄ .1 in
-    let r₆ = both (leb (length (o .exits)) (limits .exits)) _ r₅ .1 in
-    let r₇ = both (leb (length (o .dos)) (limits .dos)) _ r₆ .1 in
-    leb-true _ _ (both (leb (length (o .code)) (limits .code)) _ r₇ .0)
-
 pub code-within : {e : Layout} {s : List ℕ} → Judged e s → e .«code_count» ≤ 4096
-code-within {e} {s} j = omega (arith, within (objectAt e s) (j .right), code-length e s)
+code-within {e} {s} j = omega (arith, limited (objectAt e s) (j .right) .code, code-length e s)
 
 -- ---- the instruction at a, by its word's operation and operand
 

@@ -1,2 +1,3 @@
 pub mod Says
 pub mod Firsts
+pub mod Tables

@@ -9,13 +9,15 @@ ghost use Rattle.number.specs.Number as number;
 ghost use Rattle.number.specs.Code.{ruled};
 ghost use Rattle.rules_object.specs.Bytes.{signedOf};
 ghost use Rattle.rules_object.specs.Object.{ruleOf};
-ghost use Rattle.rules_object.specs.Check.{right41, rightConstant, rightElement, rightLoop, rightLine};
+ghost use Rattle.rules_object.specs.Check.{countsWithin, right41, rightConstant, rightElement, rightLoop, rightLine};
 ghost use Rattle.rules_object.specs.Operations.{noElement, noLoop};
 ghost use Rattle.rules_shared.specs.Refusals.{orElse, atEntry};
 ghost use Rattle.rules_object.specs.Calls.{refused42};
 ghost use Rattle.word.specs.Word.{wordAt};
+ghost use Rattle.bodies.specs.Edition.{kinds};
 ghost use Rattle.object.specs.Layout.{Placed, objectAt};
 ghost use Rattle.judge.specs.Judge.{noLine, subscriptAt, refusalOf, countOf, passes, firstFrom};
+use bodies::KINDS;
 use named::wide;
 use number::Rule;
 use object::Layout;
@@ -30,30 +32,35 @@ const DIGITS: u32 = 9;
 
 const CELLS: u32 = 4096;
 
-const CONSTANTS: usize = 256;
-
-const ELEMENTS: usize = 256;
-
-const EXITS: usize = 1024;
-
-const DOS: usize = 64;
-
-const CODE: usize = 4096;
-
-const STATEMENTS: usize = 400;
-
-const NAMES: usize = 100;
-
 // ---- 41
+
+// No body has more entries than its kind may have.
+fn tables_right(counts: [usize; KINDS]) -> bool
+    ensures { λ r. ⌜ r ≡ countsWithin kinds counts ⌝ }
+{
+    let mut kind = 0;
+    while kind < KINDS {
+        if bodies::most_entries(kind) < counts[kind] {
+            return false;
+        }
+        kind += 1;
+    }
+    true
+}
 
 pub fn limits_right(e: Layout) -> bool
     ensures { λ r. ⌜ ((s : List ℕ) → r ≡ right41 (objectAt e s)) ⌝ }
 {
-    let statements = (e.line_count <= STATEMENTS) & (e.name_count <= NAMES);
-    let flow = (e.exit_count <= EXITS)
-        & ((e.do_count <= DOS) & ((e.code_count <= CODE) & statements));
-    let tables = (e.constant_count <= CONSTANTS) & ((e.element_count <= ELEMENTS) & flow);
-    (1 <= e.digits) & ((e.digits <= DIGITS) & ((e.cells <= CELLS) & tables))
+    let counts = [
+        e.constant_count,
+        e.element_count,
+        e.exit_count,
+        e.do_count,
+        e.code_count,
+        e.line_count,
+        e.name_count,
+    ];
+    (1 <= e.digits) & ((e.digits <= DIGITS) & ((e.cells <= CELLS) & tables_right(counts)))
 }
 
 // ---- 42

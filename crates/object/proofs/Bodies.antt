@@ -12,7 +12,8 @@ use lib.Dec.{leb, eqb}
 use lib.ListN.{length, getD, take, drop, length-drop}
 use lib.Seq.{drop-cons, drop-drop, getD-drop, getD-take}
 use borrow.Author.Tests.{leb-true, eqb-true}
-use Rattle.rules_object.specs.Bytes.{entrySizes, word, wordsOf, consBody, readBodies}
+use Rattle.rules_object.specs.Bytes.{word, wordsOf, consBody, readBodies}
+use Rattle.bodies.specs.Edition.{count, head, sizes}
 use Rattle.rules_object.proofs.Words.{length-words}
 use Rattle.word.specs.Word.{wordAt}
 use Rattle.word.proofs.Laws.{word-at}
@@ -63,29 +64,29 @@ reads-one : (z : ℕ) (zs : List ℕ) (kind at : ℕ) (C W : List ℕ) (x y n l 
 reads-one z zs kind at C W x y n l D U ex ey en el eD eV = rw (ex, ey, en, el, eD, eV)
 
 -- the contents' words are where the code reads them
-content : (s : List ℕ) (k j : ℕ) → 100 ≤ length s → k < 7 → j < 3 → (a : ℕ) → 16 + 12 * k + 4 * j ≡ a → word (drop (3 * k) (take 21 (drop 4 (wordsOf s)))) j ≡ wordAt s a
+content : (s : List ℕ) (k j : ℕ) → head ≤ length s → k < count → j < 3 → (a : ℕ) → 16 + 12 * k + 4 * j ≡ a → word (drop (3 * k) (take (3 * count) (drop 4 (wordsOf s)))) j ≡ wordAt s a
 content s k j h hk hj a e =
     let q : 4 * (4 + (3 * k + j)) ≡ a = omega arith in
-    getD-drop (3 * k) (take 21 (drop 4 (wordsOf s))) j 0 ∙ getD-take 21 (drop 4 (wordsOf s)) (3 * k + j) 0 (omega arith) ∙ getD-drop 4 (wordsOf s) (3 * k + j) 0
+    getD-drop (3 * k) (take (3 * count) (drop 4 (wordsOf s))) j 0 ∙ getD-take (3 * count) (drop 4 (wordsOf s)) (3 * k + j) 0 (omega arith) ∙ getD-drop 4 (wordsOf s) (3 * k + j) 0
     ∙ sym (word-at s (4 + (3 * k + j)) (omega arith)) ∙ ap (wordAt s) q
 
 -- the bytes are whole words, and the contents are there
 pub record Words (s : List ℕ) : Type 0 where
-  pub long : 100 ≤ length s
+  pub long : head ≤ length s
   pub four : length s % 4 ≡ 0
 
-rest-is : (s : List ℕ) (k at : ℕ) → Words s → k < 7 → at ≤ length s → at % 4 ≡ 0
+rest-is : (s : List ℕ) (k at : ℕ) → Words s → k < count → at ≤ length s → at % 4 ≡ 0
     → restIn s k at ≡ cond (bodyFits s k at) (consBody (take (lengthIn s k / 4) (drop (at / 4) (wordsOf s))) (restIn s (suc k) (at + lengthIn s k))) none
 unfolding restIn bodyFits
 rest-is s k at w hk ha h4 =
     let L : ℕ = lengthIn s k in
-    let C : List ℕ = take 21 (drop 4 (wordsOf s)) in
-    let zs : drop k entrySizes ≡ getD entrySizes k 0 ∷ drop (suc k) entrySizes = drop-cons entrySizes k 0 hk in
+    let C : List ℕ = take (3 * count) (drop 4 (wordsOf s)) in
+    let zs : drop k sizes ≡ getD sizes k 0 ∷ drop (suc k) sizes = drop-cons sizes k 0 hk in
     let l : 4 * length (drop (at / 4) (wordsOf s)) ≡ length s - at = omega (arith, length-drop (at / 4) (wordsOf s), length-words s) in
     let t : 3 * k + 3 ≡ 3 * suc k = omega arith in
     let m : at / 4 + L / 4 ≡ (at + L) / 4 = omega arith in
     ap (λ (z : List ℕ). readBodies z (suc k) at (drop (3 * k) C) (drop (at / 4) (wordsOf s))) zs
-    ∙ reads-one (getD entrySizes k 0) (drop (suc k) entrySizes) (suc k) at (drop (3 * k) C) (drop (at / 4) (wordsOf s)) (kindIn s k) (firstIn s k) L (length s - at) (drop (3 * suc k) C)
+    ∙ reads-one (getD sizes k 0) (drop (suc k) sizes) (suc k) at (drop (3 * k) C) (drop (at / 4) (wordsOf s)) (kindIn s k) (firstIn s k) L (length s - at) (drop (3 * suc k) C)
     (drop ((at + L) / 4) (wordsOf s)) (content s k 0 (w .long) hk (omega arith) (16 + 12 * k) (omega arith))
     (content s k 1 (w .long) hk (omega arith) (20 + 12 * k) (omega arith)) (content s k 2 (w .long) hk (omega arith) (24 + 12 * k) (omega arith)) l
     (drop-drop 3 (3 * k) C ∙ ap (λ n. drop n C) t) (drop-drop (L / 4) (at / 4) (wordsOf s) ∙ ap (λ n. drop n (wordsOf s)) m)
@@ -111,15 +112,15 @@ prepend-snoc (a ∷ bs) b r = ap (consBody a) (prepend-snoc bs b r)
 -- ---- the loop over the kinds
 
 pub record Going (s : List ℕ) (k at : ℕ) : Type 0 where
-  pub few : k ≤ 7
+  pub few : k ≤ count
   pub is : at ≡ endIn s k
   pub inside : at ≤ length s
   pub four : at % 4 ≡ 0
   pub firsts : (j : ℕ) → j < k → firstIn s j ≡ endIn s j
   pub whole : (j : ℕ) → j < k → lengthIn s j % sizeOf j ≡ 0
-  pub left : restIn s 0 100 ≡ prepend (listFrom k 0 (bodyIn s)) (restIn s k at)
+  pub left : restIn s 0 head ≡ prepend (listFrom k 0 (bodyIn s)) (restIn s k at)
 
-pub begins : (s : List ℕ) → Words s → Going s 0 100
+pub begins : (s : List ℕ) → Words s → Going s 0 head
 begins s w =
     record {
       few = omega arith;
@@ -144,11 +145,11 @@ whole-four n z e =
     let m : n ≡ 4 * (n / (4 * z) * z) = omega arith in
     omega arith
 
-pub goes : (s : List ℕ) (k at : ℕ) → Words s → k < 7 → Going s k at → bodyFits s k at ≡ true → Going s (k + 1) (at + lengthIn s k)
+pub goes : (s : List ℕ) (k at : ℕ) → Words s → k < count → Going s k at → bodyFits s k at ≡ true → Going s (k + 1) (at + lengthIn s k)
 goes s k at w hk g e =
     let f = fit s k at e in
     let L : ℕ = lengthIn s k in
-    let l4 : L % 4 ≡ 0 = whole-four L (getD entrySizes k 0) (f .whole) in
+    let l4 : L % 4 ≡ 0 = whole-four L (getD sizes k 0) (f .whole) in
     let r = rest-is s k at w hk (g .inside) (g .four) in
     let b : bodyIn s k ≡ take (L / 4) (drop (at / 4) (wordsOf s)) = ap (λ a. take (L / 4) (drop (a / 4) (wordsOf s))) (f .first) in
     let q : restIn s k at ≡ consBody (bodyIn s k) (restIn s (suc k) (at + L)) = rw (e, ← b) at r in
@@ -165,7 +166,7 @@ goes s k at w hk g e =
           ∙ sym (ap (λ l. prepend l (restIn s (suc k) (at + L))) (from-snoc (bodyIn s) k 0 ∙ ap (λ j. listFrom k 0 (bodyIn s) ++ (bodyIn s j ∷ [])) z));
     })
 
-pub stops : (s : List ℕ) (k at : ℕ) → Words s → k < 7 → Going s k at → bodyFits s k at ≡ false → restIn s 0 100 ≡ none
+pub stops : (s : List ℕ) (k at : ℕ) → Words s → k < count → Going s k at → bodyFits s k at ≡ false → restIn s 0 head ≡ none
 stops s k at w hk g e =
     g .left ∙ ap (prepend (listFrom k 0 (bodyIn s))) (rw e at (rest-is s k at w hk (g .inside) (g .four))) ∙ prepend-none (listFrom k 0 (bodyIn s))
 
@@ -177,15 +178,15 @@ nothing-left : (kind at : ℕ) (C W : List ℕ) → length W ≡ 0 → readBodie
 nothing-left kind at C [] h = refl
 nothing-left kind at C (w ∷ W) h = absurd (omega arith)
 
-pub past : (s : List ℕ) (at : ℕ) → Words s → Going s 7 at → (at ≡ length s → ⊥) → restIn s 0 100 ≡ none
+pub past : (s : List ℕ) (at : ℕ) → Words s → Going s count at → (at ≡ length s → ⊥) → restIn s 0 head ≡ none
 unfolding restIn
 past s at w g h =
     let l : at < length s = omega (arith, g .inside, h) in
     g .left
-    ∙ ap (prepend (listFrom 7 0 (bodyIn s))) (left-over 8 at (drop 21 (take 21 (drop 4 (wordsOf s)))) (drop (at / 4) (wordsOf s)) (omega (arith, length-drop (at / 4) (wordsOf s), length-words s, w .four, g .four)))
-    ∙ prepend-none (listFrom 7 0 (bodyIn s))
+    ∙ ap (prepend (listFrom count 0 (bodyIn s))) (left-over (suc count) at (drop (3 * count) (take (3 * count) (drop 4 (wordsOf s)))) (drop (at / 4) (wordsOf s)) (omega (arith, length-drop (at / 4) (wordsOf s), length-words s, w .four, g .four)))
+    ∙ prepend-none (listFrom count 0 (bodyIn s))
 
-pub ends : (s : List ℕ) (at : ℕ) → Words s → Going s 7 at → at ≡ length s → InOrder s
+pub ends : (s : List ℕ) (at : ℕ) → Words s → Going s count at → at ≡ length s → InOrder s
 unfolding restIn
 ends s at w g e =
     record {
@@ -193,6 +194,6 @@ ends s at w g e =
       whole = g .whole;
       end = sym (g .is) ∙ e;
       are = g .left
-          ∙ ap (prepend (listFrom 7 0 (bodyIn s))) (nothing-left 8 at (drop 21 (take 21 (drop 4 (wordsOf s)))) (drop (at / 4) (wordsOf s)) (omega (arith, length-drop (at / 4) (wordsOf s), length-words s)))
-          ∙ prepend-some (listFrom 7 0 (bodyIn s));
+          ∙ ap (prepend (listFrom count 0 (bodyIn s))) (nothing-left (suc count) at (drop (3 * count) (take (3 * count) (drop 4 (wordsOf s)))) (drop (at / 4) (wordsOf s)) (omega (arith, length-drop (at / 4) (wordsOf s), length-words s)))
+          ∙ prepend-some (listFrom count 0 (bodyIn s));
     }

@@ -13,11 +13,13 @@ use lib.ListN.{length, getD, take, drop, length-drop}
 use lib.Seq.{drop-drop, getD-drop, getD-take, length-take-le}
 use borrow.Author.Tests.{eq-eqb, ne-eqb}
 use Rattle.rules_object.specs.Object.{Object}
-use Rattle.rules_object.specs.Bytes.{word, wordsOf, elementOf, loopOf, lineOf, namedOf, entries, entrySizes, readBodies, contentsLength, objectOf, readWords, readObject}
+use Rattle.rules_object.specs.Kinds.{edition, kindsOf}
+use Rattle.rules_object.specs.Bytes.{word, wordsOf, elementOf, loopOf, lineOf, namedOf, entries, readBodies, objectOf, readBy, readWords, readObject}
+use Rattle.bodies.specs.Edition.{kinds, count, head, sizes}
 use Rattle.rules_object.specs.Writable.{IsByte}
 use Rattle.rules_shared.specs.Lists.{Each, each-none, each-more}
 use Rattle.rules_object.proofs.Words.{length-words}
-use Rattle.rules_object.proofs.RoundTrip.{writes-back, read-writable, object-length, all-eight}
+use Rattle.rules_object.proofs.RoundTrip.{writes-back, object-length}
 use Rattle.word.specs.Word.{wordAt}
 use Rattle.word.proofs.Laws.{word-at}
 use Rattle.object.specs.Layout.{listFrom, elementAt, loopAt, lineAt, namedAt, objectAt, Placed}
@@ -40,15 +42,14 @@ each-is [] h = each-none
 each-is (a ∷ s) h = each-more (h 0) (each-is s (λ i. h (suc i)))
 
 -- an object has its contents: what is read is written back as long
-pub short : (s : List ℕ) → ((i : ℕ) → getD s i 0 < 256) → length s < 100 → readObject s ≡ none
+pub short : (s : List ℕ) → ((i : ℕ) → getD s i 0 < 256) → length s < head → readObject s ≡ none
 short s bytes l = go (readObject s) refl
   where
     go : (r : Option Object) → readObject s ≡ r → r ≡ none
     go none e = refl
     go (some o) e =
         let b = each-is s bytes in
-        let w = read-writable s o b e (omega arith) in
-        absurd (omega (arith, ap length (writes-back s o b e), object-length o (all-eight (o .names) (w .names))))
+        absurd (omega (arith, ap length (writes-back s o b e), object-length o))
 
 pub uneven : (s : List ℕ) → (length s % 4 ≡ 0 → ⊥) → readObject s ≡ none
 unfolding readObject
@@ -61,35 +62,33 @@ is-words s w = rw (eq-eqb (length s) (4 * length (wordsOf s)) (omega (arith, len
 header : (s : List ℕ) (i : ℕ) → Words s → i < 4 → word (wordsOf s) i ≡ wordAt s (4 * i)
 header s i w h = sym (word-at s i (omega (arith, w .long)))
 
-pub other-edition : (s : List ℕ) → Words s → (wordAt s 0 ≡ 1 → ⊥) → readObject s ≡ none
-other-edition s w h = is-words s w ∙ rw (ne-eqb (word (wordsOf s) 0) 1 (λ e. h (sym (header s 0 w (omega arith)) ∙ e)))
+pub other-edition : (s : List ℕ) → Words s → (wordAt s 0 ≡ edition → ⊥) → readObject s ≡ none
+other-edition s w h =
+    is-words s w ∙ ap (λ (b : Bool). readBy (cond b kinds []) (wordsOf s)) (ne-eqb (word (wordsOf s) 0) edition (λ e. h (sym (header s 0 w (omega arith)) ∙ e)))
 
-and-false : (t : Bool) → (t && false) ≡ false
-and-false true = refl
-and-false false = refl
+-- read by the kinds of its edition
+by-edition : (s : List ℕ) → Words s → wordAt s 0 ≡ edition → readObject s ≡ readBy kinds (wordsOf s)
+by-edition s w e = is-words s w ∙ ap (λ (n : ℕ). readBy (kindsOf n) (wordsOf s)) (header s 0 w (omega arith) ∙ e)
 
-pub other-count : (s : List ℕ) → Words s → (wordAt s 12 ≡ 7 → ⊥) → readObject s ≡ none
-other-count s w h =
-    is-words s w ∙ rw (ne-eqb (word (wordsOf s) 3) 7 (λ e. h (sym (header s 3 w (omega arith)) ∙ e)), and-false (eqb (word (wordsOf s) 0) 1))
+pub other-count : (s : List ℕ) → Words s → wordAt s 0 ≡ edition → (wordAt s 12 ≡ count → ⊥) → readObject s ≡ none
+other-count s w e h = by-edition s w e ∙ rw (ne-eqb (word (wordsOf s) 3) count (λ q. h (sym (header s 3 w (omega arith)) ∙ q)))
 
 -- edition and count are right: the bodies decide
 pub record Begun (s : List ℕ) : Type 0 where
   pub words : Words s
-  pub edition : wordAt s 0 ≡ 1
-  pub kinds : wordAt s 12 ≡ 7
+  pub edition : wordAt s 0 ≡ edition
+  pub kinds : wordAt s 12 ≡ count
 
-reads-bodies : (s : List ℕ) → Begun s → readObject s ≡ objectOf (wordAt s 4) (wordAt s 8) (restIn s 0 100)
+reads-bodies : (s : List ℕ) → Begun s → readObject s ≡ objectOf kinds (wordAt s 4) (wordAt s 8) (restIn s 0 head)
 unfolding restIn
 reads-bodies s b =
     let w = b .words in
-    let e0 : word (wordsOf s) 0 ≡ 1 = header s 0 w (omega arith) ∙ b .edition in
-    let e3 : word (wordsOf s) 3 ≡ 7 = header s 3 w (omega arith) ∙ b .kinds in
-    is-words s w
-    ∙ ap (λ (n : ℕ). cond (eqb (word (wordsOf s) 0) 1 && eqb n 7) (objectOf (word (wordsOf s) 1) (word (wordsOf s) 2) (readBodies entrySizes 1 (contentsLength n) (take (3 * n) (drop 4 (wordsOf s))) (drop (3 * n) (drop 4 (wordsOf s))))) none) e3
-    ∙ rw (e0, header s 1 w (omega arith), header s 2 w (omega arith), drop-drop 21 4 (wordsOf s))
+    let e3 : word (wordsOf s) 3 ≡ count = header s 3 w (omega arith) ∙ b .kinds in
+    by-edition s w (b .edition)
+    ∙ rw (eq-eqb (word (wordsOf s) 3) count e3, header s 1 w (omega arith), header s 2 w (omega arith), drop-drop (3 * count) 4 (wordsOf s))
 
-pub misfit : (s : List ℕ) → Begun s → restIn s 0 100 ≡ none → readObject s ≡ none
-misfit s b e = reads-bodies s b ∙ ap (objectOf (wordAt s 4) (wordAt s 8)) e
+pub misfit : (s : List ℕ) → Begun s → restIn s 0 head ≡ none → readObject s ≡ none
+misfit s b e = reads-bodies s b ∙ ap (objectOf kinds (wordAt s 4) (wordAt s 8)) e
 
 -- ---- the bodies
 
@@ -98,18 +97,18 @@ record Stands (s : List ℕ) (k : ℕ) : Type 0 where
   inside : firstIn s k + lengthIn s k ≤ length s
   whole : lengthIn s k % sizeOf k ≡ 0
 
-ends-four : (s : List ℕ) → InOrder s → (k : ℕ) → k ≤ 7 → endIn s k % 4 ≡ 0
+ends-four : (s : List ℕ) → InOrder s → (k : ℕ) → k ≤ count → endIn s k % 4 ≡ 0
 ends-four s o zero h = refl
 ends-four s o (suc k) h =
     let e = ends-four s o k (omega arith) in
-    let l = whole-four (lengthIn s k) (getD entrySizes k 0) (o .whole k (omega arith)) in
+    let l = whole-four (lengthIn s k) (getD sizes k 0) (o .whole k (omega arith)) in
     omega arith
 
-ends-le : (s : List ℕ) (d k : ℕ) → d + k ≡ 7 → endIn s k ≤ endIn s 7
-ends-le s zero k e = let q : k ≡ 7 = omega arith in subst (λ n. endIn s k ≤ endIn s n) q (omega arith)
+ends-le : (s : List ℕ) (d k : ℕ) → d + k ≡ count → endIn s k ≤ endIn s count
+ends-le s zero k e = let q : k ≡ count = omega arith in subst (λ n. endIn s k ≤ endIn s n) q (omega arith)
 ends-le s (suc d) k e = let r = ends-le s d (suc k) (omega arith) in omega arith
 
-stands : (s : List ℕ) → InOrder s → (k d : ℕ) → d + suc k ≡ 7 → Stands s k
+stands : (s : List ℕ) → InOrder s → (k d : ℕ) → d + suc k ≡ count → Stands s k
 stands s o k d e =
     let f = o .firsts k (omega arith) in
     record {
@@ -137,8 +136,8 @@ entries-in g f z s one k h w = all-entries g f z s one (bodyIn s k) (lengthIn s 
 
 -- ---- no code, and an object
 
-reads-some : (s : List ℕ) → Begun s → InOrder s → readObject s ≡ objectOf (wordAt s 4) (wordAt s 8) (some (listFrom 7 0 (bodyIn s)))
-reads-some s b o = reads-bodies s b ∙ ap (objectOf (wordAt s 4) (wordAt s 8)) (o .are)
+reads-some : (s : List ℕ) → Begun s → InOrder s → readObject s ≡ objectOf kinds (wordAt s 4) (wordAt s 8) (some (listFrom count 0 (bodyIn s)))
+reads-some s b o = reads-bodies s b ∙ ap (objectOf kinds (wordAt s 4) (wordAt s 8)) (o .are)
 
 pub no-code : (s : List ℕ) → Begun s → InOrder s → lengthIn s 4 / 4 ≡ 0 → readObject s ≡ none
 no-code s b o e =
@@ -160,7 +159,7 @@ reads-layout s bytes b o h =
 placed : (s : List ℕ) → InOrder s → (lengthIn s 4 / 4 ≡ 0 → ⊥) → Placed (layoutIn s) s
 unfolding layoutIn
 placed s o h =
-    let w : (k : ℕ) → k < 7 → lengthIn s k ≡ sizeOf k * (lengthIn s k / sizeOf k) = λ k l. (omega (arith, div-add-mod' (lengthIn s k) (sizeOf k), o .whole k l)) in
+    let w : (k : ℕ) → k < count → lengthIn s k ≡ sizeOf k * (lengthIn s k / sizeOf k) = λ k l. (omega (arith, div-add-mod' (lengthIn s k) (sizeOf k), o .whole k l)) in
     let f = o .firsts in
     record {
       constants = f 0 (omega arith);

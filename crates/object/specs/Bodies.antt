@@ -7,7 +7,8 @@ use mathlib.Core.List.{List}
 use mathlib.Core.Option.{Option, none, some}
 use lib.Dec.{leb, eqb}
 use lib.ListN.{length, getD, drop, take}
-use Rattle.rules_object.specs.Bytes.{entrySizes, readBodies, wordsOf}
+use Rattle.rules_object.specs.Bytes.{readBodies, wordsOf}
+use Rattle.bodies.specs.Edition.{count, head, sizes}
 use Rattle.word.specs.Word.{wordAt}
 use Rattle.object.specs.declared.Layout.{Layout}
 use Rattle.object.specs.Layout.{listFrom}
@@ -23,7 +24,7 @@ lengthIn s k = wordAt s (24 + 12 * k)
 
 -- bytes in an entry
 abbrev pub sizeOf : ℕ → ℕ
-sizeOf k = 4 * getD entrySizes k 0
+sizeOf k = 4 * getD sizes k 0
 
 -- the book's test of one body, which is to begin at byte `at`
 unfoldable pub bodyFits : List ℕ → ℕ → ℕ → Bool
@@ -31,7 +32,7 @@ bodyFits s k at = eqb (kindIn s k) (suc k) && (eqb (firstIn s k) at && (eqb (len
 
 -- where the bodies before kind k end
 abbrev pub endIn : List ℕ → ℕ → ℕ
-endIn s zero = 100
+endIn s zero = head
 endIn s (suc k) = endIn s k + lengthIn s k
 
 -- a body's words
@@ -40,17 +41,17 @@ bodyIn s k = take (lengthIn s k / 4) (drop (firstIn s k / 4) (wordsOf s))
 
 -- what the book reads from kind k on, where the bodies before it end at byte `at`
 unfoldable pub restIn : List ℕ → ℕ → ℕ → Option (List (List ℕ))
-restIn s k at = readBodies (drop k entrySizes) (suc k) at (drop (3 * k) (take 21 (drop 4 (wordsOf s)))) (drop (at / 4) (wordsOf s))
+restIn s k at = readBodies (drop k sizes) (suc k) at (drop (3 * k) (take (3 * count) (drop 4 (wordsOf s)))) (drop (at / 4) (wordsOf s))
 
 pub record InOrder (s : List ℕ) : Type 0 where
-  pub firsts : (k : ℕ) → k < 7 → firstIn s k ≡ endIn s k
-  pub whole : (k : ℕ) → k < 7 → lengthIn s k % sizeOf k ≡ 0
-  pub end : endIn s 7 ≡ length s
-  pub are : restIn s 0 100 ≡ some (listFrom 7 0 (bodyIn s))
+  pub firsts : (k : ℕ) → k < count → firstIn s k ≡ endIn s k
+  pub whole : (k : ℕ) → k < count → lengthIn s k % sizeOf k ≡ 0
+  pub end : endIn s count ≡ length s
+  pub are : restIn s 0 head ≡ some (listFrom count 0 (bodyIn s))
 
 abbrev pub AllFit : List ℕ → Bool → Type 0
 AllFit s true = InOrder s
-AllFit s false = restIn s 0 100 ≡ none
+AllFit s false = restIn s 0 head ≡ none
 
 unfoldable pub layoutIn : List ℕ → Layout
 layoutIn s =

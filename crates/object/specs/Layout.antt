@@ -7,6 +7,7 @@ use lib.ListN.{length, take, drop}
 use Rattle.rules_object.specs.Object.{Element, Loop, Line, Named, Object}
 use Rattle.rules_object.specs.Bytes.{signedOf}
 use Rattle.word.specs.Word.{wordAt}
+use Rattle.bodies.specs.Edition.{head}
 use Rattle.object.specs.declared.Layout.{Layout}
 
 -- n things, the ith of them f i, from i on
@@ -49,7 +50,7 @@ objectAt e s =
 
 -- the bodies stand one after the other, and there is code
 pub record Placed (e : Layout) (s : List ℕ) : Type 0 where
-  pub constants : e .constants ≡ 100
+  pub constants : e .constants ≡ head
   pub elements : e .elements ≡ e .constants + 4 * e .«constant_count»
   pub exits : e .exits ≡ e .elements + 36 * e .«element_count»
   pub dos : e .dos ≡ e .exits + 4 * e .«exit_count»

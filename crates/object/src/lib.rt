@@ -2,8 +2,12 @@
 ghost use mathlib.Core.Path.{_≡_};
 ghost use Prim.Native.Nat.{_+_, _*_, _/_, _%_, _≤_, _<_};
 ghost use lib.ListN.{length};
+ghost use Rattle.bodies.specs.Edition.{count, head};
 ghost use Rattle.object.specs.Opened.{Opened};
 ghost use Rattle.object.specs.Bodies.{firstIn, lengthIn, sizeOf, bodyFits, AllFit, layoutIn};
+use bodies::EDITION;
+use bodies::HEAD;
+use bodies::KINDS;
 
 // Of each body the byte that it starts at and how many entries it has.
 pub struct Layout {
@@ -30,39 +34,29 @@ pub enum Contents {
     Wrong,
 }
 
-const EDITION: u32 = 1;
-
-const KINDS: usize = 7;
-
-// Words in an entry, by kind.
-const SIZES: [usize; KINDS] = [1, 9, 1, 4, 1, 3, 5];
-
-// The contents: edition, digits, cells and how many bodies; then of each body its kind, first byte and length in bytes.
-const HEAD: usize = 16 + 12 * KINDS;
-
 fn size_of(kind: usize) -> usize
-    requires { ⌜ kind < 7 ⌝ }
+    requires { ⌜ kind < count ⌝ }
     ensures { λ r. ⌜ (r ≡ sizeOf kind) × (0 < r) ⌝ }
 {
-    4 * SIZES[kind]
+    4 * bodies::entry_words(kind)
 }
 
 fn first_of(o: &[u8], kind: usize) -> usize
-    requires { ⌜ (100 ≤ length (now o)) × (kind < 7) ⌝ }
+    requires { ⌜ (head ≤ length (now o)) × (kind < count) ⌝ }
     ensures { λ r. ⌜ r ≡ firstIn (now (o .entry)) kind ⌝ }
 {
     word::index(word::load(o, 20 + 12 * kind))
 }
 
 fn length_of(o: &[u8], kind: usize) -> usize
-    requires { ⌜ (100 ≤ length (now o)) × (kind < 7) ⌝ }
+    requires { ⌜ (head ≤ length (now o)) × (kind < count) ⌝ }
     ensures { λ r. ⌜ r ≡ lengthIn (now (o .entry)) kind ⌝ }
 {
     word::index(word::load(o, 24 + 12 * kind))
 }
 
 fn count_of(o: &[u8], kind: usize) -> usize
-    requires { ⌜ (100 ≤ length (now o)) × (kind < 7) ⌝ }
+    requires { ⌜ (head ≤ length (now o)) × (kind < count) ⌝ }
     ensures { λ r. ⌜ r ≡ lengthIn (now (o .entry)) kind / sizeOf kind ⌝ }
 {
     length_of(o, kind) / size_of(kind)
@@ -70,7 +64,7 @@ fn count_of(o: &[u8], kind: usize) -> usize
 
 // One body: its kind in order, right after the one before, whole entries, inside.
 fn body_fits(o: &[u8], kind: usize, at: usize) -> bool
-    requires { ⌜ (100 ≤ length (now o)) × (kind < 7) × (at ≤ length (now o)) ⌝ }
+    requires { ⌜ (head ≤ length (now o)) × (kind < count) × (at ≤ length (now o)) ⌝ }
     ensures { λ r. ⌜ r ≡ bodyFits (now (o .entry)) kind at ⌝ }
 {
     if word::index(word::load(o, 16 + 12 * kind)) != kind + 1 {
@@ -88,7 +82,7 @@ fn body_fits(o: &[u8], kind: usize, at: usize) -> bool
 
 // Every body, and nothing after the last.
 fn bodies_fit(o: &[u8]) -> bool
-    requires { ⌜ (100 ≤ length (now o)) × (length (now o) % 4 ≡ 0) ⌝ }
+    requires { ⌜ (head ≤ length (now o)) × (length (now o) % 4 ≡ 0) ⌝ }
     ensures { λ r. ⌜ AllFit (now (o .entry)) r ⌝ }
 {
     let mut at = HEAD;
@@ -104,7 +98,7 @@ fn bodies_fit(o: &[u8]) -> bool
 }
 
 fn layout_of(o: &[u8]) -> Layout
-    requires { ⌜ 100 ≤ length (now o) ⌝ }
+    requires { ⌜ head ≤ length (now o) ⌝ }
     ensures { λ r. ⌜ r ≡ layoutIn (now (o .entry)) ⌝ }
 {
     Layout {

@@ -19,6 +19,7 @@ use Rattle.rules_object.specs.Check.{right41, rightConstant, rightSubscript, ri
 use Rattle.rules_object.specs.Operations.{HLT, meant, noElement, noLoop}
 use Rattle.rules_object.specs.Machine.{cell}
 use Rattle.rules_object.specs.Bytes.{signedOf}
+use Rattle.rules_object.proofs.Limited.{limited}
 use Rattle.word.specs.Word.{wordAt}
 use Rattle.object.specs.declared.Layout.{Layout}
 use Rattle.object.specs.Layout.{listFrom, elementAt, loopAt, objectAt}
@@ -73,21 +74,13 @@ pub record Bounds (e : Layout) (k : Rule) : Type 0 where
   pub code : e .«code_count» ≤ 4096
 
 pub bounds : (e : Layout) (s : List ℕ) (k : Rule) → right41 (objectAt e s) ≡ true → ruled k ≡ ruleOf (objectAt e s) → Bounds e k
-unfolding right41 objectAt
+unfolding objectAt
 bounds e s k r q =
-    let o = objectAt e s in
-    let r₁ = both (leb 1 (e .digits)) _ r in
-    let r₂ = both (leb (e .digits) 9) _ (r₁ .1) in
-    let r₃ = both (leb (e .cells) 4096) _ (r₂ .1) in
-    let r₄ = both (leb (length (o .constants)) 256) _ (r₃ .1) in
-    let r₅ = both (leb (length (o .elements)) 256) _ (r₄ .1) in
-    let r₆ = both (leb (length (o .exits)) 1024) _ (r₅ .1) in
-    let r₇ = both (leb (length (o .dos)) 64) _ (r₆ .1) in
-    let r₈ = both (leb (length (o .code)) 4096) _ (r₇ .1) in
-    let n = leb-true (length (o .code)) 4096 (r₈ .0) in
+    let l = limited (objectAt e s) r in
+    let n = l .code in
     record {
-      narrow = subst Narrow (sym q) (digits-narrow (e .digits) (leb-true (e .digits) 9 (r₂ .0)));
-      cells = leb-true (e .cells) 4096 (r₃ .0);
+      narrow = subst Narrow (sym q) (digits-narrow (e .digits) (l .digits));
+      cells = l .cells;
       code = omega (arith, length-from (e .«code_count») 0 (λ i. wordAt s (e .code + 4 * i)));
     }
 

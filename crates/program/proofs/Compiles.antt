@@ -11,6 +11,7 @@ use lib.ListN.{length, take, drop, length-append, length-drop, replicate}
 use lib.Seq.{take-append-seam, take-all}
 use Rattle.rules_shared.specs.House.{house1401}
 use Rattle.rules_object.specs.Bytes.{objectBytes}
+use Rattle.rules_shared.specs.Refusals.{noRoom}
 use Rattle.rules_shared.specs.Output.{Written, writtenIf, write}
 use Rattle.rules_deck.specs.Translation.{translate}
 use Rattle.rules_deck.specs.Cards.{cardLength}
@@ -41,8 +42,8 @@ module _ (k : ℕ) (deck output : List ℕ) where
   object-from (notRead r) e z = absurd (let p : 0 < r .number = subst ReadNumbered e (refused-numbered (house1401 k) deck) .0 in omega (arith, p, z))
   object-from (read statements) e z = wrote (leb (length (objectBytes (translate (house1401 k) statements))) (length output)) z
     where
-      wrote : (b : Bool) → writtenIf b (objectBytes (translate (house1401 k) statements)) output .refusal .number ≡ 0
-          → Object (writtenIf b (objectBytes (translate (house1401 k) statements)) output .length) (writtenIf b (objectBytes (translate (house1401 k) statements)) output .output)
+      wrote : (b : Bool) → writtenIf noRoom b (objectBytes (translate (house1401 k) statements)) output .refusal .number ≡ 0
+          → Object (writtenIf noRoom b (objectBytes (translate (house1401 k) statements)) output .length) (writtenIf noRoom b (objectBytes (translate (house1401 k) statements)) output .output)
       wrote true q =
           let object : List ℕ = objectBytes (translate (house1401 k) statements) in
           record {

@@ -8,7 +8,7 @@ use lib.Dec.{leb}
 use lib.ListN.{length}
 use Rattle.rules_shared.specs.House.{House}
 use Rattle.rules_object.specs.Bytes.{objectBytes}
-use Rattle.rules_shared.specs.Refusals.{accepted}
+use Rattle.rules_shared.specs.Refusals.{accepted, noRoom}
 use Rattle.rules_shared.specs.Output.{notWritten, writtenIf, write}
 use Rattle.rules_object.proofs.ObjectExamples.{p9, p10, p11, p12}
 use Rattle.rules_object.proofs.CheckExactly.{check-exactly}
@@ -34,7 +34,7 @@ compile-keeps : (house : House) (deck output : List ℕ) → (compiling house de
 unfolding compiling write
 compile-keeps house deck output = by (deckOf house deck)
   where
-    wrote : (b : Bool) (bytes : List ℕ) → (writtenIf b bytes output .refusal ≡ accepted → ⊥) → writtenIf b bytes output ≡ notWritten (writtenIf b bytes output .refusal) output
+    wrote : (b : Bool) (bytes : List ℕ) → (writtenIf noRoom b bytes output .refusal ≡ accepted → ⊥) → writtenIf noRoom b bytes output ≡ notWritten (writtenIf noRoom b bytes output .refusal) output
     wrote true bytes f = absurd (f refl)
     wrote false bytes f = refl
 

@@ -12,7 +12,7 @@ use lib.Seq.{take-append-seam}
 use lib.IntN.{ℤ}
 use Rattle.rules_shared.specs.House.{House}
 use Rattle.rules_object.specs.Bytes.{objectBytes, readObject}
-use Rattle.rules_shared.specs.Refusals.{Refusal, refusal, accepted}
+use Rattle.rules_shared.specs.Refusals.{Refusal, refusal, accepted, noRoom}
 use Rattle.rules_shared.specs.Output.{writtenIf, write}
 use Rattle.rules_object.specs.Calls.{passed, checked}
 use Rattle.rules_deck.specs.Trees.{Statement}
@@ -38,10 +38,10 @@ pub record Made (house : House) (deck object : List ℕ) : Type 0 where
 not-accepted : (r : Refusal) → 0 < r .number → r ≡ accepted → ⊥
 not-accepted r h e = let z : r .number ≡ 0 = ap (λ x. x .number) e in omega arith
 
-wrote : (b : Bool) (bytes output : List ℕ) → writtenIf b bytes output .refusal ≡ accepted → objectIn (writtenIf b bytes output) ≡ bytes
+wrote : (b : Bool) (bytes output : List ℕ) → writtenIf noRoom b bytes output .refusal ≡ accepted → objectIn (writtenIf noRoom b bytes output) ≡ bytes
 unfolding objectIn
 wrote true bytes output e = take-append-seam bytes (drop (length bytes) output)
-wrote false bytes output e = absurd (not-accepted (refusal 30 0 0) (omega arith) e)
+wrote false bytes output e = absurd (not-accepted (refusal noRoom 0 0) (omega arith) e)
 
 pub made : {house : House} {deck object : List ℕ} → Compiled house deck object → Made house deck object
 unfolding compiling write

@@ -21,6 +21,7 @@ use Rattle.rules_object.specs.Operations.{Instr, HLT, CON, LOD, STO, LDE, STE, 
 use Rattle.rules_shared.specs.Refusals.{atEntry}
 use Rattle.rules_shared.specs.Lists.{firstBad, Each, each-none, each-more}
 use Rattle.rules_object.specs.Calls.{refused42, refused43}
+use Rattle.rules_object.proofs.Limited.{Limited, passes}
 use Rattle.rules_shared.proofs.EachLaws.{each-one, each-map}
 use Rattle.rules_deck.specs.Trees.{Name, Statement}
 use Rattle.rules_deck.specs.Tokens.{isLetterOrDigit}
@@ -166,21 +167,26 @@ module _ {house : House} {deck : List Statement} (accepted : Accepted house deck
   unfolding translate
   sizes = record { rule = sym (ap (λ (r : Rule). r .ceiling) (accepted .lawful .rule (translate house deck) refl)); code = code-length house deck; cells = refl }
 
-  pub passes-41 : right41 (translate house deck) ≡ true
-  unfolding right41 translate
-  passes-41 =
-      let o : Object = translate house deck in
+  limited : Limited (translate house deck)
+  unfolding translate
+  limited =
       let s = sized house deck (fitting accepted) in
       let d = digits-right accepted in
-      both (leb 1 (o .digits)) _ (le-leb 1 (o .digits) (d .0)) (both (leb (o .digits) (limits .digits)) _ (le-leb (o .digits) (limits .digits) (d .1))
-      (both (leb (o .cells) (limits .cells)) _ (le-leb (o .cells) (limits .cells) (s .cells))
-      (both (leb (length (o .constants)) (limits .constants)) _ (le-leb (length (o .constants)) (limits .constants) (s .constants))
-      (both (leb (length (o .elements)) (limits .elements)) _ (le-leb (length (o .elements)) (limits .elements) (s .elements))
-      (both (leb (length (o .exits)) (limits .exits)) _ (le-leb (length (o .exits)) (limits .exits) (s .exits))
-      (both (leb (length (o .dos)) (limits .dos)) _ (le-leb (length (o .dos)) (limits .dos) (s .dos))
-      (both (leb (length (o .code)) (limits .code)) _ (le-leb (length (o .code)) (limits .code) (s .code))
-      (both (leb (length (o .lines)) (limits .statements)) _ (le-leb (length (o .lines)) (limits .statements) (omega (arith, lines-few deck 0 deck, accepted .count)))
-      (le-leb (length (o .names)) (limits .names) (omega (arith, fitting accepted .names, names-count house 0 (heldOf deck))))))))))))
+      record {
+        some-digits = d .0;
+        digits = d .1;
+        cells = s .cells;
+        constants = s .constants;
+        elements = s .elements;
+        exits = s .exits;
+        dos = s .dos;
+        code = s .code;
+        lines = omega (arith, lines-few deck 0 deck, accepted .count);
+        names = omega (arith, fitting accepted .names, names-count house 0 (heldOf deck));
+      }
+
+  pub passes-41 : right41 (translate house deck) ≡ true
+  passes-41 = passes (translate house deck) limited
 
   pub passes-42 : refused42 (translate house deck) ≡ none
   unfolding refused42 translate

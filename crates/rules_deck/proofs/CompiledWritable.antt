@@ -21,7 +21,8 @@ use Rattle.rules_object.specs.Calls.{passed, checked, verdict, checking}
 use Rattle.rules_object.specs.Writable.{IsByte, IsWord, IsSigned, WritableSubscript, WritableElement, WritableLoop, WritableLine, WritableNamed, Writable}
 use Rattle.rules_shared.specs.Lists.{Each, each-none, each-more}
 use Rattle.rules_shared.proofs.EachLaws.{each-map, each-append, each-take}
-use Rattle.rules_object.proofs.RoundTrip.{reads-back}
+use Rattle.rules_object.proofs.Limited.{tables-within}
+use Rattle.rules_object.proofs.RoundTrip.{all-eight, object-most, reads-back}
 use Rattle.rules_deck.specs.Trees.{Name, Statement}
 use Rattle.rules_deck.specs.Tokens.{isLetterOrDigit}
 use Rattle.rules_deck.specs.Translation.{heldOf, filled, translate}
@@ -33,11 +34,11 @@ use Rattle.rules_deck.specs.Spelling.{Passes, IsName, is-name}
 use Rattle.rules_deck.proofs.Readers.{digit-bounds, letter-bounds}
 use Rattle.rules_deck.proofs.TestLaws.{or-one}
 use Rattle.rules_deck.proofs.FittingDeck.{names-count, fitting}
-use Rattle.rules_deck.proofs.Emitted.{code-length, sized}
+use Rattle.rules_deck.proofs.Emitted.{code-length}
 use Rattle.rules_deck.proofs.HeightsCompiled.{below}
 use Rattle.rules_deck.proofs.TableCompiled.{stands, levels-most, compiled-table, compiled-height}
 use Rattle.rules_deck.proofs.RightCode.{RightSubscript, RightElement}
-use Rattle.rules_deck.proofs.RightDeck.{each-place, LoopWithin, LineWithin, NameWithin, lines-few, digits-right, most, right-tables, right-loops, right-lines, right-names}
+use Rattle.rules_deck.proofs.RightDeck.{each-place, LoopWithin, LineWithin, NameWithin, digits-right, most, right-tables, right-loops, right-lines, right-names}
 use Rattle.rules_deck.proofs.CompiledRight.{passes-41, passes-42, passes-43, coded}
 
 -- ---- names of eight bytes
@@ -149,11 +150,11 @@ module _ {house : House} {deck : List Statement} (accepted : Accepted house deck
   unfolding translate
   compiled-writable =
       let o : Object = translate house deck in
-      let s = sized house deck (fitting accepted) in
       let d = most accepted in
       let n = fitting accepted .code in
       let c = fitting accepted .cells in
       let t = right-tables accepted in
+      let names : Each WritableNamed (o .names) = each-map (named-writable d n c (accepted .lawful)) (right-names accepted) in
       record {
         digits = omega (arith, digits-right accepted .1);
         cells = omega (arith, c);
@@ -163,9 +164,9 @@ module _ {house : House} {deck : List Statement} (accepted : Accepted house deck
         dos = each-map (loop-writable d n c) (right-loops accepted);
         code = each-place (o .code) (λ a w e. let x = coded accepted a w e in word-small w (omega (arith, x .2, operation-few (x .0))));
         lines = each-map (line-writable d n c) (right-lines accepted);
-        names = each-map (named-writable d n c (accepted .lawful)) (right-names accepted);
+        names = names;
         someCode = omega (arith, code-length house deck, below deck (stands accepted) 0 (stands accepted .some));
-        small = omega (arith, s .constants, s .elements, s .exits, s .dos, s .code, lines-few deck 0 deck, accepted .count, fitting accepted .names, names-count house 0 (heldOf deck));
+        small = omega (arith, object-most o (all-eight (o .names) names) (tables-within o (passes-41 accepted)));
       }
 
   -- an accepted deck's bytes read back as its object

@@ -11,7 +11,7 @@ use lib.Dec.{leb}
 use lib.ListN.{length}
 use Rattle.rules_shared.specs.House.{House}
 use Rattle.rules_object.specs.Bytes.{objectBytes}
-use Rattle.rules_shared.specs.Refusals.{Refusal, refusal}
+use Rattle.rules_shared.specs.Refusals.{Refusal, refusal, noRoom}
 use Rattle.rules_shared.specs.Output.{writtenIf, write}
 use Rattle.rules_deck.specs.Trees.{Form, Statement}
 use Rattle.rules_deck.specs.Cards.{Punched, textOf, Carded, cardsRefused, statements, carded}
@@ -196,7 +196,7 @@ pub ten-exactly : (house : House) (deck output : List ℕ) (q : ℕ) → (compil
 unfolding compiling write
 ten-exactly house deck output q = (λ e. refused-ten house deck q (unread (deckOf house deck) refl e), λ n. ap (λ (x : Read). writeRead house output x .refusal) (gives-ten house deck q n))
   where
-    not-written : (b : Bool) (bytes : List ℕ) → writtenIf b bytes output .refusal ≡ refusal 10 (suc q) 0 → ⊥
+    not-written : (b : Bool) (bytes : List ℕ) → writtenIf noRoom b bytes output .refusal ≡ refusal 10 (suc q) 0 → ⊥
     not-written true bytes e = let number : _≡_ {A = ℕ} 0 10 = ap (λ (y : Refusal). y .number) e in omega arith
     not-written false bytes e = let number : _≡_ {A = ℕ} 30 10 = ap (λ (y : Refusal). y .number) e in omega arith
 

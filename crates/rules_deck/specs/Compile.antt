@@ -5,7 +5,7 @@ use mathlib.Core.List.{List, [], _∷_}
 use mathlib.Core.Option.{Option, none, some}
 use Rattle.rules_shared.specs.House.{House}
 use Rattle.rules_object.specs.Bytes.{objectBytes}
-use Rattle.rules_shared.specs.Refusals.{Refusal, refusal}
+use Rattle.rules_shared.specs.Refusals.{Refusal, refusal, noRoom}
 use Rattle.rules_shared.specs.Output.{Written, notWritten, write}
 use Rattle.rules_deck.specs.Trees.{Form, Statement}
 use Rattle.rules_deck.specs.Cards.{Punched, textOf, Carded, cardsRefused, statements, carded}
@@ -62,7 +62,7 @@ deckOf house bytes = judgeRead (readCarded house (carded house bytes))
 
 abbrev pub writeRead : House → List ℕ → Read → Written
 writeRead house output (notRead r) = notWritten r output
-writeRead house output (read deck) = write (objectBytes (translate house deck)) output
+writeRead house output (read deck) = write noRoom (objectBytes (translate house deck)) output
 
 -- the call `compile`: the house, the deck's bytes and the output lent
 unfoldable pub compiling : House → List ℕ → List ℕ → Written

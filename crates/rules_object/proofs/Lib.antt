@@ -8,6 +8,7 @@ pub mod GoodWords
 pub mod RoundTrip
 pub mod BytesExamples
 pub mod Passed
+pub mod Limited
 pub mod Numbers
 pub mod Touches
 pub mod HaltsThere

@@ -18,7 +18,7 @@ use Rattle.rules_object.specs.Object.{Object}
 use Rattle.rules_object.specs.Check.{right41}
 use Rattle.rules_object.specs.Machine.{State, fresh, benchStep}
 use Rattle.rules_object.specs.Bytes.{readObject}
-use Rattle.rules_shared.specs.Refusals.{Refusal, refusal, accepted, orElse, unless}
+use Rattle.rules_shared.specs.Refusals.{Refusal, refusal, accepted, orElse, unless, noRoom}
 use Rattle.rules_shared.specs.Output.{Written, notWritten, writtenIf, write}
 use Rattle.rules_object.specs.Calls.{refused, passed, checked, verdict, checking, Lent, right50, right51, Ran, notRun, ran, runFrom, orRefused, runChecked, running, benchObject, benching, mapOf, mapChecked, mapping}
 use Rattle.rules_object.specs.Safe.{Unchanged, MapUnchanged, MapWritten, In}
@@ -162,7 +162,7 @@ module _ (bytes table : List ℕ) where
     not : 0 < m .refusal .number → m ≡ notWritten (m .refusal) table → MapOne m
     yes : (o : Object) (heights : List ℕ) → checked bytes ≡ passed o heights → MapWritten o table m → MapOne m
 
-  wrote : (o : Object) (heights : List ℕ) → checked bytes ≡ passed o heights → (b : Bool) → leb (length (mapOf o)) (length table) ≡ b → MapOne (writtenIf b (mapOf o) table)
+  wrote : (o : Object) (heights : List ℕ) → checked bytes ≡ passed o heights → (b : Bool) → leb (length (mapOf o)) (length table) ≡ b → MapOne (writtenIf noRoom b (mapOf o) table)
   wrote o heights q true e =
       yes o heights q
       (record {

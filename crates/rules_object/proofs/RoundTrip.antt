@@ -1,18 +1,20 @@
--- An object's bytes and its seven lists determine each other. Assumes nothing.
+-- An object's bytes and its lists determine each other. Assumes nothing.
 use mathlib.Core.Path.{_≡_, refl, sym, ap, _∙_, subst}
 use Prim.Native.Nat.{ℕ, zero, suc, _+_, _*_, _/_, _%_, _^_, _≤_, _<_}
-use native.Mathlib.Nat.{div-add-mod', mul-mod-left, mul-div-cancel}
+use native.Mathlib.Nat.{div-add-mod', mul-mod-left, mul-div-cancel, mul-le-mul}
 use native.Mathlib.Omega.{arith}
 use mathlib.Core.Bool.{Bool, true, false, _&&_, cond}
 use mathlib.Core.List.{List, [], _∷_, _++_, map}
 use mathlib.Core.Option.{Option, none, some}
 use lib.Dec.{leb, eqb}
-use lib.ListN.{length, take, drop, length-append, length-drop, take-append-drop}
+use lib.ListN.{length, take, drop, length-append, length-drop, length-map, take-append-drop}
 use lib.Seq.{take-append-seam, drop-append-seam, take-at, drop-at, drop-cons, drop-length, length-take-le}
 use borrow.Author.Tests.{leb-true, eqb-true, eqb-false, le-leb, eq-eqb, ne-eqb}
 use Rattle.rules_object.specs.Object.{Element, Loop, Line, Named, Object}
-use Rattle.rules_object.specs.Bytes.{bytesOf, wordsOf, concat, entrySizes, elementWords, loopWords, lineWords, nameWords, bodies, word, elementOf, loopOf, lineOf, namedOf, entries, bodyTable, contentsLength, objectWords, objectBytes, consBody, readBodies, body, objectOf, readWords, readObject}
-use Rattle.rules_object.specs.Writable.{IsByte, IsWord, WritableElement, WritableLoop, WritableLine, WritableNamed, bodyWords, Writable}
+use Rattle.rules_object.specs.Kinds.{Kind, edition, kindsOf, entrySizes, mostWords, contentsLength}
+use Rattle.rules_object.specs.Bytes.{bytesOf, wordsOf, concat, oneWord, elementWords, loopWords, lineWords, nameWords, bodies, bodyWords, word, elementOf, loopOf, lineOf, namedOf, entries, bodyTable, objectWords, objectBytes, consBody, readBodies, body, objectOf, readBy, readWords, readObject}
+use Rattle.rules_object.specs.Check.{countsWithin}
+use Rattle.rules_object.specs.Writable.{IsByte, IsWord, WritableElement, WritableLoop, WritableLine, WritableNamed, Writable}
 use Rattle.rules_shared.specs.Lists.{Each, each-none, each-more}
 use Rattle.rules_shared.proofs.EachLaws.{each-one, each-of, each-map, each-append, each-left, each-right, each-take, each-drop}
 use Rattle.rules_object.proofs.Words.{digits-of, words-bytes, length-bytes, each-byte, bytes-words, each-word, length-words, signed-word, word-signed, signed-is, signed-is-word}
@@ -37,11 +39,23 @@ and-right false t e = cc
 
 -- ---- entries of one size, for each kind of entry
 
-pub length-flat : {A : Type 0} (z : ℕ) (f : A → List ℕ) (xs : List A) → Each (λ x. length (f x) ≡ z) xs → length (concat (map f xs)) ≡ length xs * z
-length-flat z f [] h = omega arith
-length-flat z f (x ∷ xs) (each-more d h) =
-    let e = length-flat z f xs h in
+length-entries : (z : ℕ) (b : List (List ℕ)) → Each (λ e. length e ≡ z) b → length (concat b) ≡ length b * z
+length-entries z [] h = omega arith
+length-entries z (e ∷ b) (each-more d h) =
+    let r = length-entries z b h in
     simp length-append (omega arith)
+
+each-entry : {A : Type 0} (z : ℕ) (f : A → List ℕ) (xs : List A) → Each (λ x. length (f x) ≡ z) xs → Each (λ e. length e ≡ z) (map f xs)
+each-entry z f [] h = each-none
+each-entry z f (x ∷ xs) (each-more d h) = each-more d (each-entry z f xs h)
+
+length-flat : {A : Type 0} (z : ℕ) (f : A → List ℕ) (xs : List A) → Each (λ x. length (f x) ≡ z) xs → length (concat (map f xs)) ≡ length xs * z
+length-flat z f xs h = length-entries z (map f xs) (each-entry z f xs h) ∙ ap (λ (n : ℕ). n * z) (length-map xs f)
+
+-- entries of one word each
+pub ones : (ws : List ℕ) → concat (map oneWord ws) ≡ ws
+ones [] = refl
+ones (w ∷ ws) = ap (λ (l : List ℕ). w ∷ l) (ones ws)
 
 -- P: what an entry must be for its words to keep it
 module _ {A : Type 0} (P : A → Type 0) (z : ℕ) (f : A → List ℕ) (g : List ℕ → A) where
@@ -236,36 +250,31 @@ table-words kind at (b ∷ bs) l h =
     let entry : IsWord kind × IsWord at × IsWord (4 * length b) = omega arith in
     each-more (entry .0) (each-more (entry .1) (each-more (entry .2) (table-words (suc kind) (at + 4 * length b) bs (omega arith) (omega arith))))
 
-elements-size : (es : List Element) → length (concat (map elementWords es)) ≡ length es * 9
-elements-size es = length-flat 9 elementWords es (each-of (λ e. refl) es)
-
-dos-size : (ds : List Loop) → length (concat (map loopWords ds)) ≡ length ds * 4
-dos-size ds = length-flat 4 loopWords ds (each-of (λ d. refl) ds)
-
-lines-size : (ls : List Line) → length (concat (map lineWords ls)) ≡ length ls * 3
-lines-size ls = length-flat 3 lineWords ls (each-of (λ l. refl) ls)
-
-names-size : (ns : List Named) → Each (λ n. length (n .name) ≡ 8) ns → length (concat (map nameWords ns)) ≡ length ns * 5
-names-size ns h = length-flat 5 nameWords ns (each-map name-size h)
-
 pub all-eight : (ns : List Named) → Each WritableNamed ns → Each (λ n. length (n .name) ≡ 8) ns
 all-eight ns h = each-map (λ n k. k .eight) h
 
-length-bodies : (o : Object) → Each (λ n. length (n .name) ≡ 8) (o .names) → length (concat (bodies o)) ≡ bodyWords o
-length-bodies o h =
-    simp length-append (omega (arith, elements-size (o .elements), dos-size (o .dos), lines-size (o .lines), names-size (o .names) h))
+table-length : (kind at : ℕ) (bs : List (List ℕ)) → length (bodyTable kind at bs) ≡ 3 * length bs
+table-length kind at [] = refl
+table-length kind at (b ∷ bs) = omega (arith, table-length (suc kind) (at + 4 * length b) bs)
 
 -- the length of an object's bytes
-pub object-length : (o : Object) → Each (λ n. length (n .name) ≡ 8) (o .names) → length (objectBytes o) ≡ 100 + 4 * bodyWords o
+pub object-length : (o : Object) → length (objectBytes o) ≡ contentsLength (length (bodies o)) + 4 * length (concat (bodyWords o))
 unfolding objectBytes objectWords
-object-length o h = length-bytes (objectWords o) ∙ (omega (arith, length-bodies o h))
+object-length o =
+    let bs : List (List ℕ) = bodyWords o in
+    let t = table-length 1 (contentsLength (length bs)) bs in
+    let a = length-append (bodyTable 1 (contentsLength (length bs)) bs) (concat bs) in
+    length-bytes (objectWords o) ∙ (omega arith)
 
-bodies-words : (o : Object) → Writable o → Each IsWord (concat (bodies o))
-bodies-words o h = joined (bodies o) (each-more (h .constants) (each-more e (each-more (h .exits) (each-more d (each-more (h .code) (each-more l (each-one n)))))))
+bodies-words : (o : Object) → Writable o → Each IsWord (concat (bodyWords o))
+bodies-words o h = joined (bodyWords o) (each-more (ones-words (h .constants)) (each-more e (each-more (ones-words (h .exits)) (each-more d (each-more (ones-words (h .code)) (each-more l (each-one n)))))))
   where
     joined : (bs : List (List ℕ)) → Each (λ b. Each IsWord b) bs → Each IsWord (concat bs)
     joined [] k = each-none
     joined (b ∷ bs) (each-more k ks) = each-append k (joined bs ks)
+
+    ones-words : {ws : List ℕ} → Each IsWord ws → Each IsWord (concat (map oneWord ws))
+    ones-words {ws} k = subst (Each IsWord) (sym (ones ws)) k
 
     e : Each IsWord (concat (map elementWords (o .elements)))
     e = each-flat WritableElement elementWords element-words (o .elements) (h .elements)
@@ -282,31 +291,64 @@ bodies-words o h = joined (bodies o) (each-more (h .constants) (each-more e (eac
 object-words : (o : Object) → Writable o → Each IsWord (objectWords o)
 unfolding objectWords
 object-words o h =
-    let t = table-words 1 100 (bodies o) (omega arith) (omega (arith, length-bodies o (all-eight (o .names) (h .names)), h .small)) in
-    let version : IsWord 1 = omega arith in
-    let count : IsWord 7 = omega arith in
+    let t = table-words 1 (contentsLength (length (bodies o))) (bodyWords o) (omega arith) (omega (arith, object-length o, h .small)) in
+    let version : IsWord edition = omega arith in
+    let count : IsWord (length (bodies o)) = omega arith in
     each-more version (each-more (h .digits) (each-more (h .cells) (each-more count (each-append t (bodies-words o h)))))
 
-object-whole : (o : Object) → Each (λ n. length (n .name) ≡ 8) (o .names) → Whole entrySizes (bodies o)
-object-whole o h =
-    let one : (b : List ℕ) → length b ≡ length b * 1 = λ b. omega arith in
-    whole (length (o .constants)) (one (o .constants)) (whole (length (o .elements)) (elements-size (o .elements))
-    (whole (length (o .exits)) (one (o .exits)) (whole (length (o .dos)) (dos-size (o .dos))
-    (whole (length (o .code)) (one (o .code)) (whole (length (o .lines)) (lines-size (o .lines))
-    (whole (length (o .names)) (names-size (o .names) h) no-more))))))
+-- the kinds of the edition that is written, and how many
+abbrev kinds : List Kind
+kinds = kindsOf edition
 
-read-lists : (o : Object) → Writable o → objectOf (o .digits) (o .cells) (some (bodies o)) ≡ some o
+abbrev count : ℕ
+count = length kinds
+
+-- the words of an entry are as many as its kind says
+data Sized : List Kind → List (List (List ℕ)) → Type 0 where
+  no-kind : Sized [] []
+  sized : {k : Kind} {ks : List Kind} {b : List (List ℕ)} {bs : List (List (List ℕ))} → Each (λ e. length e ≡ k .words) b → Sized ks bs → Sized (k ∷ ks) (b ∷ bs)
+
+object-sized : (o : Object) → Each (λ n. length (n .name) ≡ 8) (o .names) → Sized kinds (bodies o)
+object-sized o h =
+    sized (each-entry 1 oneWord (o .constants) (each-of (λ w. refl) (o .constants)))
+    (sized (each-entry 9 elementWords (o .elements) (each-of (λ e. refl) (o .elements)))
+    (sized (each-entry 1 oneWord (o .exits) (each-of (λ w. refl) (o .exits)))
+    (sized (each-entry 4 loopWords (o .dos) (each-of (λ d. refl) (o .dos)))
+    (sized (each-entry 1 oneWord (o .code) (each-of (λ w. refl) (o .code)))
+    (sized (each-entry 3 lineWords (o .lines) (each-of (λ l. refl) (o .lines)))
+    (sized (each-entry 5 nameWords (o .names) (each-map name-size h)) no-kind))))))
+
+whole-of : {ks : List Kind} {bs : List (List (List ℕ))} → Sized ks bs → Whole (entrySizes ks) (map concat bs)
+whole-of no-kind = no-more
+whole-of (sized {k = k} {b = b} e h) = whole (length b) (length-entries (k .words) b e) (whole-of h)
+
+-- within their kinds' limits the bodies have at most so many words
+words-most : {ks : List Kind} {bs : List (List (List ℕ))} → Sized ks bs → countsWithin ks (map length bs) ≡ true → length (concat (map concat bs)) ≤ mostWords ks
+words-most no-kind w = omega arith
+words-most (sized {k = k} {ks = ks} {b = b} {bs = bs} e h) w =
+    let l : length b ≤ k .most = leb-true (length b) (k .most) (and-left (leb (length b) (k .most)) (countsWithin ks (map length bs)) w) in
+    let s : k .words ≤ k .words = omega arith in
+    let m : length b * k .words ≤ k .most * k .words = mul-le-mul l s in
+    let r = words-most h (and-right (leb (length b) (k .most)) (countsWithin ks (map length bs)) w) in
+    omega (arith, length-append (concat b) (concat (map concat bs)), length-entries (k .words) b e)
+
+-- and an object that passes 41 at most so many bytes
+pub object-most : (o : Object) → Each (λ n. length (n .name) ≡ 8) (o .names) → countsWithin kinds (map length (bodies o)) ≡ true
+    → length (objectBytes o) ≤ contentsLength count + 4 * mostWords kinds
+object-most o h w = omega (arith, object-length o, words-most (object-sized o h) w)
+
+read-lists : (o : Object) → Writable o → objectOf kinds (o .digits) (o .cells) (some (bodyWords o)) ≡ some o
 read-lists o h =
     let c : length (o .code) ≡ 0 → ⊥ = λ e. omega (arith, h .someCode) in
     let e = read-flat WritableElement 9 elementWords elementOf (omega arith) (λ e k. refl) element-back (o .elements) (h .elements) in
     let d = read-flat WritableLoop 4 loopWords loopOf (omega arith) (λ d k. refl) (λ d k. refl) (o .dos) (h .dos) in
     let l = read-flat WritableLine 3 lineWords lineOf (omega arith) (λ l k. refl) (λ l k. refl) (o .lines) (h .lines) in
     let n = read-flat WritableNamed 5 nameWords namedOf (omega arith) (λ n k. name-size n (k .eight)) name-back (o .names) (h .names) in
-    rw (ne-eqb (length (o .code)) 0 c, e, d, l, n)
+    rw (ones (o .constants), ones (o .exits), ones (o .code), ne-eqb (length (o .code)) 0 c, e, d, l, n)
 
 read-words : (o : Object) → Writable o → readWords (objectWords o) ≡ some o
 unfolding objectWords
-read-words o h = ap (λ r. objectOf (o .digits) (o .cells) r) (read-bodies 1 100 (object-whole o (all-eight (o .names) (h .names)))) ∙ read-lists o h
+read-words o h = ap (λ r. objectOf kinds (o .digits) (o .cells) r) (read-bodies 1 (contentsLength count) (whole-of (object-sized o (all-eight (o .names) (h .names))))) ∙ read-lists o h
 
 -- Reading the bytes that are written gives the same object.
 pub reads-back : (o : Object) → Writable o → readObject (objectBytes o) ≡ some o
@@ -341,16 +383,17 @@ name-fine e l h =
 record Made (k c : ℕ) (bs : List (List ℕ)) (o : Object) : Type 0 where
   digits : o .digits ≡ k
   cells : o .cells ≡ c
-  are : bodies o ≡ bs
+  are : bodyWords o ≡ bs
   code : 0 < length (concat bs)
   names : Each WritableNamed (o .names)
-  fine : IsWord k → IsWord c → 100 + 4 * bodyWords o < 2 ^ 32 → Writable o
+  fine : IsWord k → IsWord c → length (objectBytes o) < 2 ^ 32 → Writable o
 
 no-test : {A : Type 0} (t : Bool) (x y : A) → cond t none (some x) ≡ some y → (t ≡ false) × (x ≡ y)
 no-test true x y e = let z : _≡_ {A = ℕ} 0 1 = cc in absurd (omega arith)
 no-test false x y e = (refl, cc)
 
-object-some : (k c : ℕ) (r : Option (List (List ℕ))) (o : Object) → objectOf k c r ≡ some o → (bs : List (List ℕ)) × (r ≡ some bs) × (objectOf k c (some bs) ≡ some o)
+object-some : (k c : ℕ) (r : Option (List (List ℕ))) (o : Object) → objectOf kinds k c r ≡ some o
+    → (bs : List (List ℕ)) × (r ≡ some bs) × (objectOf kinds k c (some bs) ≡ some o)
 object-some k c none o e = let z : _≡_ {A = ℕ} 0 1 = cc in absurd (omega arith)
 object-some k c (some bs) o e = (bs, refl, e)
 
@@ -358,7 +401,7 @@ each-concat : (bs : List (List ℕ)) → Each IsWord (concat bs) → Each (λ b.
 each-concat [] h = each-none
 each-concat (b ∷ bs) h = each-more (each-left b (concat bs) h) (each-concat bs (each-right b (concat bs) h))
 
-made : (k c : ℕ) (bs : List (List ℕ)) (o : Object) → Whole entrySizes bs → Each (λ b. Each IsWord b) bs → objectOf k c (some bs) ≡ some o → Made k c bs o
+made : (k c : ℕ) (bs : List (List ℕ)) (o : Object) → Whole (entrySizes kinds) bs → Each (λ b. Each IsWord b) bs → objectOf kinds k c (some bs) ≡ some o → Made k c bs o
 made k c bs o (whole {b = b1} n1 e1 (whole {b = b2} n2 e2 (whole {b = b3} n3 e3 (whole {b = b4} n4 e4 (whole {b = b5} n5 e5 (whole {b = b6} n6 e6 (whole {b = b7} n7 e7 no-more)))))))
     (each-more h1 (each-more h2 (each-more h3 (each-more h4 (each-more h5 (each-more h6 (each-more h7 each-none))))))) e =
     let p = no-test (eqb (length b5) 0) _ o e in
@@ -374,6 +417,9 @@ made k c bs o (whole {b = b1} n1 e1 (whole {b = b2} n2 e2 (whole {b = b3} n3 e3 
       cells = refl;
       are =
           rw (
+            ones b1,
+            ones b3,
+            ones b5,
             flat-entries 9 elementWords elementOf element-forth (length b2 / 9) b2 q2 h2,
             flat-entries 4 loopWords loopOf (λ e l w. loop-forth e l) (length b4 / 4) b4 q4 h4,
             flat-entries 3 lineWords lineOf (λ e l w. line-forth e l) (length b6 / 3) b6 q6 h6,
@@ -411,44 +457,56 @@ whole-length (whole n e h) = ap suc (whole-length h)
 record Back (ws : List ℕ) (o : Object) : Type 0 where
   words : objectWords o ≡ ws
   names : Each WritableNamed (o .names)
-  fine : 100 + 4 * bodyWords o < 2 ^ 32 → Writable o
+  fine : length (objectBytes o) < 2 ^ 32 → Writable o
 
-words-are : (ws : List ℕ) (o : Object) (bs : List (List ℕ)) → o .digits ≡ word ws 1 → o .cells ≡ word ws 2 → bodies o ≡ bs → length bs ≡ 7
-    → take 21 (drop 4 ws) ≡ bodyTable 1 100 bs → concat bs ≡ drop 21 (drop 4 ws) → ws ≡ 1 ∷ word ws 1 ∷ word ws 2 ∷ 7 ∷ drop 4 ws → objectWords o ≡ ws
+-- the contents of the bodies, and the bodies
+abbrev contentsIn : List ℕ → List ℕ
+contentsIn ws = take (3 * count) (drop 4 ws)
+
+abbrev restOf : List ℕ → List ℕ
+restOf ws = drop (3 * count) (drop 4 ws)
+
+words-are : (ws : List ℕ) (o : Object) (bs : List (List ℕ)) → o .digits ≡ word ws 1 → o .cells ≡ word ws 2 → bodyWords o ≡ bs → length bs ≡ count
+    → contentsIn ws ≡ bodyTable 1 (contentsLength count) bs → concat bs ≡ restOf ws → ws ≡ edition ∷ word ws 1 ∷ word ws 2 ∷ count ∷ drop 4 ws → objectWords o ≡ ws
 unfolding objectWords
-words-are ws o bs dk dc are n7 tab flat head =
-    ap (λ (b : List (List ℕ)). 1 ∷ o .digits ∷ o .cells ∷ length b ∷ (bodyTable 1 (contentsLength (length b)) b ++ concat b)) are
-    ∙ rw (dk, dc, n7, ← tab, flat, take-append-drop 21 (drop 4 ws)) (sym head)
+words-are ws o bs dk dc are n tab flat head =
+    ap (λ (b : List (List ℕ)). edition ∷ o .digits ∷ o .cells ∷ length b ∷ (bodyTable 1 (contentsLength (length b)) b ++ concat b)) are
+    ∙ rw (dk, dc, n, ← tab, flat, take-append-drop (3 * count) (drop 4 ws)) (sym head)
 
-back-of : (ws : List ℕ) (o : Object) → Each IsWord ws → word ws 0 ≡ 1 → word ws 3 ≡ 7 → (bs : List (List ℕ))
-    → readBodies entrySizes 1 100 (take 21 (drop 4 ws)) (drop 21 (drop 4 ws)) ≡ some bs → objectOf (word ws 1) (word ws 2) (some bs) ≡ some o → Back ws o
+back-of : (ws : List ℕ) (o : Object) → Each IsWord ws → word ws 0 ≡ edition → word ws 3 ≡ count → (bs : List (List ℕ))
+    → readBodies (entrySizes kinds) 1 (contentsLength count) (contentsIn ws) (restOf ws) ≡ some bs → objectOf kinds (word ws 1) (word ws 2) (some bs) ≡ some o → Back ws o
 back-of ws o h e0 e3 bs r e =
-    let f = found entrySizes 1 100 (take 21 (drop 4 ws)) (drop 21 (drop 4 ws)) bs r in
-    let w : Each IsWord (concat bs) = rw (f .flat) (each-drop 21 (drop 4 ws) (each-drop 4 ws h)) in
+    let f = found (entrySizes kinds) 1 (contentsLength count) (contentsIn ws) (restOf ws) bs r in
+    let w : Each IsWord (concat bs) = rw (f .flat) (each-drop (3 * count) (drop 4 ws) (each-drop 4 ws h)) in
     let m = made (word ws 1) (word ws 2) bs o (f .fits) (each-concat bs w) e in
     let c : 0 < length (concat bs) = m .code in
-    let l : 25 ≤ length ws = omega (arith, ap length (f .flat), length-drop 21 (drop 4 ws), length-drop 4 ws) in
-    let tl : length (take 21 (drop 4 ws)) ≡ 21 = length-take-le 21 (drop 4 ws) (omega (arith, length-drop 4 ws)) in
-    let tab : take 21 (drop 4 ws) ≡ bodyTable 1 100 bs = f .table tl in
-    let n7 : length bs ≡ 7 = whole-length (f .fits) in
+    let l : 4 + 3 * count ≤ length ws = omega (arith, ap length (f .flat), length-drop (3 * count) (drop 4 ws), length-drop 4 ws) in
+    let tl : length (contentsIn ws) ≡ 3 * count = length-take-le (3 * count) (drop 4 ws) (omega (arith, length-drop 4 ws)) in
+    let tab : contentsIn ws ≡ bodyTable 1 (contentsLength count) bs = f .table tl in
+    let n : length bs ≡ count = whole-length (f .fits) in
     record {
-      words = words-are ws o bs (m .digits) (m .cells) (m .are) n7 tab (f .flat) (rw (e0, e3) at (four ws (omega arith)));
+      words = words-are ws o bs (m .digits) (m .cells) (m .are) n tab (f .flat) (rw (e0, e3) at (four ws (omega arith)));
       names = m .names;
       fine = m .fine (is-word ws 1 h) (is-word ws 2 h);
     }
 
-back : (ws : List ℕ) (o : Object) → Each IsWord ws → readWords ws ≡ some o → Back ws o
-back ws o h e =
-    let t3 : Bool = eqb (word ws 3) 7 in
-    let t : Bool = eqb (word ws 0) 1 && t3 in
-    let x : Option Object = objectOf (word ws 1) (word ws 2) (readBodies entrySizes 1 (contentsLength (word ws 3)) (take (3 * word ws 3) (drop 4 ws)) (drop (3 * word ws 3) (drop 4 ws))) in
-    let p : t ≡ true = some-test t x e in
-    let e0 : word ws 0 ≡ 1 = eqb-true (word ws 0) 1 (and-left (eqb (word ws 0) 1) t3 p) in
-    let e3 : word ws 3 ≡ 7 = eqb-true (word ws 3) 7 (and-right (eqb (word ws 0) 1) t3 p) in
-    let q : x ≡ some o = some-then t x e in
-    let r = subst (λ n. objectOf (word ws 1) (word ws 2) (readBodies entrySizes 1 (contentsLength n) (take (3 * n) (drop 4 ws)) (drop (3 * n) (drop 4 ws))) ≡ some o) e3 q in
-    let c = object-some (word ws 1) (word ws 2) (readBodies entrySizes 1 100 (take 21 (drop 4 ws)) (drop 21 (drop 4 ws))) o r in
+-- of the edition that is written
+back-by : (ws : List ℕ) (o : Object) → Each IsWord ws → word ws 0 ≡ edition → readBy kinds ws ≡ some o → Back ws o
+back-by ws o h e0 e =
+    let t : Bool = eqb (word ws 3) count in
+    let x : Option Object = objectOf kinds (word ws 1) (word ws 2) (readBodies (entrySizes kinds) 1 (contentsLength count) (contentsIn ws) (restOf ws)) in
+    let e3 : word ws 3 ≡ count = eqb-true (word ws 3) count (some-test t x e) in
+    let c = object-some (word ws 1) (word ws 2) (readBodies (entrySizes kinds) 1 (contentsLength count) (contentsIn ws) (restOf ws)) o (some-then t x e) in
     back-of ws o h e0 e3 (c .0) (c .1) (c .2)
+
+back : (ws : List ℕ) (o : Object) → Each IsWord ws → readWords ws ≡ some o → Back ws o
+back ws o h e = by (eqb (word ws 0) edition) refl
+  where
+    by : (b : Bool) → eqb (word ws 0) edition ≡ b → Back ws o
+    by true q = let e0 = eqb-true (word ws 0) edition q in back-by ws o h e0 (subst (λ (n : ℕ). readBy (kindsOf n) ws ≡ some o) e0 e)
+    by false q =
+        let none-read : none ≡ some o = subst (λ (b : Bool). readBy (cond b kinds []) ws ≡ some o) q e in
+        let z : _≡_ {A = ℕ} 0 1 = cc in absurd (omega arith)
 
 whole-file : (s : List ℕ) (o : Object) → readObject s ≡ some o → (length s ≡ 4 * length (wordsOf s)) × (readWords (wordsOf s) ≡ some o)
 unfolding readObject
@@ -468,7 +526,7 @@ pub read-writable : (s : List ℕ) (o : Object) → Each IsByte s → readObject
 read-writable s o h e l =
     let w = whole-file s o e in
     let b = back (wordsOf s) o (each-word s h) (w .1) in
-    b .fine (omega (arith, object-length o (all-eight (o .names) (b .names)), ap length (writes-back s o h e)))
+    b .fine (omega (arith, ap length (writes-back s o h e)))
 
 -- an object's bytes are bytes
 pub object-bytes : (o : Object) → Each IsByte (objectBytes o)

@@ -8,6 +8,7 @@ use lib.Dec.{ltb, leb, eqb}
 use lib.ListN.{length, getD, take, drop}
 use lib.IntN.{ℤ, pos, negsuc}
 use Rattle.rules_object.specs.Object.{Element, Loop, Line, Named, Object}
+use Rattle.rules_object.specs.Kinds.{Kind, edition, kindsOf, entrySizes, contentsLength}
 
 -- ---- words are u32, little-endian
 
@@ -34,18 +35,14 @@ unfoldable pub signedWord : ℤ → ℕ
 signedWord (pos n) = n
 signedWord (negsuc n) = 2 ^ 32 - 1 - n
 
--- ---- each body as words: the entries of a kind are all of one size
+-- ---- each entry as words
 
 abbrev pub concat : List (List ℕ) → List ℕ
 concat [] = []
 concat (b ∷ bs) = b ++ concat bs
 
--- words in an entry, by kind from 1 on: constants, elements, exits, DOs, code, statements, names
-abbrev pub entrySizes : List ℕ
-entrySizes = 1 ∷ 9 ∷ 1 ∷ 4 ∷ 1 ∷ 3 ∷ 5 ∷ []
-
-abbrev pub edition : ℕ
-edition = 1
+abbrev pub oneWord : ℕ → List ℕ
+oneWord w = w ∷ []
 
 abbrev pub elementWords : Element → List ℕ
 elementWords e =
@@ -60,11 +57,15 @@ lineWords l = l .sequence ∷ l .number ∷ l .address ∷ []
 abbrev pub nameWords : Named → List ℕ
 nameWords n = wordsOf (n .name) ++ (n .first ∷ n .rows ∷ n .columns ∷ [])
 
--- the seven bodies in the order of their kinds
-abbrev pub bodies : Object → List (List ℕ)
+-- the bodies in the order of their kinds, each as its entries
+abbrev pub bodies : Object → List (List (List ℕ))
 bodies o =
-    o .constants ∷ concat (map elementWords (o .elements)) ∷ o .exits ∷ concat (map loopWords (o .dos)) ∷ o .code ∷ concat (map lineWords (o .lines))
-    ∷ concat (map nameWords (o .names)) ∷ []
+    map oneWord (o .constants) ∷ map elementWords (o .elements) ∷ map oneWord (o .exits) ∷ map loopWords (o .dos) ∷ map oneWord (o .code) ∷ map lineWords (o .lines)
+    ∷ map nameWords (o .names) ∷ []
+
+-- and each as its words
+abbrev pub bodyWords : Object → List (List ℕ)
+bodyWords o = map concat (bodies o)
 
 -- and back: word i of an entry
 abbrev pub word : List ℕ → ℕ → ℕ
@@ -101,13 +102,9 @@ abbrev pub bodyTable : ℕ → ℕ → List (List ℕ) → List ℕ
 bodyTable kind at [] = []
 bodyTable kind at (b ∷ bs) = kind ∷ at ∷ 4 * length b ∷ bodyTable (suc kind) (at + 4 * length b) bs
 
--- bytes of the contents of so many bodies
-abbrev pub contentsLength : ℕ → ℕ
-contentsLength count = 4 * (4 + 3 * count)
-
 unfoldable pub objectWords : Object → List ℕ
 objectWords o =
-    edition ∷ o .digits ∷ o .cells ∷ length (bodies o) ∷ (bodyTable 1 (contentsLength (length (bodies o))) (bodies o) ++ concat (bodies o))
+    edition ∷ o .digits ∷ o .cells ∷ length (bodyWords o) ∷ (bodyTable 1 (contentsLength (length (bodyWords o))) (bodyWords o) ++ concat (bodyWords o))
 
 unfoldable pub objectBytes : Object → List ℕ
 objectBytes o = bytesOf (objectWords o)
@@ -130,32 +127,36 @@ readBodies (z ∷ zs) kind at contents ws =
 abbrev pub body : List (List ℕ) → ℕ → List ℕ
 body bs kind = getD bs (kind - 1) []
 
-abbrev pub entriesOf : List (List ℕ) → ℕ → List (List ℕ)
-entriesOf bs kind = entries (length (body bs kind) / getD entrySizes (kind - 1) 1) (getD entrySizes (kind - 1) 1) (body bs kind)
+abbrev pub entriesOf : List Kind → List (List ℕ) → ℕ → List (List ℕ)
+entriesOf kinds bs kind = entries (length (body bs kind) / getD (entrySizes kinds) (kind - 1) 1) (getD (entrySizes kinds) (kind - 1) 1) (body bs kind)
 
 -- the seven lists; no code at all is wrong
-abbrev pub objectOf : ℕ → ℕ → Option (List (List ℕ)) → Option Object
-objectOf k cells none = none
-objectOf k cells (some bs) =
+abbrev pub objectOf : List Kind → ℕ → ℕ → Option (List (List ℕ)) → Option Object
+objectOf kinds k cells none = none
+objectOf kinds k cells (some bs) =
     cond (eqb (length (body bs 5)) 0) none
     (some
     (record {
       digits = k;
       cells = cells;
       constants = body bs 1;
-      elements = map elementOf (entriesOf bs 2);
+      elements = map elementOf (entriesOf kinds bs 2);
       exits = body bs 3;
-      dos = map loopOf (entriesOf bs 4);
+      dos = map loopOf (entriesOf kinds bs 4);
       code = body bs 5;
-      lines = map lineOf (entriesOf bs 6);
-      names = map namedOf (entriesOf bs 7);
+      lines = map lineOf (entriesOf kinds bs 6);
+      names = map namedOf (entriesOf kinds bs 7);
     }))
 
--- edition, k, cell count, body count; then the contents of the bodies, and the bodies
+-- after the edition: k, cell count, body count; then the contents of the bodies, and the bodies
+abbrev pub readBy : List Kind → List ℕ → Option Object
+readBy kinds ws =
+    cond (ltb 0 (length kinds) && eqb (word ws 3) (length kinds))
+    (objectOf kinds (word ws 1) (word ws 2) (readBodies (entrySizes kinds) 1 (contentsLength (length kinds)) (take (3 * length kinds) (drop 4 ws)) (drop (3 * length kinds) (drop 4 ws)))) none
+
+-- by the kinds of its edition, if there is such an edition
 abbrev pub readWords : List ℕ → Option Object
-readWords ws =
-    cond (eqb (word ws 0) edition && eqb (word ws 3) (length entrySizes))
-    (objectOf (word ws 1) (word ws 2) (readBodies entrySizes 1 (contentsLength (word ws 3)) (take (3 * word ws 3) (drop 4 ws)) (drop (3 * word ws 3) (drop 4 ws)))) none
+readWords ws = readBy (kindsOf (word ws 0)) ws
 
 -- none: refused by 40
 unfoldable pub readObject : List ℕ → Option Object

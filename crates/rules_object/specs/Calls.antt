@@ -18,7 +18,7 @@ use Rattle.rules_object.specs.Machine.{State, fresh, step, benchStep, go
 use Rattle.rules_object.specs.Bytes.{concat, bytesOf, nameWords, readObject}
 use Rattle.rules_object.specs.Flow.{heightAt}
 use Rattle.rules_object.specs.Heights.{heights}
-use Rattle.rules_shared.specs.Refusals.{Refusal, refusal, accepted, atEntry, orElse, unless}
+use Rattle.rules_shared.specs.Refusals.{Refusal, refusal, accepted, atEntry, orElse, unless, noRoom}
 use Rattle.rules_shared.specs.Lists.{all, firstBad}
 use Rattle.rules_shared.specs.Output.{Written, notWritten, write}
 
@@ -170,7 +170,7 @@ mapOf o = bytesOf (concat (map nameWords (o .names)))
 
 abbrev pub mapChecked : Checked → List ℕ → Written
 mapChecked (refused r) table = notWritten r table
-mapChecked (passed o heights) table = write (mapOf o) table
+mapChecked (passed o heights) table = write noRoom (mapOf o) table
 
 -- the call `map`
 unfoldable pub mapping : List ℕ → List ℕ → Written

@@ -2,22 +2,26 @@
 -- Assumes nothing.
 use Prim.Native.Nat.{ℕ, zero, suc, _+_, _*_}
 use mathlib.Core.Bool.{Bool, true, false, _&&_, _||_, cond}
-use mathlib.Core.List.{List, [], _∷_}
+use mathlib.Core.List.{List, [], _∷_, map}
 use lib.Dec.{ltb, leb, eqb}
 use lib.ListN.{length}
 use lib.IntN.{pos}
 use Rattle.number.specs.Number.{fits}
 use Rattle.rules_shared.specs.Limits.{limits}
 use Rattle.rules_object.specs.Object.{SubscriptEntry, Element, Loop, Line, Named, Object, ruleOf}
+use Rattle.rules_object.specs.Kinds.{Kind, edition, kindsOf}
+use Rattle.rules_object.specs.Bytes.{bodies}
 
 -- ---- 41: k not 1-9; cells or a table over its limit
 
+-- of each kind no more entries than it may have
+abbrev pub countsWithin : List Kind → List ℕ → Bool
+countsWithin [] counts = true
+countsWithin (k ∷ kinds) [] = true
+countsWithin (k ∷ kinds) (n ∷ counts) = leb n (k .most) && countsWithin kinds counts
+
 unfoldable pub right41 : Object → Bool
-right41 o =
-    leb 1 (o .digits) && (leb (o .digits) (limits .digits) && (leb (o .cells) (limits .cells) &&
-    (leb (length (o .constants)) (limits .constants) && (leb (length (o .elements)) (limits .elements) && (leb (length (o .exits)) (limits .exits) &&
-    (leb (length (o .dos)) (limits .dos) && (leb (length (o .code)) (limits .code) && (leb (length (o .lines)) (limits .statements) &&
-    leb (length (o .names)) (limits .names)))))))))
+right41 o = leb 1 (o .digits) && (leb (o .digits) (limits .digits) && (leb (o .cells) (limits .cells) && countsWithin (kindsOf edition) (map length (bodies o))))
 
 -- ---- 42: entries
 

@@ -1,5 +1,6 @@
 pub mod Halts
 pub mod Object
+pub mod Kinds
 pub mod Bytes
 pub mod Writable
 pub mod Flow

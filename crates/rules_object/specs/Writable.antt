@@ -1,10 +1,11 @@
 -- What an object's lists must be for its bytes to hold them: words, signed words, names of eight bytes, and code.
 -- Assumes nothing.
 use mathlib.Core.Path.{_≡_}
-use Prim.Native.Nat.{ℕ, _+_, _*_, _^_, _<_}
+use Prim.Native.Nat.{ℕ, _^_, _<_}
 use lib.ListN.{length}
 use lib.IntN.{ℤ, pos, negsuc}
 use Rattle.rules_object.specs.Object.{SubscriptEntry, Element, Loop, Line, Named, Object}
+use Rattle.rules_object.specs.Bytes.{objectBytes}
 use Rattle.rules_shared.specs.Lists.{Each}
 
 abbrev pub IsByte : ℕ → Type 0
@@ -47,12 +48,6 @@ pub record WritableNamed (n : Named) : Type 0 where
   pub rows : IsWord (n .rows)
   pub columns : IsWord (n .columns)
 
--- the words of the seven bodies, by their entries' sizes
-abbrev pub bodyWords : Object → ℕ
-bodyWords o =
-    length (o .constants) + 9 * length (o .elements) + length (o .exits) + 4 * length (o .dos) + length (o .code) + 3 * length (o .lines)
-    + 5 * length (o .names)
-
 pub record Writable (o : Object) : Type 0 where
   pub digits : IsWord (o .digits)
   pub cells : IsWord (o .cells)
@@ -65,4 +60,4 @@ pub record Writable (o : Object) : Type 0 where
   pub names : Each WritableNamed (o .names)
   pub someCode : 0 < length (o .code)
   -- so that each body's first byte is a word
-  pub small : 100 + 4 * bodyWords o < 2 ^ 32
+  pub small : length (objectBytes o) < 2 ^ 32

@@ -10,7 +10,7 @@ use lib.Dec.{leb}
 use lib.ListN.{length, take, drop, replicate, length-replicate}
 use lib.Seq.{take-append-seam}
 use lib.IntN.{ℤ, pos}
-use borrow.Author.Tests.{leb-true, le-leb}
+use borrow.Author.Tests.{le-leb}
 use Rattle.number.specs.Number.{fits}
 use Rattle.number.proofs.Laws.{digits-some, yes-fits}
 use Rattle.rules_shared.specs.Limits.{limits}
@@ -19,12 +19,13 @@ use Rattle.rules_object.specs.Object.{Object, ruleOf}
 use Rattle.rules_object.specs.Check.{right41}
 use Rattle.rules_object.specs.Machine.{fresh, step}
 use Rattle.rules_object.specs.Bytes.{objectBytes}
-use Rattle.rules_shared.specs.Refusals.{Refusal, accepted}
+use Rattle.rules_shared.specs.Refusals.{Refusal, accepted, noRoom}
 use Rattle.rules_shared.specs.Lists.{all}
 use Rattle.rules_shared.specs.Output.{writtenIf, write}
 use Rattle.rules_object.specs.Calls.{taken, given, right50, right51, Ran, running}
 use Rattle.rules_object.specs.Safe.{freshLent}
-use Rattle.rules_object.proofs.Passed.{both, check-passed}
+use Rattle.rules_object.proofs.Passed.{check-passed}
+use Rattle.rules_object.proofs.Limited.{limited}
 use Rattle.rules_object.proofs.Lents.{and-true, fresh-stands, stands-52}
 use Rattle.rules_object.proofs.Accepts.{Accepts, accepts-run}
 use Rattle.rules_object.proofs.Refusals.{from-accepts}
@@ -50,14 +51,10 @@ all-same test z zero m e = refl
 all-same test z (suc n) zero e = refl
 all-same test z (suc n) (suc m) e = and-true e (all-same test z n m e)
 
-module _ (o : Object) (limited : right41 o ≡ true) where
+module _ (o : Object) (right : right41 o ≡ true) where
   zero-50 : right50 o zeroStore ≡ true
-  unfolding right41 right50
-  zero-50 =
-      let t₁ = both (leb 1 (o .digits)) _ limited in
-      let t₂ = both (leb (o .digits) (limits .digits)) _ (t₁ .1) in
-      let t₃ = both (leb (o .cells) (limits .cells)) _ (t₂ .1) in
-      le-leb (o .cells) (length zeroStore) (omega (arith, leb-true (o .cells) (limits .cells) (t₃ .0), length-replicate {A = ℤ} (limits .cells) (pos 0)))
+  unfolding right50
+  zero-50 = le-leb (o .cells) (length zeroStore) (omega (arith, limited o right .cells, length-replicate {A = ℤ} (limits .cells) (pos 0)))
 
   zero-51 : right51 o zeroStore ≡ true
   unfolding right51
@@ -81,15 +78,15 @@ module _ (house : House) (lawful : Lawful house) (bytes : List ℕ) (deck : List
   runs =
       let c = compiled-checked house lawful bytes deck reads in
       let p = check-passed object o (c .0) (c .1) in
-      let limited = passes-41 (accepted-deck house lawful bytes deck reads) in
+      let right = passes-41 (accepted-deck house lawful bytes deck reads) in
       record {
         object = o;
         table = c .0;
         is = c .1;
         passes = p;
-        right50 = zero-50 o limited;
-        right51 = zero-51 o limited;
-        right52 = stands-52 (fresh zeroStore) (fresh-stands p zeroStore (zero-50 o limited) (zero-51 o limited));
+        right50 = zero-50 o right;
+        right51 = zero-51 o right;
+        right52 = stands-52 (fresh zeroStore) (fresh-stands p zeroStore (zero-50 o right) (zero-51 o right));
       }
 
   pub run-accepted : running object zeroStore freshLent allowance .refusal ≡ accepted
@@ -108,7 +105,7 @@ module _ (house : House) (lawful : Lawful house) (bytes : List ℕ) (deck : List
       ap (λ (r : Read). objectIn (writeRead house output r)) reads
       ∙ by (leb (length object) (length output)) (ap (λ (r : Read). writeRead house output r .refusal) (sym reads) ∙ e)
     where
-      by : (b : Bool) → writtenIf b object output .refusal ≡ accepted → objectIn (writtenIf b object output) ≡ object
+      by : (b : Bool) → writtenIf noRoom b object output .refusal ≡ accepted → objectIn (writtenIf noRoom b object output) ≡ object
       by true e = take-append-seam object (drop (length object) output)
       by false e = let z : _≡_ {A = ℕ} 30 0 = ap (λ (r : Refusal). r .number) e in absurd (omega arith)
 

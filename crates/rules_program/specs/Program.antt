@@ -10,7 +10,8 @@ use lib.IntN.{ℤ, pos}
 use Rattle.rules_shared.specs.Limits.{limits}
 use Rattle.rules_shared.specs.House.{house1401}
 use Rattle.rules_object.specs.Object.{Named, Object}
-use Rattle.rules_object.specs.Bytes.{contentsLength, readObject}
+use Rattle.rules_object.specs.Kinds.{edition, kindsOf, mostWords, contentsLength}
+use Rattle.rules_object.specs.Bytes.{readObject}
 use Rattle.rules_shared.specs.Lists.{all}
 use Rattle.rules_shared.specs.Output.{Written}
 use Rattle.rules_object.specs.Calls.{Ran, running}
@@ -66,12 +67,9 @@ printedObject object = runLines (namesOf (readObject object)) (running object ze
 
 -- ---- the whole
 
--- room for any object: each table at its limit, and body 6 with a line for each statement
+-- room for any object: each body at its limit
 abbrev pub mostBytes : ℕ
-mostBytes =
-    contentsLength 7
-    + 4
-    * (limits .constants + 9 * limits .elements + limits .exits + 4 * limits .dos + limits .code + 3 * limits .statements + 5 * limits .names)
+mostBytes = contentsLength (length (kindsOf edition)) + 4 * mostWords (kindsOf edition)
 
 -- what compiling wrote, with its number of refusal beside it
 abbrev pub writtenLines : Written → ℕ → List ℕ

@@ -1,4 +1,4 @@
--- Bytes written to a lent output: 30 if it is too short; bytes past them stay.
+-- Bytes written to a lent output: refused by the given number if it is too short; bytes past them stay.
 -- Assumes nothing.
 use Prim.Native.Nat.{ℕ}
 use mathlib.Core.Bool.{Bool, true, false}
@@ -15,9 +15,9 @@ pub record Written : Type 0 where
 abbrev pub notWritten : Refusal → List ℕ → Written
 notWritten r output = record { refusal = r; length = 0; output = output }
 
-abbrev pub writtenIf : Bool → List ℕ → List ℕ → Written
-writtenIf true bytes output = record { refusal = accepted; length = length bytes; output = bytes ++ drop (length bytes) output }
-writtenIf false bytes output = notWritten (refusal 30 0 0) output
+abbrev pub writtenIf : ℕ → Bool → List ℕ → List ℕ → Written
+writtenIf number true bytes output = record { refusal = accepted; length = length bytes; output = bytes ++ drop (length bytes) output }
+writtenIf number false bytes output = notWritten (refusal number 0 0) output
 
-unfoldable pub write : List ℕ → List ℕ → Written
-write bytes output = writtenIf (leb (length bytes) (length output)) bytes output
+unfoldable pub write : ℕ → List ℕ → List ℕ → Written
+write number bytes output = writtenIf number (leb (length bytes) (length output)) bytes output

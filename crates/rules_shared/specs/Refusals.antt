@@ -15,6 +15,10 @@ refusal n p k = record { number = n; place = p; kind = k }
 abbrev pub accepted : Refusal
 accepted = refusal 0 0 0
 
+-- the lent output is too short
+abbrev pub noRoom : ℕ
+noRoom = 30
+
 abbrev pub atEntry : ℕ → ℕ → Option ℕ → Option Refusal
 atEntry number kind none = none
 atEntry number kind (some entry) = some (refusal number entry kind)

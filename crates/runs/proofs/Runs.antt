@@ -39,7 +39,7 @@ use Rattle.machine.proofs.Starts.{stands-held, fresh-held, fresh-state}
 use Rattle.machine.proofs.Going.{run-bench}
 use Rattle.checker.specs.declared.Verdict.{Verdict}
 use Rattle.checker.specs.Verdicts.{passing}
-use Rattle.checker.proofs.Laws.{limited}
+use Rattle.rules_object.proofs.Limited.{limited}
 use Rattle.runs.specs.declared.Ran as declared
 use Rattle.lent.specs.Lending.{lent, numbered, refusedStore, Cleared}
 use Rattle.runs.specs.Outcomes.{ranOf, refusedRan, Ends}

@@ -8,7 +8,7 @@ use Rattle.rules_object.specs.Calls.{Checked, mapOf, mapChecked, mapping}
 use Rattle.object.specs.Layout.{objectAt}
 use Rattle.object.proofs.Entries.{name-length}
 use Rattle.checker.specs.declared.Verdict.{Verdict}
-use Rattle.checker.proofs.Laws.{limited}
+use Rattle.rules_object.proofs.Limited.{limited}
 use Rattle.checker.proofs.Tells.{Refused, Accepted}
 use Rattle.verdicts.specs.declared.Written.{Written}
 use Rattle.verdicts.specs.Outcomes.{Writes, Maps}

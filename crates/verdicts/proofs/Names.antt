@@ -9,7 +9,7 @@ use lib.Seq.{take-all}
 use borrow.Author.Tests.{le-leb, lt-leb}
 use Rattle.rules_object.specs.Bytes.{wordsOf, bytesOf, concat, nameWords, namedOf, entries}
 use Rattle.rules_object.specs.Writable.{IsByte}
-use Rattle.rules_shared.specs.Refusals.{accepted}
+use Rattle.rules_shared.specs.Refusals.{accepted, noRoom}
 use Rattle.rules_shared.specs.Output.{write}
 use Rattle.rules_object.specs.Calls.{mapOf}
 use Rattle.rules_shared.specs.Output as output
@@ -70,7 +70,7 @@ module _ (e : Layout) (s : List ℕ) (bytes : (i : ℕ) → getD s i 0 < 256) (p
   map-length : length (mapOf (objectAt e s)) ≡ 20 * e .«name_count»
   map-length = ap length (map-bytes e s bytes p) ∙ body-length e s bytes p
 
-  pub too-short : length output < 20 * e .«name_count» → Writes (mapOf (objectAt e s)) output output (record { number = 30; place = 0; kind = 0; length = 0 })
+  pub too-short : length output < 20 * e .«name_count» → Writes (mapOf (objectAt e s)) output output (record { number = noRoom; place = 0; kind = 0; length = 0 })
   unfolding write
   too-short l = record { is = rw (lt-leb (length (mapOf (objectAt e s))) (length output) (omega (arith, map-length))) }
 

@@ -3,7 +3,7 @@
 use mathlib.Core.Path.{_≡_}
 use mathlib.Core.List.{List}
 use Prim.Native.Nat.{ℕ}
-use Rattle.rules_shared.specs.Refusals.{refusal}
+use Rattle.rules_shared.specs.Refusals.{refusal, noRoom}
 use Rattle.rules_shared.specs.Output.{write}
 use Rattle.rules_object.specs.Calls.{checking, mapping}
 use Rattle.rules_shared.specs.Output as output
@@ -18,7 +18,7 @@ abbrev pub writtenOf : Written → List ℕ → output.Written
 writtenOf r output = record { refusal = refusal (r .number) (r .place) (r .kind); length = r .length; output = output }
 
 pub record Writes (bytes output output′ : List ℕ) (r : Written) : Type 0 where
-  pub is : write bytes output ≡ writtenOf r output′
+  pub is : write noRoom bytes output ≡ writtenOf r output′
 
 pub record Maps (bytes output output′ : List ℕ) (r : Written) : Type 0 where
   pub is : mapping bytes output ≡ writtenOf r output′

@@ -2,14 +2,14 @@
 -- Assumes nothing.
 use Prim.Native.Nat.{ℕ, _^_, _<_}
 use mathlib.Core.List.{List}
-use Rattle.rules_shared.specs.Refusals.{refusal, accepted}
+use Rattle.rules_shared.specs.Refusals.{refusal, accepted, noRoom}
 use Rattle.rules_shared.specs.Output.{Written, notWritten}
 use Rattle.writer.specs.declared.Wrote.{Wrote}
 use Rattle.writer.specs.declared.Wrote.the-variants.{Bytes, Short}
 
 abbrev pub answer : Wrote → List ℕ → Written
 answer (Bytes n) o = record { refusal = accepted; length = n; output = o }
-answer Short o = notWritten (refusal 30 0 0) o
+answer Short o = notWritten (refusal noRoom 0 0) o
 
 -- the length is a word
 abbrev pub Low : Wrote → Type 0

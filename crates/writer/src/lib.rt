@@ -1,14 +1,16 @@
-// The object writer: the contents, then each body into its own part of the output.
+// The object writer: the contents, then the bodies.
 ghost use mathlib.Core.Path.{_≡_};
-ghost use Prim.Native.Nat.{_+_, _*_, _^_, _<_};
+ghost use mathlib.Core.List.{[], _∷_};
+ghost use Prim.Native.Nat.{_^_, _<_};
 ghost use Rattle.rules_object.specs.Bytes.{bytesOf};
+ghost use Rattle.rules_shared.specs.Refusals.{noRoom};
 ghost use Rattle.rules_shared.specs.Output.{write};
-ghost use Rattle.body_writer.specs.Counts.{total, Within, firstWords};
+ghost use Rattle.bodies.specs.Edition.{count};
+ghost use Rattle.body_writer.specs.Bodies.{firstWords, Within, startOf};
 ghost use Rattle.contents_writer.specs.Contents.{wordsOfBodies};
 ghost use Rattle.writer.specs.Answer.{answer, Low};
-use body_writer::Counts;
-use contents_writer::CONTENTS;
-use contents_writer::HEAD;
+use bodies::CONTENTS;
+use bodies::KINDS;
 
 // How many bytes were written, or that the output is too short for them.
 pub enum Wrote {
@@ -16,7 +18,7 @@ pub enum Wrote {
     Short,
 }
 
-// The object of k digits and seven bodies. Nothing is written unless all of it fits, and the bytes past it stay.
+// The object of k digits, of each body the first so many words of its table. Nothing is written unless all of it fits, and the bytes past it stay.
 pub fn write(
     out: &mut [u8],
     k: u32,
@@ -28,19 +30,19 @@ pub fn write(
     code: &[u32],
     lines: &[u32],
     names: &[u32],
-    n: Counts,
+    counts: [usize; KINDS],
 ) -> Wrote
-    requires { ⌜ (100 + 4 * total n < 2 ^ 32) × Within n (now constants) (now elements) (now exits) (now dos) (now code) (now lines) (now names) ⌝ }
-    ensures { λ r. ⌜ (answer r (now (out .exit)) ≡ write (bytesOf (wordsOfBodies k cells (firstWords n (now (constants .entry)) (now (elements .entry)) (now (exits .entry)) (now (dos .entry)) (now (code .entry)) (now (lines .entry)) (now (names .entry))))) (now (out .entry))) × Low r ⌝ }
+    requires { ⌜ (startOf counts count < 2 ^ 32) × Within counts (now constants ∷ now elements ∷ now exits ∷ now dos ∷ now code ∷ now lines ∷ now names ∷ []) ⌝ }
+    ensures { λ r. ⌜ (answer r (now (out .exit)) ≡ write noRoom (bytesOf (wordsOfBodies k cells (firstWords counts (now (constants .entry) ∷ now (elements .entry) ∷ now (exits .entry) ∷ now (dos .entry) ∷ now (code .entry) ∷ now (lines .entry) ∷ now (names .entry) ∷ [])))) (now (out .entry))) × Low r ⌝ }
 {
-    let end = HEAD + 4 * contents_writer::total(n);
+    let end = contents_writer::end_of(counts);
     if out.len() < end {
         return Wrote::Short;
     }
-    let table = contents_writer::contents(k, cells, n);
-    body_writer::put_words(&mut out[0..HEAD], &table, CONTENTS);
+    let table = contents_writer::contents(k, cells, counts);
+    body_writer::put_body(out, 0, &table, CONTENTS);
     body_writer::put_bodies(
-        &mut out[HEAD..end],
+        out,
         constants,
         elements,
         exits,
@@ -48,7 +50,7 @@ pub fn write(
         code,
         lines,
         names,
-        n,
+        counts,
     );
     Wrote::Bytes(end)
 }

@@ -4,7 +4,7 @@ use Prim.Native.Nat.{ℕ, _≤_, _-_}
 use native.Mathlib.Omega.{arith}
 use lib.ListN.{length, take}
 use Rattle.rules_object.specs.Bytes.{bytesOf}
-use Rattle.body_writer.proofs.Over.{over}
+use Rattle.body_writer.specs.Bodies.{over}
 use Rattle.body_writer.proofs.Words.{over-none, over-all, word-more, length-first}
 use borrow.Author.Needs.{needs}
 use Rattle.body_writer.proofs.put_words.Statement.{statement}

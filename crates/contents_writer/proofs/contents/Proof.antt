@@ -1,144 +1,199 @@
--- `contents_writer::contents` meets its contract: its words are those of the book's contents. Assumes nothing.
+use mathlib.Core.Path.{_≡_, refl}
+use Prim.Native.Nat.{_-_}
 use native.Mathlib.Omega.{arith}
+use Rattle.bodies.specs.Edition.{count}
+use Rattle.contents_writer.proofs.Loops.{starts-within, Filled, fill-more, filled}
 use borrow.Author.Needs.{needs}
 use Rattle.contents_writer.proofs.contents.Statement.{statement}
 use Rattle.contents_writer.proofs.contents.Tie as tie
+use Rattle.contents_writer.proofs.contents.Reads as reads
+use Rattle.contents_writer.proofs.contents.Lts as lts
 
-cast-a2 : tie.Need-cast-a2
-cast-a2 c = search needs
+abbrev Inv-loop : tie.InvT-loop
+Inv-loop k cells counts table₀ at₀ kind₀ table at kind = Filled k cells counts table kind at
 
-mul-a2 : tie.Need-mul-a2
-mul-a2 c = search needs
+abbrev μ-loop : tie.MeasureT-loop
+μ-loop k cells counts table₀ at₀ kind₀ table at kind = count - kind
 
-add-a2 : tie.Need-add-a2
-add-a2 c = search needs
+-- src/lib.rt:32:5
+array-write-table : tie.Need-array-write-table Inv-loop μ-loop
+array-write-table c = search needs
 
-cast-a3 : tie.Need-cast-a3
-cast-a3 c = search needs
+-- src/lib.rt:33:5
+array-write-table-2 : tie.Need-array-write-table-2 Inv-loop μ-loop
+array-write-table-2 c = search needs
 
-mul-a3 : tie.Need-mul-a3
-mul-a3 c = search needs
+-- src/lib.rt:34:5
+array-write-table-3 : tie.Need-array-write-table-3 Inv-loop μ-loop
+array-write-table-3 c = search needs
 
-add-a3 : tie.Need-add-a3
-add-a3 c = search needs
+-- src/lib.rt:35:16
+cast-table : tie.Need-cast-table Inv-loop μ-loop
+cast-table c = search needs
 
-cast-a4 : tie.Need-cast-a4
-cast-a4 c = search needs
+-- src/lib.rt:35:5
+array-write-table-4 : tie.Need-array-write-table-4 Inv-loop μ-loop
+array-write-table-4 c = search needs
 
-mul-a4 : tie.Need-mul-a4
-mul-a4 c = search needs
+-- src/lib.rt:38:5
+loop-holds : tie.Need-loop-holds Inv-loop μ-loop
+loop-holds c =
+    record { few = omega arith; starts = refl; long = refl; is = refl }
 
-add-a4 : tie.Need-add-a4
-add-a4 c = search needs
+-- src/lib.rt:39:32
+add-table : tie.Need-add-table Inv-loop μ-loop
+add-table c = search needs
 
-cast-a5 : tie.Need-cast-a5
-cast-a5 c = search needs
+-- src/lib.rt:39:31
+cast-table-2 : tie.Need-cast-table-2 Inv-loop μ-loop
+cast-table-2 c = search needs
 
-mul-a5 : tie.Need-mul-a5
-mul-a5 c = search needs
+-- src/lib.rt:39:19
+mul-table : tie.Need-mul-table Inv-loop μ-loop
+mul-table c = search needs
 
-add-a5 : tie.Need-add-a5
-add-a5 c = search needs
+-- src/lib.rt:39:15
+add-table-2 : tie.Need-add-table-2 Inv-loop μ-loop
+add-table-2 c = search needs
 
-cast-a6 : tie.Need-cast-a6
-cast-a6 c = search needs
+-- src/lib.rt:39:9
+mul-table-2 : tie.Need-mul-table-2 Inv-loop μ-loop
+mul-table-2 c = search needs
 
-mul-a6 : tie.Need-mul-a6
-mul-a6 c = search needs
+-- src/lib.rt:39:9
+array-write-table-5 : tie.Need-array-write-table-5 Inv-loop μ-loop
+array-write-table-5 c =
+    omega (arith, c .loop-test .taken)
 
-add-a6 : tie.Need-add-a6
-add-a6 c = search needs
+-- src/lib.rt:40:31
+cast-table-3 : tie.Need-cast-table-3 Inv-loop μ-loop
+cast-table-3 c =
+    omega (arith, starts-within (c .before .before .args .t3) (c .before .loop .kind) (c .loop-test .taken), c .before .loop .inv .starts, c .before .before .pre)
 
-cast-a7 : tie.Need-cast-a7
-cast-a7 c = search needs
+-- src/lib.rt:40:19
+mul-table-3 : tie.Need-mul-table-3 Inv-loop μ-loop
+mul-table-3 c = search needs
 
-mul-a7 : tie.Need-mul-a7
-mul-a7 c = search needs
+-- src/lib.rt:40:15
+add-table-3 : tie.Need-add-table-3 Inv-loop μ-loop
+add-table-3 c = search needs
 
-add-a7 : tie.Need-add-a7
-add-a7 c = search needs
+-- src/lib.rt:40:9
+mul-table-4 : tie.Need-mul-table-4 Inv-loop μ-loop
+mul-table-4 c = search needs
 
-cast-t10 : tie.Need-cast-t10
-cast-t10 c = search needs
+-- src/lib.rt:40:9
+array-write-table-6 : tie.Need-array-write-table-6 Inv-loop μ-loop
+array-write-table-6 c =
+    omega (arith, c .loop-test .taken)
 
-mul-t11 : tie.Need-mul-t11
-mul-t11 c = search needs
+-- src/lib.rt:41:36
+mul-table-5 : tie.Need-mul-table-5 Inv-loop μ-loop
+mul-table-5 c = search needs
 
-cast-t12 : tie.Need-cast-t12
-cast-t12 c = search needs
+-- src/lib.rt:41:36
+array-read-table : tie.Need-array-read-table Inv-loop μ-loop
+array-read-table c = search needs
 
-mul-t13 : tie.Need-mul-t13
-mul-t13 c = search needs
+-- src/lib.rt:41:32
+mul-table-6 : tie.Need-mul-table-6 Inv-loop μ-loop
+mul-table-6 c =
+    omega (arith, starts-within (c .before .before .args .t3) (c .before .loop .kind) (c .loop-test .taken), c .before .loop .inv .starts, c .before .before .pre)
 
-cast-t14 : tie.Need-cast-t14
-cast-t14 c = search needs
+-- src/lib.rt:41:31
+cast-table-4 : tie.Need-cast-table-4 Inv-loop μ-loop
+cast-table-4 c =
+    omega (arith, starts-within (c .before .before .args .t3) (c .before .loop .kind) (c .loop-test .taken), c .before .loop .inv .starts, c .before .before .pre)
 
-mul-t15 : tie.Need-mul-t15
-mul-t15 c = search needs
+-- src/lib.rt:41:19
+mul-table-7 : tie.Need-mul-table-7 Inv-loop μ-loop
+mul-table-7 c = search needs
 
-cast-t16 : tie.Need-cast-t16
-cast-t16 c = search needs
+-- src/lib.rt:41:15
+add-table-4 : tie.Need-add-table-4 Inv-loop μ-loop
+add-table-4 c = search needs
 
-mul-t17 : tie.Need-mul-t17
-mul-t17 c = search needs
+-- src/lib.rt:41:9
+mul-table-8 : tie.Need-mul-table-8 Inv-loop μ-loop
+mul-table-8 c = search needs
 
-cast-t18 : tie.Need-cast-t18
-cast-t18 c = search needs
+-- src/lib.rt:41:9
+array-write-table-7 : tie.Need-array-write-table-7 Inv-loop μ-loop
+array-write-table-7 c =
+    omega (arith, c .loop-test .taken)
 
-mul-t19 : tie.Need-mul-t19
-mul-t19 c = search needs
+-- src/lib.rt:42:19
+mul-at : tie.Need-mul-at Inv-loop μ-loop
+mul-at c = search needs
 
-cast-t20 : tie.Need-cast-t20
-cast-t20 c = search needs
+-- src/lib.rt:42:19
+array-read-at : tie.Need-array-read-at Inv-loop μ-loop
+array-read-at c = search needs
 
-mul-t21 : tie.Need-mul-t21
-mul-t21 c = search needs
+-- src/lib.rt:42:15
+mul-at-2 : tie.Need-mul-at-2 Inv-loop μ-loop
+mul-at-2 c =
+    omega (arith, starts-within (c .before .before .args .t3) (c .before .loop .kind) (c .loop-test .taken), c .before .loop .inv .starts, c .before .before .pre)
 
-cast-t22 : tie.Need-cast-t22
-cast-t22 c =
-    omega (arith, c .before .before .before .before .before .before .before .before .before .before .before .before .before .pre)
+-- src/lib.rt:42:9
+add-at : tie.Need-add-at Inv-loop μ-loop
+add-at c =
+    omega (arith, starts-within (c .before .before .args .t3) (c .before .loop .kind) (c .loop-test .taken), c .before .loop .inv .starts, c .before .before .pre)
 
-mul-t23 : tie.Need-mul-t23
-mul-t23 c =
-    omega (arith, c .before .before .before .before .before .before .before .before .before .before .before .before .before .pre)
+-- src/lib.rt:43:9
+add-kind : tie.Need-add-kind Inv-loop μ-loop
+add-kind c = search needs
 
-returns : tie.Need-returns
-returns c = search needs
+-- src/lib.rt:38:5
+loop-less : tie.Need-loop-less Inv-loop μ-loop
+loop-less c = search needs
+
+-- src/lib.rt:38:5
+loop-again : tie.Need-loop-again Inv-loop μ-loop
+loop-again c =
+    fill-more (c .before .loop .kind) _ _ _ _ _ _ (c .loop-test .taken) (c .before .loop .inv) refl refl refl refl refl refl
+
+-- src/lib.rt:27:1
+returns : tie.Need-returns Inv-loop μ-loop
+returns c =
+    filled (c .before .loop .inv) (c .loop-test .left)
 
 pub contents-spec : {M : Type 1} → statement M
 contents-spec =
     tie.close
     (tie.spec
-    cast-a2
-    mul-a2
-    add-a2
-    cast-a3
-    mul-a3
-    add-a3
-    cast-a4
-    mul-a4
-    add-a4
-    cast-a5
-    mul-a5
-    add-a5
-    cast-a6
-    mul-a6
-    add-a6
-    cast-a7
-    mul-a7
-    add-a7
-    cast-t10
-    mul-t11
-    cast-t12
-    mul-t13
-    cast-t14
-    mul-t15
-    cast-t16
-    mul-t17
-    cast-t18
-    mul-t19
-    cast-t20
-    mul-t21
-    cast-t22
-    mul-t23
+    Inv-loop
+    μ-loop
+    array-write-table
+    array-write-table-2
+    array-write-table-3
+    cast-table
+    array-write-table-4
+    loop-holds
+    add-table
+    cast-table-2
+    mul-table
+    add-table-2
+    mul-table-2
+    array-write-table-5
+    cast-table-3
+    mul-table-3
+    add-table-3
+    mul-table-4
+    array-write-table-6
+    mul-table-5
+    array-read-table
+    mul-table-6
+    cast-table-4
+    mul-table-7
+    add-table-4
+    mul-table-8
+    array-write-table-7
+    mul-at
+    array-read-at
+    mul-at-2
+    add-at
+    add-kind
+    loop-less
+    loop-again
     returns)

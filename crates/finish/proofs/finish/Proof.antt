@@ -3,6 +3,7 @@ use mathlib.Core.Path.{sym, ap, _∙_}
 use mathlib.Core.List.{List}
 use Prim.Native.Nat.{ℕ}
 use native.Mathlib.Omega.{arith}
+use Rattle.rules_shared.specs.Refusals.{noRoom}
 use Rattle.rules_shared.specs.Output.{write}
 use Rattle.finish.proofs.Bodies.{bytes-are, judged, settling, leading, listing, fits}
 use borrow.Author.Needs.{needs}
@@ -145,7 +146,7 @@ returns c =
     let st = c .before .before .before .before .before .before .before .before .before .before .before .before .before .before .before .before .before .before .before .before .before .before .before .before .before .before .before .before .before .before .before .before .before .before .before .before .before .before .before .before .before .before .before .before .before in (
       λ d f.
           let S = (c .before .before .before .before .before .before .before .before .before .before .before .before .before .before .before .before .before .before .before .before .before .before .before .before .before .before .before .before .before .before .before .before .before .before .addresses .ensures _ d (judged f)) in
-          c .before .before .write .ensures .0 ∙ ap (λ (b : List ℕ). write b (st .args .output .now)) (bytes-are f _ _ (c .before .before .before .before .before .before .before .before .before .before .before .before .before .before .before .before .before .before .before .before .before .before .before .before .before .before .exits2 .ensures _ d (leading f S)) (c .before .before .before .before .before .before .before .before .before .before .before .before .before .before .before .before .before .before .before .before .before .before .before .before .before .before .before .before .before .before .code .ensures _ d (settling f S)) (c .before .before .before .before .before .before .before .before .before .before .before .before .before .before .before .before .before .before .before .before .before .before .bodies .ensures _ d (judged f .in-loops) S (f .kept .dos-are)) (c .before .before .before .before .before .before .before .before .before .before .before .before .before .before .before .before .before .lines .ensures _ d (judged f .in-rows) S) (c .before .before .before .before .before .before .before .before .before .before .before .before .before .before .names .ensures _ d (listing f))),
+          c .before .before .write .ensures .0 ∙ ap (λ (b : List ℕ). write noRoom b (st .args .output .now)) (bytes-are f _ _ (c .before .before .before .before .before .before .before .before .before .before .before .before .before .before .before .before .before .before .before .before .before .before .before .before .before .before .exits2 .ensures _ d (leading f S)) (c .before .before .before .before .before .before .before .before .before .before .before .before .before .before .before .before .before .before .before .before .before .before .before .before .before .before .before .before .before .before .code .ensures _ d (settling f S)) (c .before .before .before .before .before .before .before .before .before .before .before .before .before .before .before .before .before .before .before .before .before .before .bodies .ensures _ d (judged f .in-loops) S (f .kept .dos-are)) (c .before .before .before .before .before .before .before .before .before .before .before .before .before .before .before .before .before .lines .ensures _ d (judged f .in-rows) S) (c .before .before .before .before .before .before .before .before .before .before .before .before .before .before .names .ensures _ d (listing f))),
       c .before .before .write .ensures .1,
     )
 

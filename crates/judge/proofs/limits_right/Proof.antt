@@ -1,14 +1,14 @@
 -- `judge::limits_right` meets its contract. Assumes nothing.
-use Rattle.rules_object.specs.Check.{right41}
-use Rattle.object.specs.Layout.{objectAt}
-use Rattle.object.proofs.Lists.{length-from}
+use borrow.Author.Needs.{needs}
+use Rattle.judge.proofs.Tables.{limits-are}
 use Rattle.judge.proofs.limits_right.Statement.{statement}
 use Rattle.judge.proofs.limits_right.Tie as tie
 
+tables-right-requires : tie.Need-tables-right-requires
+tables-right-requires c κs = search needs
+
 returns : tie.Need-returns
-unfolding right41 objectAt
-returns c =
-    λ s. simp length-from
+returns c = λ s. limits-are (c .before .before .before .before .args .e) s (c .tables-right .result) (c .tables-right .ensures)
 
 pub limits-right-spec : {M : Type 1} → statement M
-limits-right-spec = tie.close (tie.spec returns)
+limits-right-spec = tie.close (tie.spec tables-right-requires returns)

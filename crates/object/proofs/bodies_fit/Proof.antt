@@ -7,34 +7,35 @@ use lib.Dec.{eqb}
 use native.Mathlib.Omega.{arith}
 use borrow.Author.Tests.{not-true, not-false, eqb-true, eqb-false}
 use lib.ListN.{length}
+use Rattle.bodies.specs.Edition.{count, head}
 use Rattle.object.specs.Bodies.{AllFit}
 use Rattle.object.proofs.Bodies.{Words, Going, fit, begins, goes, stops, past, ends}
 use borrow.Author.Needs.{needs}
 use Rattle.object.proofs.bodies_fit.Statement.{statement}
 use Rattle.object.proofs.bodies_fit.Tie as tie
 
-words-of : (s : List ℕ) → (100 ≤ length s) × (length s % 4 ≡ 0) → Words s
+words-of : (s : List ℕ) → (head ≤ length s) × (length s % 4 ≡ 0) → Words s
 words-of s h = record { long = h .0; four = h .1 }
 
 -- all kinds are passed: nothing is left over, or something is
-all-fit : (s : List ℕ) (at k : ℕ) → Words s → Going s k at → 7 ≤ k → AllFit s (eqb at (length s))
+all-fit : (s : List ℕ) (at k : ℕ) → Words s → Going s k at → count ≤ k → AllFit s (eqb at (length s))
 all-fit s at k w g h = go (eqb at (length s)) refl
   where
-    seven : k ≡ 7
-    seven = omega (arith, g .few)
+    last : k ≡ count
+    last = omega (arith, g .few)
 
-    g7 : Going s 7 at
-    g7 = subst (λ n. Going s n at) seven g
+    whole : Going s count at
+    whole = subst (λ n. Going s n at) last g
 
     go : (t : Bool) → eqb at (length s) ≡ t → AllFit s t
-    go true e = ends s at w g7 (eqb-true at (length s) e)
-    go false e = past s at w g7 (eqb-false at (length s) e)
+    go true e = ends s at w whole (eqb-true at (length s) e)
+    go false e = past s at w whole (eqb-false at (length s) e)
 
 abbrev Inv-loop : tie.InvT-loop
 Inv-loop o at₀ kind₀ at kind = Going o kind at
 
 abbrev μ-loop : tie.MeasureT-loop
-μ-loop o at₀ kind₀ at kind = 7 - kind
+μ-loop o at₀ kind₀ at kind = count - kind
 
 loop-holds : tie.Need-loop-holds Inv-loop μ-loop
 loop-holds c =

@@ -5,6 +5,7 @@ use native.Mathlib.Omega.{arith}
 use borrow.Author.Tests.{not-true, not-false, eqb-true, eqb-false}
 use lib.Dec.{eqb}
 use lib.ListN.{length, getD}
+use Rattle.bodies.specs.Edition.{count, head}
 use Rattle.object.specs.Opened.{OpenedAt}
 use Rattle.object.specs.Bodies.{AllFit}
 use Rattle.object.proofs.Bodies.{Words}
@@ -31,15 +32,15 @@ index-requires c κs = search needs
 returns-2 : tie.Need-returns-2
 returns-2 c =
     let s = c .before .before .before .before .before .args .o .now in
-    let long : 100 ≤ length s = c .before .before .before .if1 .left in
+    let long : head ≤ length s = c .before .before .before .if1 .left in
     let four : length s % 4 ≡ 0 = eqb-true (length s % 4) 0 (not-false (eqb (length s % 4) 0) (c .before .before .if2 .left)) in
     let words : Words s = record { long = long; four = four } in
-    either (c .if3 .came) (λ t. other-edition s words (λ e. t .taken (c .before .load .ensures ∙ e))) (λ p. other-count s words (λ e. eqb-false (p .2 .result) 7 (not-true (eqb (p .2 .result) 7) (p .3 .taken)) (p .2 .ensures ∙ p .1 .ensures ∙ e)))
+    either (c .if3 .came) (λ t. other-edition s words (λ e. t .taken (c .before .load .ensures ∙ e))) (λ p. other-count s words (sym (c .before .load .ensures) ∙ p .0 .left) (λ e. eqb-false (p .2 .result) count (not-true (eqb (p .2 .result) count) (p .3 .taken)) (p .2 .ensures ∙ p .1 .ensures ∙ e)))
 
 bodies-fit-requires : tie.Need-bodies-fit-requires
 bodies-fit-requires c κs =
     let s = c .before .before .before .before .before .before .before .before .args .o .now in
-    let long : 100 ≤ length s = c .before .before .before .before .before .before .if1 .left in
+    let long : head ≤ length s = c .before .before .before .before .before .before .if1 .left in
     let four : length s % 4 ≡ 0 = eqb-true (length s % 4) 0 (not-false (eqb (length s % 4) 0) (c .before .before .before .before .before .if2 .left)) in
     (long, four)
 
@@ -49,10 +50,10 @@ count-of-requires c κs = search needs
 returns-3 : tie.Need-returns-3
 returns-3 c =
     let s = c .before .before .before .before .before .before .before .before .before .before .args .o .now in
-    let long : 100 ≤ length s = c .before .before .before .before .before .before .before .before .if1 .left in
+    let long : head ≤ length s = c .before .before .before .before .before .before .before .before .if1 .left in
     let four : length s % 4 ≡ 0 = eqb-true (length s % 4) 0 (not-false (eqb (length s % 4) 0) (c .before .before .before .before .before .before .before .if2 .left)) in
     let words : Words s = record { long = long; four = four } in
-    let begun : Begun s = record { words = words; edition = sym (c .before .before .before .before .before .before .load .ensures) ∙ c .before .before .before .before .before .if3 .left; kinds = sym (c .before .before .before .before .load2 .ensures) ∙ sym (c .before .before .before .index .ensures) ∙ eqb-true (c .before .before .before .index .result) 7 (not-false (eqb (c .before .before .before .index .result) 7) (c .before .before .if4 .left)) } in
+    let begun : Begun s = record { words = words; edition = sym (c .before .before .before .before .before .before .load .ensures) ∙ c .before .before .before .before .before .if3 .left; kinds = sym (c .before .before .before .before .load2 .ensures) ∙ sym (c .before .before .before .index .ensures) ∙ eqb-true (c .before .before .before .index .result) count (not-false (eqb (c .before .before .before .index .result) count) (c .before .before .if4 .left)) } in
     let fits : AllFit s (c .before .bodies-fit .result) = c .before .bodies-fit .ensures in
     either (c .if5 .came) (λ t. misfit s begun (subst (AllFit s) (not-true (c .before .bodies-fit .result) (t .taken)) fits)) (λ p. no-code s begun (subst (AllFit s) (not-false (c .before .bodies-fit .result) (p .0 .left)) fits) (sym (p .1 .ensures) ∙ eqb-true (p .1 .result) 0 (p .2 .taken)))
 
@@ -63,10 +64,10 @@ returns-4 : tie.Need-returns-4
 returns-4 c =
     let s = c .before .before .before .before .before .before .before .before .before .before .before .before .before .args .o .now in
     let bytes : (i : ℕ) → getD s i 0 < 256 = λ i. omega (arith, c .before .before .before .before .before .before .before .before .before .before .before .before .shared-slice-known .given i) in
-    let long : 100 ≤ length s = c .before .before .before .before .before .before .before .before .before .before .before .if1 .left in
+    let long : head ≤ length s = c .before .before .before .before .before .before .before .before .before .before .before .if1 .left in
     let four : length s % 4 ≡ 0 = eqb-true (length s % 4) 0 (not-false (eqb (length s % 4) 0) (c .before .before .before .before .before .before .before .before .before .before .if2 .left)) in
     let words : Words s = record { long = long; four = four } in
-    let begun : Begun s = record { words = words; edition = sym (c .before .before .before .before .before .before .before .before .before .load .ensures) ∙ c .before .before .before .before .before .before .before .before .if3 .left; kinds = sym (c .before .before .before .before .before .before .before .load2 .ensures) ∙ sym (c .before .before .before .before .before .before .index .ensures) ∙ eqb-true (c .before .before .before .before .before .before .index .result) 7 (not-false (eqb (c .before .before .before .before .before .before .index .result) 7) (c .before .before .before .before .before .if4 .left)) } in
+    let begun : Begun s = record { words = words; edition = sym (c .before .before .before .before .before .before .before .before .before .load .ensures) ∙ c .before .before .before .before .before .before .before .before .if3 .left; kinds = sym (c .before .before .before .before .before .before .before .load2 .ensures) ∙ sym (c .before .before .before .before .before .before .index .ensures) ∙ eqb-true (c .before .before .before .before .before .before .index .result) count (not-false (eqb (c .before .before .before .before .before .before .index .result) count) (c .before .before .before .before .before .if4 .left)) } in
     let fits : AllFit s (c .before .before .before .before .bodies-fit .result) = c .before .before .before .before .bodies-fit .ensures in
     subst (OpenedAt s) (sym (c .layout-of .ensures)) (opens s bytes begun (subst (AllFit s) (not-false (c .before .before .before .before .bodies-fit .result) (c .before .before .before .if5 .left)) fits) (λ e. eqb-false (c .before .before .count-of .result) 0 (c .before .if6 .left) (c .before .before .count-of .ensures ∙ e)))
 

@@ -1,22 +1,21 @@
--- `object::size_of` meets its contract: the table is the book's. Assumes nothing.
-use mathlib.Core.Path.{refl}
+-- `object::size_of` meets its contract. Assumes nothing.
+use Prim.Native.Nat.{ℕ, _*_}
+use mathlib.Core.Path.{ap}
 use native.Mathlib.Omega.{arith}
 use Rattle.object.proofs.Sizes.{sized}
 use borrow.Author.Needs.{needs}
 use Rattle.object.proofs.size_of.Statement.{statement}
 use Rattle.object.proofs.size_of.Tie as tie
 
+entry-words-requires : tie.Need-entry-words-requires
+entry-words-requires c κs = search needs
+
 mul-result : tie.Need-mul-result
-mul-result c = search needs
-
-array-read-result : tie.Need-array-read-result
-array-read-result c = search needs
-
-mul-result-2 : tie.Need-mul-result-2
-mul-result-2 c = omega (arith, sized (c .args .kind) (c .pre) .few)
+mul-result c = omega (arith, sized (c .before .args .kind) (c .before .pre) .few, c .entry-words .ensures)
 
 returns : tie.Need-returns
-returns c = (refl, omega (arith, sized (c .args .kind) (c .pre) .some))
+returns c =
+    (ap (λ (z : ℕ). 4 * z) (c .entry-words .ensures), omega (arith, sized (c .before .args .kind) (c .before .pre) .some, c .entry-words .ensures))
 
 pub size-of-spec : {M : Type 1} → statement M
-size-of-spec = tie.close (tie.spec mul-result array-read-result mul-result-2 returns)
+size-of-spec = tie.close (tie.spec entry-words-requires mul-result returns)
