@@ -31,7 +31,7 @@ use Rattle.judge_cards.specs.Judging.{judgedOf}
 use Rattle.draft.specs.declared.Counts.{Counts}
 use Rattle.draft.specs.Names.{Told}
 use Rattle.draft.specs.Draft.{draftOf}
-use Rattle.draft.specs.Kept.{Room, Fit, Kept}
+use Rattle.draft.specs.Kept.{Words, Room, Fit, Kept}
 use Rattle.draft.specs.Sketch.{deckJumps}
 use Rattle.draft.proofs.DraftDeck.{draft-held, draft-jumps}
 use Rattle.draft.proofs.DeckKept.{kept-deck}
@@ -75,7 +75,7 @@ sets-told deck h =
 
 -- ---- the deck as a whole
 
-module _ {k : ℕ} {deck : List Statement} {n : Counts} {names constants elements dos loops code rows jumps : List ℕ} (h : Holds k deck n names constants elements dos loops code rows jumps) where
+module _ {k : ℕ} {deck : List Statement} {n : Counts} {lent : Words} (h : Holds k deck n lent) where
   pub told : Each SetsTold deck
   told = sets-told deck (subst (λ l. Each Told (namesHeld l)) (draft-held deck) (h .kept .held .told))
 
@@ -114,13 +114,13 @@ module _ {k : ℕ} {deck : List Statement} {n : Counts} {names constants element
       inside deck (r .places) (j .placed (right r j e)) (n .jumps) jumps-many jumps-few (omega arith)
 
   pub finished : {after : List ℕ} (r : Placed) → whole.Judged deck r → r .verdict ≡ verdict.Right → Positioned (r .places) (n .jumps) after
-      → Finished k deck n names constants elements dos loops code rows after
+      → Finished k deck n (lent .names) (lent .constants) (lent .elements) (lent .dos) (lent .loops) (lent .code) (lent .rows) after
   finished {after} r j e p =
       let o = right r j e in
       let a = accepted-deck o in
       record {
         accepted = a;
-        numbers = jumps;
+        numbers = lent .jumps;
         kept = kept-deck a (h .kept);
         placed = positions deck (r .places) (j .placed o) (n .jumps) jumps-many jumps-few after p;
         counted = h .counted;
@@ -158,30 +158,30 @@ module _ (k : ℕ) (bytes : List ℕ) (ps : List Punched) (cards : carded (house
   statements-read : readCarded (house1401 k) (carded (house1401 k) bytes) ≡ readFrom (house1401 k) 0 nothingTaken ps
   statements-read = ap (readCarded (house1401 k)) cards
 
-  pub statements-refused : {names constants elements dos loops code rows jumps : List ℕ} {number : ℕ} {place : Sequence} (output : List ℕ) (d : Drafted) → Drafts (readFrom (house1401 k) 0 nothingTaken ps) names constants elements dos loops code rows jumps d
+  pub statements-refused : {lent : Words} {number : ℕ} {place : Sequence} (output : List ℕ) (d : Drafted) → Drafts (readFrom (house1401 k) 0 nothingTaken ps) lent d
       → d ≡ drafted.Refused number place → answer (Refused number (place .0)) output ≡ compiling (house1401 k) bytes output
   unfolding compiling deckOf
-  statements-refused {names} {constants} {elements} {dos} {loops} {code} {rows} {jumps} {number} {place} output d h e =
-      sym (ap (λ (r : Read). writeRead (house1401 k) output (judgeRead r)) (statements-read ∙ refuses (subst (Drafts (readFrom (house1401 k) 0 nothingTaken ps) names constants elements dos loops code rows jumps) e h)))
+  statements-refused {lent} {number} {place} output d h e =
+      sym (ap (λ (r : Read). writeRead (house1401 k) output (judgeRead r)) (statements-read ∙ refuses (subst (Drafts (readFrom (house1401 k) 0 nothingTaken ps) lent) e h)))
     where
-      refuses : Drafts (readFrom (house1401 k) 0 nothingTaken ps) names constants elements dos loops code rows jumps (drafted.Refused number place) → readFrom (house1401 k) 0 nothingTaken ps ≡ notRead (refusal number (place .0) 0)
+      refuses : Drafts (readFrom (house1401 k) 0 nothingTaken ps) lent (drafted.Refused number place) → readFrom (house1401 k) 0 nothingTaken ps ≡ notRead (refusal number (place .0) 0)
       refuses (refused number place e) = e
 
   -- the deck that the tables hold
-  pub record Kept-deck (names constants elements dos loops code rows jumps : List ℕ) (n : Counts) : Type 0 where
+  pub record Kept-deck (lent : Words) (n : Counts) : Type 0 where
     pub deck : List Statement
     pub is : readFrom (house1401 k) 0 nothingTaken ps ≡ read deck
     pub counted : n .statements ≡ length deck
     pub fit : Fit n
-    pub kept : Kept (draftOf deck) names constants elements dos loops code rows jumps n
+    pub kept : Kept (draftOf deck) lent n
 
-  pub statements-kept : {names constants elements dos loops code rows jumps : List ℕ} {n : Counts} (d : Drafted) → Drafts (readFrom (house1401 k) 0 nothingTaken ps) names constants elements dos loops code rows jumps d → d ≡ drafted.Kept n → Kept-deck names constants elements dos loops code rows jumps n
-  statements-kept {names} {constants} {elements} {dos} {loops} {code} {rows} {jumps} {n} d h e = keeps (subst (Drafts (readFrom (house1401 k) 0 nothingTaken ps) names constants elements dos loops code rows jumps) e h)
+  pub statements-kept : {lent : Words} {n : Counts} (d : Drafted) → Drafts (readFrom (house1401 k) 0 nothingTaken ps) lent d → d ≡ drafted.Kept n → Kept-deck lent n
+  statements-kept {lent} {n} d h e = keeps (subst (Drafts (readFrom (house1401 k) 0 nothingTaken ps) lent) e h)
     where
-      keeps : Drafts (readFrom (house1401 k) 0 nothingTaken ps) names constants elements dos loops code rows jumps (drafted.Kept n) → Kept-deck names constants elements dos loops code rows jumps n
+      keeps : Drafts (readFrom (house1401 k) 0 nothingTaken ps) lent (drafted.Kept n) → Kept-deck lent n
       keeps (kept deck n o c f κ) = record { deck = deck; is = o; counted = c; fit = f; kept = κ }
 
-  pub holds : {names constants elements dos loops code rows jumps : List ℕ} {n : Counts} (d : Kept-deck names constants elements dos loops code rows jumps n) → Room names constants elements dos loops code rows jumps → Holds k (d .deck) n names constants elements dos loops code rows jumps
+  pub holds : {lent : Words} {n : Counts} (d : Kept-deck lent n) → Room lent → Holds k (d .deck) n lent
   holds d room = record { bytes = bytes; is = statements-read ∙ d .is; counted = d .counted; kept = d .kept; room = room; fit = d .fit }
 
   pub compiled : (deck : List Statement) (output : List ℕ) → readFrom (house1401 k) 0 nothingTaken ps ≡ read deck → writeRead (house1401 k) output (judgeRead (read deck)) ≡ compiling (house1401 k) bytes output

@@ -12,7 +12,7 @@ use Rattle.rules_deck.specs.Cards.{Punched, statements, carded}
 use Rattle.rules_deck.specs.Compile.{read, readCarded}
 use Rattle.draft.specs.declared.Counts.{Counts}
 use Rattle.draft.specs.Draft.{draftOf}
-use Rattle.draft.specs.Kept.{Room, Fit, Kept}
+use Rattle.draft.specs.Kept.{Words, Room, Fit, Kept}
 use Rattle.compiler.specs.declared.Compiled.{Compiled}
 use Rattle.compiler.specs.declared.Compiled.the-variants.{Refused, Object, Short}
 
@@ -28,14 +28,14 @@ pub record Punches (k : ℕ) (bytes : List ℕ) : Type 0 where
   pub are : carded (house1401 k) bytes ≡ statements punched
 
 -- the tables hold a deck whose statements are right
-pub record Holds (k : ℕ) (deck : List Statement) (n : Counts) (names constants elements dos loops code rows jumps : List ℕ) : Type 0 where
+pub record Holds (k : ℕ) (deck : List Statement) (n : Counts) (lent : Words) : Type 0 where
   pub bytes : List ℕ
   pub is : readCarded (house1401 k) (carded (house1401 k) bytes) ≡ read deck
   pub counted : n .statements ≡ length deck
-  pub kept : Kept (draftOf deck) names constants elements dos loops code rows jumps n
-  pub room : Room names constants elements dos loops code rows jumps
+  pub kept : Kept (draftOf deck) lent n
+  pub room : Room lent
   pub fit : Fit n
 
-pub record HoldsOne (k : ℕ) (n : Counts) (names constants elements dos loops code rows jumps : List ℕ) : Type 0 where
+pub record HoldsOne (k : ℕ) (n : Counts) (lent : Words) : Type 0 where
   pub deck : List Statement
-  pub held : Holds k deck n names constants elements dos loops code rows jumps
+  pub held : Holds k deck n lent

@@ -5,6 +5,7 @@ ghost use mathlib.Core.List.{List};
 ghost use Rattle.rules_shared.specs.House.{house1401};
 ghost use Rattle.rules_deck.specs.Trees.{Statement};
 ghost use Rattle.rules_deck.specs.Compile.{read, judgeRead, writeRead, compiling};
+ghost use Rattle.draft.specs.Kept.{asWords};
 ghost use Rattle.compiler.specs.Compiled.{answer, Punches, Holds, HoldsOne};
 use draft::Counts;
 use drafting::Drafted;
@@ -34,8 +35,8 @@ fn judge_whole(
     jumps: &[u32],
     output: &mut [u8],
 ) -> Compiled
-    requires { ⌜ HoldsOne k n (now names) (now constants) (now elements) (now dos) (now loops) (now code) (now rows) (now jumps) ⌝ }
-    ensures { λ r. ⌜ ((deck : List Statement) → Holds k deck n (now (names .entry)) (now (constants .entry)) (now (elements .entry)) (now (dos .entry)) (now (loops .entry)) (now (code .entry)) (now (rows .entry)) (now (jumps .entry)) → answer r (now (output .exit)) ≡ writeRead (house1401 k) (now (output .entry)) (judgeRead (read deck))) ⌝ }
+    requires { ⌜ HoldsOne k n (asWords (now names) (now constants) (now elements) (now dos) (now loops) (now code) (now rows) (now jumps)) ⌝ }
+    ensures { λ r. ⌜ ((deck : List Statement) → Holds k deck n (asWords (now (names .entry)) (now (constants .entry)) (now (elements .entry)) (now (dos .entry)) (now (loops .entry)) (now (code .entry)) (now (rows .entry)) (now (jumps .entry))) → answer r (now (output .exit)) ≡ writeRead (house1401 k) (now (output .entry)) (judgeRead (read deck))) ⌝ }
 {
     let judged = whole::judge(rows, n.statements, loops, n.dos, jumps, n.jumps);
     let verdict = judged.verdict;

@@ -17,7 +17,7 @@ use Rattle.draft.specs.declared.Counts.{Counts}
 use Rattle.draft.specs.Names.{heldWords}
 use Rattle.draft.specs.Draft.{draftOf}
 use Rattle.draft.specs.Sketch.{plainCode, openEntry}
-use Rattle.draft.specs.Kept.{Kept}
+use Rattle.draft.specs.Kept.{Words, Kept}
 use Rattle.draft.specs.KeptDeck.{KeptDeck}
 use Rattle.draft.proofs.Matching.{emit-length, matches-deck}
 use Rattle.draft.proofs.DraftDeck.{draft-held, draft-rows, draft-jumps, draft-loops}
@@ -42,8 +42,8 @@ final-exits house deck = sym (exits-from deck 0 deck noTables nothingTaken refl 
 
 -- ---- the tables
 
-pub kept-deck : {house : House} {deck : List Statement} {names constants elements dos loops code rows jumps : List ℕ} {n : Counts} → Accepted house deck
-    → Kept (draftOf deck) names constants elements dos loops code rows jumps n → KeptDeck house deck names constants elements dos loops code rows jumps n
+pub kept-deck : {house : House} {deck : List Statement} {lent : Words} {n : Counts} → Accepted house deck
+    → Kept (draftOf deck) lent n → KeptDeck house deck lent n
 kept-deck {house} {deck} accepted w =
     let c = final-constants house deck in
     let e = final-elements accepted in

@@ -34,7 +34,7 @@ firstWord (v ∷ vs) = nameWord v
 abbrev pub setWord : Form → ℕ
 setWord f = firstWord (formSets f)
 
--- the numbers that it jumps to, or a DO's last
+-- the numbers that it jumps to, or a DO's last: what a number is for is told by the row's kind, and not beside it
 abbrev pub jumpWords : Form → List ℕ
 jumpWords f = map valueOf (formNumbers f)
 

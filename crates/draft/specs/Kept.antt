@@ -39,27 +39,42 @@ pub record Fit (n : Counts) : Type 0 where
   pub statements : n .statements ≤ limits .statements
   pub jumps : n .jumps ≤ n .statements + n .exits
 
--- the lengths of the tables that are lent
-pub record Room (names constants elements dos loops code rows jumps : List ℕ) : Type 0 where
-  pub names-long : length names ≡ 400
-  pub constants-long : length constants ≡ 256
-  pub elements-long : length elements ≡ 2304
-  pub dos-long : length dos ≡ 256
-  pub loops-long : length loops ≡ 128
-  pub code-long : length code ≡ 4096
-  pub rows-long : length rows ≡ 2000
-  pub jumps-long : length jumps ≡ 1424
+-- the words of the tables that are lent
+pub record Words : Type 0 where
+  pub names : List ℕ
+  pub constants : List ℕ
+  pub elements : List ℕ
+  pub dos : List ℕ
+  pub loops : List ℕ
+  pub code : List ℕ
+  pub rows : List ℕ
+  pub jumps : List ℕ
 
-pub record Kept (D : Draft) (names constants elements dos loops code rows jumps : List ℕ) (n : Counts) : Type 0 where
-  pub held : Lists (D .held) names (n .names) (n .cells)
-  pub tables : Tabled (D .tables) constants elements n
-  pub dos-are : take (4 * n .dos) dos ≡ concat (map loopWords (D .dos))
+abbrev pub asWords : (names constants elements dos loops code rows jumps : List ℕ) → Words
+asWords names constants elements dos loops code rows jumps =
+    record { names = names; constants = constants; elements = elements; dos = dos; loops = loops; code = code; rows = rows; jumps = jumps }
+
+-- how long they are
+pub record Room (lent : Words) : Type 0 where
+  pub names-long : length (lent .names) ≡ 400
+  pub constants-long : length (lent .constants) ≡ 256
+  pub elements-long : length (lent .elements) ≡ 2304
+  pub dos-long : length (lent .dos) ≡ 256
+  pub loops-long : length (lent .loops) ≡ 128
+  pub code-long : length (lent .code) ≡ 4096
+  pub rows-long : length (lent .rows) ≡ 2000
+  pub jumps-long : length (lent .jumps) ≡ 1424
+
+pub record Kept (D : Draft) (lent : Words) (n : Counts) : Type 0 where
+  pub held : Lists (D .held) (lent .names) (n .names) (n .cells)
+  pub tables : Tabled (D .tables) (lent .constants) (lent .elements) n
+  pub dos-are : take (4 * n .dos) (lent .dos) ≡ concat (map loopWords (D .dos))
   pub dos-count : n .dos ≡ length (D .dos)
-  pub loops-are : take (2 * n .dos) loops ≡ D .loops
-  pub code-is : take (n .code) code ≡ D .code
+  pub loops-are : take (2 * n .dos) (lent .loops) ≡ D .loops
+  pub code-is : take (n .code) (lent .code) ≡ D .code
   pub code-count : n .code ≡ length (D .code)
-  pub rows-are : take (5 * n .statements) rows ≡ D .rows
-  pub jumps-are : take (n .jumps) jumps ≡ D .jumps
+  pub rows-are : take (5 * n .statements) (lent .rows) ≡ D .rows
+  pub jumps-are : take (n .jumps) (lent .jumps) ≡ D .jumps
   pub jumps-count : n .jumps ≡ length (D .jumps)
 
 -- what 18 is judged by is what the draft has; each DO's DOE is counted

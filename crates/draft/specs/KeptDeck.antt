@@ -12,22 +12,23 @@ use Rattle.rules_deck.specs.Translation.{cellCount, heldOf, noTables, emit, tra
 use Rattle.rules_deck.specs.Judge.{nameCount}
 use Rattle.draft.specs.declared.Counts.{Counts}
 use Rattle.draft.specs.Names.{heldWords}
+use Rattle.draft.specs.Kept.{Words}
 use Rattle.draft.specs.Sketch.{deckRows, deckJumps, loopsFrom, plainCode, openEntry}
 
-pub record KeptDeck (house : House) (deck : List Statement) (names constants elements dos loops code rows jumps : List ℕ) (n : Counts) : Type 0 where
-  pub names-are : take (4 * n .names) names ≡ heldWords 0 (heldOf deck)
+pub record KeptDeck (house : House) (deck : List Statement) (lent : Words) (n : Counts) : Type 0 where
+  pub names-are : take (4 * n .names) (lent .names) ≡ heldWords 0 (heldOf deck)
   pub names-count : n .names ≡ nameCount (heldOf deck)
   pub cells-count : n .cells ≡ cellCount (heldOf deck)
-  pub constants-are : take (n .constants) constants ≡ translate house deck .constants
+  pub constants-are : take (n .constants) (lent .constants) ≡ translate house deck .constants
   pub constants-count : n .constants ≡ length (translate house deck .constants)
-  pub elements-are : take (9 * n .elements) elements ≡ concat (map elementWords (translate house deck .elements))
+  pub elements-are : take (9 * n .elements) (lent .elements) ≡ concat (map elementWords (translate house deck .elements))
   pub elements-count : n .elements ≡ length (translate house deck .elements)
   pub exits-count : n .exits ≡ length (translate house deck .exits)
-  pub dos-are : take (4 * n .dos) dos ≡ concat (map loopWords (map (openEntry deck) (dosOf deck)))
+  pub dos-are : take (4 * n .dos) (lent .dos) ≡ concat (map loopWords (map (openEntry deck) (dosOf deck)))
   pub dos-count : n .dos ≡ length (dosOf deck)
-  pub loops-are : take (2 * n .dos) loops ≡ loopsFrom 0 0 deck
-  pub code-is : take (n .code) code ≡ emit noTables (plainCode deck)
+  pub loops-are : take (2 * n .dos) (lent .loops) ≡ loopsFrom 0 0 deck
+  pub code-is : take (n .code) (lent .code) ≡ emit noTables (plainCode deck)
   pub code-count : n .code ≡ length (plainCode deck)
-  pub rows-are : take (5 * n .statements) rows ≡ deckRows deck
-  pub jumps-are : take (n .jumps) jumps ≡ deckJumps deck
+  pub rows-are : take (5 * n .statements) (lent .rows) ≡ deckRows deck
+  pub jumps-are : take (n .jumps) (lent .jumps) ≡ deckJumps deck
   pub jumps-count : n .jumps ≡ length (deckJumps deck)

@@ -1,3 +1,4 @@
+pub mod Counts
 pub mod Parts
 pub mod Names
 pub mod Draft

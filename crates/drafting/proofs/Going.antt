@@ -14,7 +14,7 @@ use Rattle.rules_deck.specs.Accepted.{takenFrom}
 use Rattle.rules_deck.specs.Compile.{Read, notRead, read, withStatement, readText, readFrom}
 use Rattle.draft.specs.declared.Counts.{Counts}
 use Rattle.draft.specs.Draft.{Draft, drafts, draftOf}
-use Rattle.draft.specs.Kept.{Fit, Kept}
+use Rattle.draft.specs.Kept.{Words, Fit, Kept}
 use Rattle.draft.proofs.DraftDeck.{draft-next}
 use Rattle.next_statement.specs.Steps.{punchedAs, toCome, Keeps}
 
@@ -43,20 +43,20 @@ taken-last q (d ∷ done) s t =
 
 -- ---- what the loop keeps
 
-pub record Going (k : ℕ) (deck : List ℕ) (ps : List Punched) (card : ℕ) (names constants elements dos loops code rows jumps : List ℕ) (n : Counts) : Type 0 where
+pub record Going (k : ℕ) (deck : List ℕ) (ps : List Punched) (card : ℕ) (lent : Words) (n : Counts) : Type 0 where
   pub done : List Statement
   pub rest : readFrom (house1401 k) 0 nothingTaken ps ≡ after done (readFrom (house1401 k) (n .statements) (takenFrom 0 done nothingTaken) (toCome deck card))
   pub few : n .statements + length (toCome deck card) ≡ length ps
   pub counted : n .statements ≡ length done
   pub fit : Fit n
-  pub kept : Kept (draftOf done) names constants elements dos loops code rows jumps n
+  pub kept : Kept (draftOf done) lent n
 
 -- what those before have taken
 abbrev pub takenBy : List Statement → Taken
 takenBy done = takenFrom 0 done nothingTaken
 
-module _ {k : ℕ} {deck : List ℕ} {ps : List Punched} {card : ℕ} {names constants elements dos loops code rows jumps : List ℕ} {n : Counts}
-    (g : Going k deck ps card names constants elements dos loops code rows jumps n) where
+module _ {k : ℕ} {deck : List ℕ} {ps : List Punched} {card : ℕ} {lent : Words} {n : Counts}
+    (g : Going k deck ps card lent n) where
   pub going-ended : toCome deck card ≡ [] → readFrom (house1401 k) 0 nothingTaken ps ≡ read (g .done)
   going-ended e = g .rest ∙ ap (λ (l : List Punched). after (g .done) (readFrom (house1401 k) (n .statements) (takenBy (g .done)) l)) e ∙ after-end (g .done)
 
@@ -69,10 +69,10 @@ module _ {k : ℕ} {deck : List ℕ} {ps : List Punched} {card : ℕ} {names con
       ∙ ap (after (g .done)) (h (λ u. readFrom (house1401 k) (suc (n .statements)) u more))
       ∙ after-refused (g .done) (refusal number (suc (n .statements)) 0)
 
-  pub going-on : {names′ constants′ elements′ dos′ loops′ code′ rows′ jumps′ : List ℕ} {m : Counts} (p : Punched) (next : ℕ) → toCome deck card ≡ p ∷ toCome deck next
-      → Keeps k (n .statements) (takenBy (g .done)) (draftOf (g .done)) p names′ constants′ elements′ dos′ loops′ code′ rows′ jumps′ m
-      → Going k deck ps next names′ constants′ elements′ dos′ loops′ code′ rows′ jumps′ m
-  going-on {names′} {constants′} {elements′} {dos′} {loops′} {code′} {rows′} {jumps′} {m} p next e h =
+  pub going-on : {lent′ : Words} {m : Counts} (p : Punched) (next : ℕ) → toCome deck card ≡ p ∷ toCome deck next
+      → Keeps k (n .statements) (takenBy (g .done)) (draftOf (g .done)) p lent′ m
+      → Going k deck ps next lent′ m
+  going-on {lent′} {m} p next e h =
       let s = punchedAs p (h .form) in
       let q = n .statements in
       let l : q ≡ length (g .done) = g .counted in
@@ -94,5 +94,5 @@ module _ {k : ℕ} {deck : List ℕ} {ps : List Punched} {card : ℕ} {names con
         few = omega (arith, g .few);
         counted = c ∙ simp length-append (omega arith);
         fit = h .fit;
-        kept = subst (λ (E : Draft). Kept E names′ constants′ elements′ dos′ loops′ code′ rows′ jumps′ m) D (h .kept);
+        kept = subst (λ (E : Draft). Kept E lent′ m) D (h .kept);
       }

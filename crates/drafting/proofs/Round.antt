@@ -18,7 +18,7 @@ use Rattle.rules_deck.proofs.CardsLaws.{statements-few}
 use Rattle.texts.proofs.Onward.{from-start}
 use Rattle.draft.specs.declared.Counts.{Counts}
 use Rattle.draft.specs.Draft.{Draft, noDraft, draftOf}
-use Rattle.draft.specs.Kept.{Fit, Kept}
+use Rattle.draft.specs.Kept.{Words, Fit, Kept}
 use Rattle.draft.proofs.Matching.{matches-deck}
 use Rattle.statements.specs.Taking.{Fresh}
 use Rattle.statements.proofs.Hidden.{fresh-deck}
@@ -68,8 +68,8 @@ fit-none =
       jumps = omega arith;
     }
 
-kept-none : (names constants elements dos loops code rows jumps : List ℕ) → Kept noDraft names constants elements dos loops code rows jumps noCounts
-kept-none names constants elements dos loops code rows jumps =
+kept-none : (lent : Words) → Kept noDraft lent noCounts
+kept-none lent =
     record {
       held = record { words = refl; names-are = refl; cells-are = refl; names-fit = omega arith; cells-fit = omega arith; told = each-none; rows = each-none };
       tables = record { constants-are = refl; constants-count = refl; elements-are = refl; elements-count = refl; exits-count = refl };
@@ -85,27 +85,27 @@ kept-none names constants elements dos loops code rows jumps =
 
 -- ---- a DO's position is not taken yet
 
-going-fresh : {k : ℕ} {deck : List ℕ} {ps : List Punched} {card : ℕ} {names constants elements dos loops code rows jumps : List ℕ} {n : Counts}
-    (g : Going k deck ps card names constants elements dos loops code rows jumps n) → Fresh (n .statements) (draftOf (g .done))
+going-fresh : {k : ℕ} {deck : List ℕ} {ps : List Punched} {card : ℕ} {lent : Words} {n : Counts}
+    (g : Going k deck ps card lent n) → Fresh (n .statements) (draftOf (g .done))
 going-fresh g = subst (λ (q : ℕ). Fresh q (draftOf (g .done))) (sym (g .counted)) (fresh-deck (g .done))
 
 -- ---- the loop; the tables are as long as at first
 
-pub record Round (k : ℕ) (deck : List ℕ) (items₀ names₀ constants₀ elements₀ dos₀ loops₀ code₀ rows₀ jumps₀ : List ℕ) (card : ℕ) (items names constants elements dos loops code rows jumps : List ℕ) (n : Counts) : Type 0 where
-  pub going : (ps : List Punched) → carded (house1401 k) deck ≡ statements ps → Going k deck ps card names constants elements dos loops code rows jumps n
+pub record Round (k : ℕ) (deck : List ℕ) (items₀ : List ℕ) (lent₀ : Words) (card : ℕ) (items : List ℕ) (lent : Words) (n : Counts) : Type 0 where
+  pub going : (ps : List Punched) → carded (house1401 k) deck ≡ statements ps → Going k deck ps card lent n
   pub items-same : length items ≡ length items₀
-  pub names-same : length names ≡ length names₀
-  pub constants-same : length constants ≡ length constants₀
-  pub elements-same : length elements ≡ length elements₀
-  pub dos-same : length dos ≡ length dos₀
-  pub loops-same : length loops ≡ length loops₀
-  pub code-same : length code ≡ length code₀
-  pub rows-same : length rows ≡ length rows₀
-  pub jumps-same : length jumps ≡ length jumps₀
+  pub names-same : length (lent .names) ≡ length (lent₀ .names)
+  pub constants-same : length (lent .constants) ≡ length (lent₀ .constants)
+  pub elements-same : length (lent .elements) ≡ length (lent₀ .elements)
+  pub dos-same : length (lent .dos) ≡ length (lent₀ .dos)
+  pub loops-same : length (lent .loops) ≡ length (lent₀ .loops)
+  pub code-same : length (lent .code) ≡ length (lent₀ .code)
+  pub rows-same : length (lent .rows) ≡ length (lent₀ .rows)
+  pub jumps-same : length (lent .jumps) ≡ length (lent₀ .jumps)
 
-pub round-start : (k : ℕ) (deck items names constants elements dos loops code rows jumps : List ℕ) → Round k deck items names constants elements dos loops code rows jumps 0 items names constants elements dos loops code rows jumps noCounts
+pub round-start : (k : ℕ) (deck items : List ℕ) (lent : Words) → Round k deck items lent 0 items lent noCounts
 unfolding draftOf
-round-start k deck items names constants elements dos loops code rows jumps =
+round-start k deck items lent =
     record {
       going = λ ps e.
           record {
@@ -114,7 +114,7 @@ round-start k deck items names constants elements dos loops code rows jumps =
             few = omega (arith, ap (length {A = Punched}) (from-start deck (record { digits = k; all = ps; is = e })));
             counted = refl;
             fit = fit-none;
-            kept = kept-none names constants elements dos loops code rows jumps;
+            kept = kept-none lent;
           };
       items-same = refl;
       names-same = refl;
@@ -127,8 +127,8 @@ round-start k deck items names constants elements dos loops code rows jumps =
       jumps-same = refl;
     }
 
-pub round-ahead : {k : ℕ} {deck items₀ names₀ constants₀ elements₀ dos₀ loops₀ code₀ rows₀ jumps₀ : List ℕ} {card : ℕ} {items names constants elements dos loops code rows jumps : List ℕ} {n : Counts}
-    → Begins k deck items₀ names₀ constants₀ elements₀ dos₀ loops₀ code₀ rows₀ jumps₀ → Round k deck items₀ names₀ constants₀ elements₀ dos₀ loops₀ code₀ rows₀ jumps₀ card items names constants elements dos loops code rows jumps n → Ahead k deck card items names constants elements dos loops code rows jumps n
+pub round-ahead : {k : ℕ} {deck items₀ : List ℕ} {lent₀ : Words} {card : ℕ} {items : List ℕ} {lent : Words} {n : Counts}
+    → Begins k deck items₀ lent₀ → Round k deck items₀ lent₀ card items lent n → Ahead k deck card items lent n
 round-ahead {k} {deck} {card = card} b r =
     let g = r .going (b .punched) (b .are) in
     let d = digits-within k (digits-right k deck (b .punched) (b .are)) in
@@ -163,42 +163,42 @@ pub record Refuses (k : ℕ) (deck : List ℕ) (card : ℕ) (t : Taken) (n : Cou
   pub others : toCome deck card ≡ punched ∷ more
   pub says : (rest : Taken → Read) → readText (house1401 k) (n .statements) (punched .number) t rest (textOf (punched .raw)) ≡ notRead (refusal number (suc (n .statements)) 0)
 
-pub record Goes (k : ℕ) (deck : List ℕ) (card : ℕ) (t : Taken) (D : Draft) (n : Counts) (names constants elements dos loops code rows jumps : List ℕ) (next : ℕ) (m : Counts) : Type 0 where
+pub record Goes (k : ℕ) (deck : List ℕ) (card : ℕ) (t : Taken) (D : Draft) (n : Counts) (lent : Words) (next : ℕ) (m : Counts) : Type 0 where
   pub punched : Punched
   pub others : toCome deck card ≡ punched ∷ toCome deck next
   pub further : card < next
   pub within : next ≤ length (cardsOf deck)
-  pub keeps : Keeps k (n .statements) t D punched names constants elements dos loops code rows jumps m
+  pub keeps : Keeps k (n .statements) t D punched lent m
 
-module _ {k : ℕ} {deck : List ℕ} {card : ℕ} {t : Taken} {D : Draft} {n : Counts} {names constants elements dos loops code rows jumps : List ℕ} where
-  steps-ended : Steps k deck card t D n names constants elements dos loops code rows jumps step.End → (toCome deck card ≡ []) × Kept D names constants elements dos loops code rows jumps n
+module _ {k : ℕ} {deck : List ℕ} {card : ℕ} {t : Taken} {D : Draft} {n : Counts} {lent : Words} where
+  steps-ended : Steps k deck card t D n lent step.End → (toCome deck card ≡ []) × Kept D lent n
   steps-ended (ended e h) = (e, h)
 
-  steps-refused : {number : ℕ} → Steps k deck card t D n names constants elements dos loops code rows jumps (step.Refused number) → Refuses k deck card t n number
+  steps-refused : {number : ℕ} → Steps k deck card t D n lent (step.Refused number) → Refuses k deck card t n number
   steps-refused (steps.refused number p more e h) = record { punched = p; more = more; others = e; says = h }
 
-  steps-goes : {next : ℕ} {m : Counts} → Steps k deck card t D n names constants elements dos loops code rows jumps (step.Kept next m) → Goes k deck card t D n names constants elements dos loops code rows jumps next m
+  steps-goes : {next : ℕ} {m : Counts} → Steps k deck card t D n lent (step.Kept next m) → Goes k deck card t D n lent next m
   steps-goes (taken p next m e f w h) = record { punched = p; others = e; further = f; within = w; keeps = h }
 
-module _ {k : ℕ} {deck : List ℕ} {ps : List Punched} {card : ℕ} {names constants elements dos loops code rows jumps : List ℕ} {names′ constants′ elements′ dos′ loops′ code′ rows′ jumps′ : List ℕ} {n : Counts} {r : Step}
-    (g : Going k deck ps card names constants elements dos loops code rows jumps n) (c : Continues k deck card n names constants elements dos loops code rows jumps names′ constants′ elements′ dos′ loops′ code′ rows′ jumps′ r) where
-  turn : Steps k deck card (takenBy (g .done)) (draftOf (g .done)) n names′ constants′ elements′ dos′ loops′ code′ rows′ jumps′ r
+module _ {k : ℕ} {deck : List ℕ} {ps : List Punched} {card : ℕ} {lent : Words} {lent′ : Words} {n : Counts} {r : Step}
+    (g : Going k deck ps card lent n) (c : Continues k deck card n lent lent′ r) where
+  turn : Steps k deck card (takenBy (g .done)) (draftOf (g .done)) n lent′ r
   turn = c (draftOf (g .done)) (takenBy (g .done)) (g .kept) (matches-deck (g .done)) (going-fresh g)
 
-  pub turn-ended : r ≡ step.End → Drafts (readFrom (house1401 k) 0 nothingTaken ps) names′ constants′ elements′ dos′ loops′ code′ rows′ jumps′ (drafted.Kept n)
+  pub turn-ended : r ≡ step.End → Drafts (readFrom (house1401 k) 0 nothingTaken ps) lent′ (drafted.Kept n)
   turn-ended e =
-      let x = steps-ended (subst (Steps k deck card (takenBy (g .done)) (draftOf (g .done)) n names′ constants′ elements′ dos′ loops′ code′ rows′ jumps′) e turn) in
+      let x = steps-ended (subst (Steps k deck card (takenBy (g .done)) (draftOf (g .done)) n lent′) e turn) in
       kept (g .done) n (going-ended g (x .0)) (g .counted) (g .fit) (x .1)
 
-  pub turn-refused : (number : ℕ) → r ≡ step.Refused number → Drafts (readFrom (house1401 k) 0 nothingTaken ps) names′ constants′ elements′ dos′ loops′ code′ rows′ jumps′ (drafted.Refused number (record { 0 = n .statements + 1 }))
+  pub turn-refused : (number : ℕ) → r ≡ step.Refused number → Drafts (readFrom (house1401 k) 0 nothingTaken ps) lent′ (drafted.Refused number (record { 0 = n .statements + 1 }))
   turn-refused number e =
-      let x = steps-refused (subst (Steps k deck card (takenBy (g .done)) (draftOf (g .done)) n names′ constants′ elements′ dos′ loops′ code′ rows′ jumps′) e turn) in
+      let x = steps-refused (subst (Steps k deck card (takenBy (g .done)) (draftOf (g .done)) n lent′) e turn) in
       let z : suc (n .statements) ≡ n .statements + 1 = omega arith in
       refused number (n .statements + 1)
       (going-refused g number (x .punched) (x .more) (x .others) (x .says) ∙ ap (λ (i : ℕ). notRead (refusal number i 0)) z)
 
   pub turn-further : (next : ℕ) (m : Counts) → r ≡ step.Kept next m → (card < next) × (next ≤ length (cardsOf deck))
-  turn-further next m e = let x = steps-goes (subst (Steps k deck card (takenBy (g .done)) (draftOf (g .done)) n names′ constants′ elements′ dos′ loops′ code′ rows′ jumps′) e turn) in (x .further, x .within)
+  turn-further next m e = let x = steps-goes (subst (Steps k deck card (takenBy (g .done)) (draftOf (g .done)) n lent′) e turn) in (x .further, x .within)
 
-  pub turn-on : (next : ℕ) (m : Counts) → r ≡ step.Kept next m → Going k deck ps next names′ constants′ elements′ dos′ loops′ code′ rows′ jumps′ m
-  turn-on next m e = let x = steps-goes (subst (Steps k deck card (takenBy (g .done)) (draftOf (g .done)) n names′ constants′ elements′ dos′ loops′ code′ rows′ jumps′) e turn) in going-on g (x .punched) next (x .others) (x .keeps)
+  pub turn-on : (next : ℕ) (m : Counts) → r ≡ step.Kept next m → Going k deck ps next lent′ m
+  turn-on next m e = let x = steps-goes (subst (Steps k deck card (takenBy (g .done)) (draftOf (g .done)) n lent′) e turn) in going-on g (x .punched) next (x .others) (x .keeps)

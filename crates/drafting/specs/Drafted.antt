@@ -11,19 +11,19 @@ use Rattle.rules_deck.specs.Cards.{Punched, statements, carded}
 use Rattle.rules_deck.specs.Compile.{Read, notRead, read}
 use Rattle.draft.specs.declared.Counts.{Counts}
 use Rattle.draft.specs.Draft.{draftOf}
-use Rattle.draft.specs.Kept.{Fit, Room, Kept}
+use Rattle.draft.specs.Kept.{Words, Fit, Room, Kept}
 use Rattle.drafting.specs.declared.Drafted.{Drafted}
 use Rattle.drafting.specs.declared.Drafted.the-variants as drafted
 
 -- what stands between the code and its limits before the first statement
-pub record Begins (k : ℕ) (deck items names constants elements dos loops code rows jumps : List ℕ) : Type 0 where
+pub record Begins (k : ℕ) (deck items : List ℕ) (lent : Words) : Type 0 where
   pub punched : List Punched
   pub are : carded (house1401 k) deck ≡ statements punched
   pub items-long : 2651 ≤ length items
-  pub room : Room names constants elements dos loops code rows jumps
+  pub room : Room lent
 
 -- o is what the book reads
-pub data Drafts (o : Read) (names constants elements dos loops code rows jumps : List ℕ) : Drafted → Type 0 where
-  refused : (number place : ℕ) → o ≡ notRead (refusal number place 0) → Drafts o names constants elements dos loops code rows jumps (drafted.Refused number (record { 0 = place }))
+pub data Drafts (o : Read) (lent : Words) : Drafted → Type 0 where
+  refused : (number place : ℕ) → o ≡ notRead (refusal number place 0) → Drafts o lent (drafted.Refused number (record { 0 = place }))
   kept : (deck : List Statement) (n : Counts) → o ≡ read deck → n .statements ≡ length deck → Fit n
-      → Kept (draftOf deck) names constants elements dos loops code rows jumps n → Drafts o names constants elements dos loops code rows jumps (drafted.Kept n)
+      → Kept (draftOf deck) lent n → Drafts o lent (drafted.Kept n)

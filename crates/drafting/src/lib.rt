@@ -5,6 +5,7 @@ ghost use Rattle.rules_shared.specs.House.{house1401};
 ghost use Rattle.rules_deck.specs.Cards.{Punched, statements, carded};
 ghost use Rattle.rules_deck.specs.Judge.{nothingTaken};
 ghost use Rattle.rules_deck.specs.Compile.{readFrom};
+ghost use Rattle.draft.specs.Kept.{asWords};
 ghost use Rattle.drafting.specs.Drafted.{Begins, Drafts};
 use cards::Sequence;
 use draft::Counts;
@@ -28,8 +29,8 @@ pub fn draft(
     rows: &mut [u64],
     jumps: &mut [u32],
 ) -> Drafted
-    requires { ⌜ Begins k (now deck) (now items) (now names) (now constants) (now elements) (now dos) (now loops) (now code) (now rows) (now jumps) ⌝ }
-    ensures { λ r. ⌜ ((ps : List Punched) → carded (house1401 k) (now (deck .entry)) ≡ statements ps → Drafts (readFrom (house1401 k) 0 nothingTaken ps) (now (names .exit)) (now (constants .exit)) (now (elements .exit)) (now (dos .exit)) (now (loops .exit)) (now (code .exit)) (now (rows .exit)) (now (jumps .exit)) r) ⌝ }
+    requires { ⌜ Begins k (now deck) (now items) (asWords (now names) (now constants) (now elements) (now dos) (now loops) (now code) (now rows) (now jumps)) ⌝ }
+    ensures { λ r. ⌜ ((ps : List Punched) → carded (house1401 k) (now (deck .entry)) ≡ statements ps → Drafts (readFrom (house1401 k) 0 nothingTaken ps) (asWords (now (names .exit)) (now (constants .exit)) (now (elements .exit)) (now (dos .exit)) (now (loops .exit)) (now (code .exit)) (now (rows .exit)) (now (jumps .exit))) r) ⌝ }
 {
     let mut n = Counts {
         names: 0,

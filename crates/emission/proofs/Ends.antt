@@ -8,6 +8,7 @@ use lib.ListN.{length, length-append}
 use Rattle.rules_object.specs.Operations.{HLT, JMP, BR3, BRC, DOI}
 use Rattle.rules_deck.specs.Translation.{Tables, tablesAfter}
 use Rattle.draft.specs.declared.Counts.{Counts}
+use Rattle.draft.specs.Counts.{withExits}
 use Rattle.draft.specs.Kept.{Tabled, Fit}
 use Rattle.emission.specs.declared.Emitted.{Emitted}
 use Rattle.emission.specs.declared.Emitted.the-variants as emitted
@@ -38,24 +39,10 @@ not-entered ws n h = (no-counts 1 n, λ d T c e t. no-room (code-over T (n .code
 -- ---- exits
 
 module _ (n : Counts) where
-  abbrev withExits : ℕ → Counts
-  withExits x =
-      record {
-        names = n .names;
-        cells = n .cells;
-        constants = n .constants;
-        elements = n .elements;
-        exits = x;
-        dos = n .dos;
-        code = n .code;
-        jumps = n .jumps;
-        statements = n .statements;
-      }
-
-  exits-between : (x : ℕ) → Between n (withExits x)
+  exits-between : (x : ℕ) → Between n (withExits n x)
   exits-between x = record { beside = record { names = refl; cells = refl; dos = refl; jumps = refl; statements = refl }; code = refl }
 
-  exits-fit : (x : ℕ) → Fit n → n .exits ≤ x → x ≤ 1024 → Fit (withExits x)
+  exits-fit : (x : ℕ) → Fit n → n .exits ≤ x → x ≤ 1024 → Fit (withExits n x)
   exits-fit x f h k =
       record {
         names = f .names;
@@ -70,7 +57,7 @@ module _ (n : Counts) where
       }
 
   exits-tabled : (T : Tables) (ts : List ℕ) (x : ℕ) {c e : List ℕ} → Tabled T c e n → x ≡ n .exits + length ts
-      → Tabled (record { constants = T .constants; elements = T .elements; exits = T .exits ++ ts }) c e (withExits x)
+      → Tabled (record { constants = T .constants; elements = T .elements; exits = T .exits ++ ts }) c e (withExits n x)
   exits-tabled T ts x t q =
       record {
         constants-are = t .constants-are;
@@ -81,13 +68,13 @@ module _ (n : Counts) where
       }
 
   module _ {ws ws′ : List ℕ} {r : Emitted} (f : Fit n) where
-    pub branched : n .exits ≤ 1021 → Appends ws ws′ (withExits (n .exits + 3)) 12 (n .exits) r → Grows 0 n r × EmitsThree ws ws′ n r
+    pub branched : n .exits ≤ 1021 → Appends ws ws′ (withExits n (n .exits + 3)) 12 (n .exits) r → Grows 0 n r × EmitsThree ws ws′ n r
     branched h a =
         let b = exits-between (n .exits + 3) in
         let g = exits-fit (n .exits + 3) f (omega arith) (omega (arith, h)) in
         (grows b g a, λ x y z T c e t. one b g a T (BR3 x y z) (exits-tabled T (x ∷ y ∷ z ∷ []) (n .exits + 3) t refl) refl (t .exits-count) (omega (arith, h)))
 
-    pub chosen : (count : ℕ) → count < 1024 - n .exits → Appends ws ws′ (withExits (n .exits + count + 1)) 13 (n .exits) r → Grows 0 n r × EmitsChoose count ws ws′ n r
+    pub chosen : (count : ℕ) → count < 1024 - n .exits → Appends ws ws′ (withExits n (n .exits + count + 1)) 13 (n .exits) r → Grows 0 n r × EmitsChoose count ws ws′ n r
     chosen count h a =
         let b = exits-between (n .exits + count + 1) in
         let g = exits-fit (n .exits + count + 1) f (omega arith) (omega (arith, h)) in (

@@ -12,21 +12,22 @@ use Rattle.rules_shared.specs.Limits.{limits}
 use Rattle.rules_object.specs.Operations.{Instr, operationNumber}
 use Rattle.rules_deck.specs.Translation.{Tables, tablesAfter, operand, wordOf}
 use Rattle.draft.specs.declared.Counts.{Counts}
+use Rattle.draft.specs.Counts.{withWord}
 use Rattle.draft.specs.Kept.{Tabled, Fit}
 use Rattle.emission.specs.declared.Emitted.{Emitted}
 use Rattle.emission.specs.declared.Emitted.the-variants as emitted
-use Rattle.emission.specs.Emits.{Beside, Grows, EmitsWith, oneMore, Appends}
+use Rattle.emission.specs.Emits.{Beside, Grows, EmitsWith, Appends}
 use Rattle.emission.proofs.Fits.{code-over}
 
 -- ---- one word
 
 pub appended : (ws : List ℕ) (n : Counts) (op x w : ℕ) → length ws ≡ 4096 → n .code + n .dos < 4096 → w ≡ op * 2 ^ 24 + x % 2 ^ 24
-    → Appends ws (set ws (n .code) w) n op x (emitted.Counts (oneMore n))
+    → Appends ws (set ws (n .code) w) n op x (emitted.Counts (withWord n))
 appended ws n op x w long room is =
     record {
-      counts = λ m e. let same : oneMore n ≡ m = cc in sym same;
+      counts = λ m e. let same : withWord n ≡ m = cc in sym same;
       word = λ m e small.
-          let same : oneMore n ≡ m = cc in
+          let same : withWord n ≡ m = cc in
           let is′ : w ≡ op * 2 ^ 24 + x = is ∙ ap (λ (y : ℕ). op * 2 ^ 24 + y) (mod-eq-of-lt small) in
           ap (λ (k : Counts). take (k .code) (set ws (n .code) w)) (sym same) ∙ ap (λ (k : ℕ). take k (set ws (n .code) w)) (add-one (n .code))
           ∙ take-suc-set ws (n .code) w (omega (arith, long, room)) ∙ ap (λ (y : ℕ). take (n .code) ws ++ (y ∷ [])) is′;

@@ -9,6 +9,7 @@ use Rattle.rules_shared.specs.Limits.{limits}
 use Rattle.rules_object.specs.Operations.{Instr}
 use Rattle.rules_deck.specs.Translation.{Tables, emit, tablesOf}
 use Rattle.draft.specs.declared.Counts.{Counts}
+use Rattle.draft.specs.Counts.{withWord}
 use Rattle.draft.specs.Kept.{Tabled, tablesFit, Fit}
 use Rattle.emission.specs.declared.Emitted.{Emitted}
 use Rattle.emission.specs.declared.Emitted.the-variants as emitted
@@ -44,24 +45,9 @@ pub record EmitsWith (does : ℕ) (T : Tables) (code : List Instr) (words consta
 abbrev pub Emits : Tables → List Instr → List ℕ → List ℕ → List ℕ → List ℕ → Counts → Emitted → Type 0
 Emits T code words constants elements words′ n r = EmitsWith 0 T code words constants elements words′ n r
 
--- one word more of code
-abbrev pub oneMore : Counts → Counts
-oneMore n =
-    record {
-      names = n .names;
-      cells = n .cells;
-      constants = n .constants;
-      elements = n .elements;
-      exits = n .exits;
-      dos = n .dos;
-      code = n .code + 1;
-      jumps = n .jumps;
-      statements = n .statements;
-    }
-
 -- one word at the end of the code
 pub record Appends (words words′ : List ℕ) (n : Counts) (operation operand : ℕ) (r : Emitted) : Type 0 where
-  pub counts : (m : Counts) → r ≡ emitted.Counts m → m ≡ oneMore n
+  pub counts : (m : Counts) → r ≡ emitted.Counts m → m ≡ withWord n
   pub word : (m : Counts) → r ≡ emitted.Counts m → operand < 2 ^ 24 → take (m .code) words′ ≡ take (n .code) words ++ ((operation * 2 ^ 24 + operand) ∷ [])
   pub room : (m : Counts) → r ≡ emitted.Counts m → n .code + n .dos < limits .code
   pub full : r ≡ emitted.Full → limits .code ≤ n .code + n .dos

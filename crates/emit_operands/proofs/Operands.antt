@@ -16,6 +16,7 @@ use Rattle.elements.specs.declared.Element.{Element}
 use Rattle.elements.specs.declared.Target.{Target}
 use Rattle.elements.specs.Values.{subscriptsValue, targetValue}
 use Rattle.draft.specs.declared.Counts.{Counts}
+use Rattle.draft.specs.Counts.{withConstants, withElements}
 use Rattle.draft.specs.Parts.{Item, place, itemNames, itemConstants, itemPlain, itemReferences}
 use Rattle.draft.specs.Names.{dimsHeld, Exact, Known}
 use Rattle.draft.specs.Kept.{Tabled, Fit}
@@ -54,21 +55,7 @@ value-is c {word} {value} w e h =
     w ∙ mod-eq-of-lt s ∙ k
 
 module _ (n : Counts) (a : List ℕ) where
-  abbrev withConstants : ℕ → Counts
-  withConstants x =
-      record {
-        names = n .names;
-        cells = n .cells;
-        constants = x;
-        elements = n .elements;
-        exits = n .exits;
-        dos = n .dos;
-        code = n .code;
-        jumps = n .jumps;
-        statements = n .statements;
-      }
-
-  pub pooled-fit : {b : List ℕ} {word index count : ℕ} → Fit n → PooledAt a b (n .constants) word index count → Fit (withConstants count)
+  pub pooled-fit : {b : List ℕ} {word index count : ℕ} → Fit n → PooledAt a b (n .constants) word index count → Fit (withConstants n count)
   pooled-fit f p =
       record {
         names = f .names;
@@ -83,10 +70,10 @@ module _ (n : Counts) (a : List ℕ) where
       }
 
   pub pooled-one : {b ws ws′ : List ℕ} {value word index count : ℕ} {r : Emitted} → word ≡ value % 2 ^ 32 → Fit n → PooledAt a b (n .constants) word index count
-      → Appends ws ws′ (withConstants count) 1 index r → Grows 0 n r × EmitsConstant value a ws b ws′ n r
+      → Appends ws ws′ (withConstants n count) 1 index r → Grows 0 n r × EmitsConstant value a ws b ws′ n r
   pooled-one {b} {ws} {ws′} {value} {word} {index} {count} {r} w f p q =
       let g = pooled-fit f p in
-      let bt : Between n (withConstants count) = record { beside = record { names = refl; cells = refl; dos = refl; jumps = refl; statements = refl }; code = refl } in (
+      let bt : Between n (withConstants n count) = record { beside = record { names = refl; cells = refl; dos = refl; jumps = refl; statements = refl }; code = refl } in (
         grows bt g q,
         λ c T e t v x.
             let k : word ≡ valueOf c = value-is c w v x in
@@ -122,21 +109,7 @@ entries-more (x ∷ es) e =
     ap (λ (l : List ℕ). elementWords x ++ l) (entries-more es e) ∙ sym (append-assoc (elementWords x) (concat (map elementWords es)) (elementWords e))
 
 module _ (n : Counts) where
-  abbrev withElements : ℕ → Counts
-  withElements x =
-      record {
-        names = n .names;
-        cells = n .cells;
-        constants = n .constants;
-        elements = x;
-        exits = n .exits;
-        dos = n .dos;
-        code = n .code;
-        jumps = n .jumps;
-        statements = n .statements;
-      }
-
-  pub referred-fit : Fit n → (n .elements ≡ 256 → ⊥) → Fit (withElements (n .elements + 1))
+  pub referred-fit : Fit n → (n .elements ≡ 256 → ⊥) → Fit (withElements n (n .elements + 1))
   referred-fit f h =
       record {
         names = f .names;
@@ -151,17 +124,17 @@ module _ (n : Counts) where
       }
 
   pub referred : {names a b ws ws′ : List ℕ} {op : ℕ} {x : Element} {r : Emitted} → Fit n → (n .elements ≡ 256 → ⊥) → PutsElement names (n .names) x a b (n .elements)
-      → Appends ws ws′ (withElements (n .elements + 1)) op (n .elements) r → Grows 0 n r × EmitsRefer op x names a ws b ws′ n r
+      → Appends ws ws′ (withElements n (n .elements + 1)) op (n .elements) r → Grows 0 n r × EmitsRefer op x names a ws b ws′ n r
   referred {names} {a} {b} {ws} {ws′} {op} {x} {r} f h p q =
       let g = referred-fit f h in
-      let bt : Between n (withElements (n .elements + 1)) =
+      let bt : Between n (withElements n (n .elements + 1)) =
       record { beside = record { names = refl; cells = refl; dos = refl; jumps = refl; statements = refl }; code = refl } in (
         grows bt g q,
         λ held v s T c i l t z k y.
             let e = elementEntry held (dimsHeld held) v s in
             let nine : 9 * (n .elements + 1) ≡ 9 * n .elements + 9 = omega arith in
             one bt g q T i
-            (subst (λ (U : Tables). Tabled U c b (withElements (n .elements + 1))) (sym (y .adds))
+            (subst (λ (U : Tables). Tabled U c b (withElements n (n .elements + 1))) (sym (y .adds))
             (record {
               constants-are = t .constants-are;
               constants-count = t .constants-count;

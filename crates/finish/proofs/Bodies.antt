@@ -1,7 +1,7 @@
 -- The words of each body are the translation's, and so are the bytes.
 -- Assumes nothing.
 use mathlib.Core.Path.{_≡_, refl, sym, ap, _∙_}
-use Prim.Native.Nat.{ℕ, _+_, _*_, _≤_, _<_, _^_}
+use Prim.Native.Nat.{ℕ, _*_, _≤_, _<_, _^_}
 use mathlib.Core.List.{List, [], _∷_, map}
 use native.Mathlib.Omega.{arith}
 use lib.ListN.{length, take, length-take}
@@ -97,4 +97,4 @@ module _ {k : ℕ} {deck : List Statement} {n : Counts} {names constants element
       let es′ : 9 * n .elements ≤ length elements = omega (arith, t .elements, r .elements-long) in
       let ds : 4 * n .dos ≤ length dos′ = omega (arith, t .dos) in
       let ns : 5 * n .names ≤ length entries = omega (arith, t .names) in
-      (omega (arith, t .constants, t .elements, t .dos, t .names), (cs, es′, a, ds, b, d, ns, tt))
+      (omega (arith, t .constants, t .elements, t .dos, t .names), (cs, (es′, (a, (ds, (b, (d, (ns, tt))))))))

@@ -10,17 +10,17 @@ use Rattle.rules_deck.specs.Deck.{positionOf}
 use Rattle.rules_deck.specs.Accepted.{Accepted}
 use Rattle.draft.specs.declared.Counts.{Counts}
 use Rattle.draft.specs.Sketch.{deckJumps}
-use Rattle.draft.specs.Kept.{Room, Fit}
+use Rattle.draft.specs.Kept.{asWords, Room, Fit}
 use Rattle.draft.specs.KeptDeck.{KeptDeck}
 
 pub record Finished (k : ℕ) (deck : List Statement) (n : Counts) (names constants elements dos loops code rows jumps : List ℕ) : Type 0 where
   pub accepted : Accepted (house1401 k) deck
   -- the jumps before they had positions
   pub numbers : List ℕ
-  pub kept : KeptDeck (house1401 k) deck names constants elements dos loops code rows numbers n
+  pub kept : KeptDeck (house1401 k) deck (asWords names constants elements dos loops code rows numbers) n
   pub placed : take (n .jumps) jumps ≡ map (positionOf deck) (deckJumps deck)
   pub counted : n .statements ≡ length deck
-  pub room : Room names constants elements dos loops code rows jumps
+  pub room : Room (asWords names constants elements dos loops code rows jumps)
   pub fit : Fit n
 
 -- of some deck

@@ -28,7 +28,7 @@ use Rattle.forms.specs.Statements.{statementOf, answer, words, formWords, Reads
 use Rattle.reader.specs.Which.{isForm}
 use Rattle.draft.specs.declared.Counts.{Counts}
 use Rattle.draft.specs.Draft.{Draft}
-use Rattle.draft.specs.Kept.{Kept, Matches}
+use Rattle.draft.specs.Kept.{Words, Kept, Matches}
 use Rattle.statements.specs.declared.Outcome.{Outcome}
 use Rattle.statements.specs.declared.Outcome.the-variants as outcome
 use Rattle.statements.specs.Taking.{Fresh, Reading, Took, Judged, Comes}
@@ -89,8 +89,8 @@ reading {s} {b} text r e short = let f = a-form (formOf text) r e in reading-of 
 
 module _ (k : ℕ) {deck : List ℕ} {card : ℕ} {text text′ : List ℕ} {number : Number} {len next : ℕ} (o : Onward deck card text text′ number len next) where
   -- of no text: 6
-  pub next-empty : {t : Taken} {D : Draft} {n : Counts} {names constants elements dos loops code rows jumps : List ℕ} → len ≡ 0
-      → Steps k deck card t D n names constants elements dos loops code rows jumps (step.Refused 6)
+  pub next-empty : {t : Taken} {D : Draft} {n : Counts} {lent : Words} → len ≡ 0
+      → Steps k deck card t D n lent (step.Refused 6)
   next-empty {t} {D} {n} e = refused 6 (o .taken) (toCome deck next) (o .others) (λ rest. go (textOf (o .taken .raw)) (sym (o .length-is) ∙ e) rest)
     where
       go : (l : List ℕ) → length l ≡ 0 → (rest : Taken → Read) → readText (house1401 k) (n .statements) (o .taken .number) t rest l ≡ notRead (refusal 6 (suc (n .statements)) 0)
@@ -110,22 +110,22 @@ module _ (k : ℕ) {deck : List ℕ} {card : ℕ} {text text′ : List ℕ} {num
       by-form q t rest (textOf (o .taken .raw)) (omega (arith, o .length-is)) f (ap formOf (sym (o .stands full) ∙ ap (λ (i : ℕ). take i text′) z) ∙ e)
 
   -- of no form: 10
-  pub next-unread : {t : Taken} {D : Draft} {n : Counts} {b names constants elements dos loops code rows jumps : List ℕ} {s : Statement} → length text ≡ 660 → 1 ≤ len
-      → Reads b (formOf (take (len - 0) text′)) s → isForm s ≡ false → Steps k deck card t D n names constants elements dos loops code rows jumps (step.Refused 10)
+  pub next-unread : {t : Taken} {D : Draft} {n : Counts} {b : List ℕ} {lent : Words} {s : Statement} → length text ≡ 660 → 1 ≤ len
+      → Reads b (formOf (take (len - 0) text′)) s → isForm s ≡ false → Steps k deck card t D n lent (step.Refused 10)
   next-unread {t} {D} {n} full some-text r e =
       refused 10 (o .taken) (toCome deck next) (o .others) (λ rest. read-by full some-text (n .statements) t rest none (no-form (formOf (take (len - 0) text′)) r e))
 
   -- refused by 11 to 18, or kept
-  pub next-judged : {D : Draft} {t : Taken} {n : Counts} {names constants elements dos loops code rows jumps : List ℕ} (f : Form) (m : ℕ) → length text ≡ 660 → 1 ≤ len
-      → formOf (take (len - 0) text′) ≡ some f → judgeForm (house1401 k) (n .statements) f t ≡ some m → Steps k deck card t D n names constants elements dos loops code rows jumps (step.Refused m)
+  pub next-judged : {D : Draft} {t : Taken} {n : Counts} {lent : Words} (f : Form) (m : ℕ) → length text ≡ 660 → 1 ≤ len
+      → formOf (take (len - 0) text′) ≡ some f → judgeForm (house1401 k) (n .statements) f t ≡ some m → Steps k deck card t D n lent (step.Refused m)
   next-judged {D} {t} {n} f m full some-text e j =
       refused m (o .taken) (toCome deck next) (o .others)
       (λ rest. read-by full some-text (n .statements) t rest (some f) e
       ∙ ap (afterJudging (n .statements) (punchedAs (o .taken) f) (rest (takes (n .statements) f t))) j)
 
-  pub next-kept : {D : Draft} {t : Taken} {n m : Counts} {names constants elements dos loops code rows jumps : List ℕ} (f : Form) → length text ≡ 660 → 1 ≤ len
-      → formOf (take (len - 0) text′) ≡ some f → Took k (n .statements) (punchedAs (o .taken) f) t D names constants elements dos loops code rows jumps m
-      → Steps k deck card t D n names constants elements dos loops code rows jumps (step.Kept next m)
+  pub next-kept : {D : Draft} {t : Taken} {n m : Counts} {lent : Words} (f : Form) → length text ≡ 660 → 1 ≤ len
+      → formOf (take (len - 0) text′) ≡ some f → Took k (n .statements) (punchedAs (o .taken) f) t D lent m
+      → Steps k deck card t D n lent (step.Kept next m)
   next-kept {D} {t} {n} {m} f full some-text e h =
       taken (o .taken) next m (o .others) (o .further) (o .within)
       (record {
@@ -143,23 +143,23 @@ module _ (k : ℕ) {deck : List ℕ} {card : ℕ} {text text′ : List ℕ} {num
   named : (f : Form) → record { number = number .0; form = f } ≡ punchedAs (o .taken) f
   named f = ap (λ (i : ℕ). record { number = i; form = f }) (sym (o .number-is))
 
-  pub comes-refused : {D : Draft} {n : Counts} {b names constants elements dos loops code rows jumps : List ℕ} {s : Statement} (r : Outcome) (m : ℕ) → length text ≡ 660 → 1 ≤ len
-      → Reads b (formOf (take (len - 0) text′)) s → isForm s ≡ true → Comes s (number .0) k b (n .statements) D names constants elements dos loops code rows jumps r → r ≡ outcome.Refused m
-      → (t : Taken) → Matches t D → Fresh (n .statements) D → Steps k deck card t D n names constants elements dos loops code rows jumps (step.Refused m)
+  pub comes-refused : {D : Draft} {n : Counts} {b : List ℕ} {lent : Words} {s : Statement} (r : Outcome) (m : ℕ) → length text ≡ 660 → 1 ≤ len
+      → Reads b (formOf (take (len - 0) text′)) s → isForm s ≡ true → Comes s (number .0) k b (n .statements) D lent r → r ≡ outcome.Refused m
+      → (t : Taken) → Matches t D → Fresh (n .statements) D → Steps k deck card t D n lent (step.Refused m)
   unfolding Judged
-  comes-refused {D} {n} {b} {names} {constants} {elements} {dos} {loops} {code} {rows} {jumps} r m full some-text h y comes e t matches fresh =
+  comes-refused {D} {n} {b} {lent} r m full some-text h y comes e t matches fresh =
       let f = a-form (formOf (take (len - 0) text′)) h y in
-      next-judged (f .0) m full some-text (f .1) (subst (Judged k (n .statements) (record { number = number .0; form = f .0 }) t D names constants elements dos loops code rows jumps) e (comes (reading-of b (take (len - 0) text′) (f .0) (f .1) h part-short) t matches fresh))
+      next-judged (f .0) m full some-text (f .1) (subst (Judged k (n .statements) (record { number = number .0; form = f .0 }) t D lent) e (comes (reading-of b (take (len - 0) text′) (f .0) (f .1) h part-short) t matches fresh))
 
-  pub comes-kept : {D : Draft} {n : Counts} {b names constants elements dos loops code rows jumps : List ℕ} {s : Statement} (r : Outcome) (m : Counts) → length text ≡ 660 → 1 ≤ len
-      → Reads b (formOf (take (len - 0) text′)) s → isForm s ≡ true → Comes s (number .0) k b (n .statements) D names constants elements dos loops code rows jumps r
-      → r ≡ outcome.Taken m → (t : Taken) → Matches t D → Fresh (n .statements) D → Steps k deck card t D n names constants elements dos loops code rows jumps (step.Kept next m)
+  pub comes-kept : {D : Draft} {n : Counts} {b : List ℕ} {lent : Words} {s : Statement} (r : Outcome) (m : Counts) → length text ≡ 660 → 1 ≤ len
+      → Reads b (formOf (take (len - 0) text′)) s → isForm s ≡ true → Comes s (number .0) k b (n .statements) D lent r
+      → r ≡ outcome.Taken m → (t : Taken) → Matches t D → Fresh (n .statements) D → Steps k deck card t D n lent (step.Kept next m)
   unfolding Judged
-  comes-kept {D} {n} {b} {names} {constants} {elements} {dos} {loops} {code} {rows} {jumps} r m full some-text h y comes e t matches fresh =
+  comes-kept {D} {n} {b} {lent} r m full some-text h y comes e t matches fresh =
       let f = a-form (formOf (take (len - 0) text′)) h y in
       next-kept (f .0) full some-text (f .1)
-      (subst (λ (st : trees.Statement). Took k (n .statements) st t D names constants elements dos loops code rows jumps m) (named (f .0))
-      (subst (Judged k (n .statements) (record { number = number .0; form = f .0 }) t D names constants elements dos loops code rows jumps) e (comes (reading-of b (take (len - 0) text′) (f .0) (f .1) h part-short) t matches fresh)))
+      (subst (λ (st : trees.Statement). Took k (n .statements) st t D lent m) (named (f .0))
+      (subst (Judged k (n .statements) (record { number = number .0; form = f .0 }) t D lent) e (comes (reading-of b (take (len - 0) text′) (f .0) (f .1) h part-short) t matches fresh)))
 
   pub small-number : Accepted deck → number .0 ≤ 99999
   small-number a = omega (arith, each-head (subst (Each (RightStatement (house1401 (a .digits)))) (o .others) (each-from card (cardsOf deck) (all-right deck a))) .number-small, o .number-is)

@@ -13,7 +13,7 @@ use Rattle.rules_deck.specs.Compile.{Read, notRead, withStatement, readText}
 use Rattle.texts.specs.Taking.{Accepted}
 use Rattle.draft.specs.declared.Counts.{Counts}
 use Rattle.draft.specs.Draft.{Draft, drafts}
-use Rattle.draft.specs.Kept.{Fit, Room, Kept, Matches}
+use Rattle.draft.specs.Kept.{Words, Fit, Room, Kept, Matches}
 use Rattle.statements.specs.Taking.{Fresh}
 use Rattle.next_statement.specs.declared.Step.{Step}
 use Rattle.next_statement.specs.declared.Step.the-variants as step
@@ -26,37 +26,37 @@ abbrev pub toCome : List ℕ → ℕ → List Punched
 toCome deck card = grouped (drop card (cardsOf deck))
 
 -- what stands between the code and its limits before a statement
-pub record Ahead (k : ℕ) (deck : List ℕ) (card : ℕ) (items names constants elements dos loops code rows jumps : List ℕ) (n : Counts) : Type 0 where
+pub record Ahead (k : ℕ) (deck : List ℕ) (card : ℕ) (items : List ℕ) (lent : Words) (n : Counts) : Type 0 where
   pub accepted : Accepted deck
   pub digits-some : 1 ≤ k
   pub digits-few : k ≤ 9
   pub items-long : 2651 ≤ length items
-  pub room : Room names constants elements dos loops code rows jumps
+  pub room : Room lent
   pub fit : Fit n
   pub few : n .statements + length (toCome deck card) ≤ 400
   pub draft : Draft
-  pub kept : Kept draft names constants elements dos loops code rows jumps n
+  pub kept : Kept draft lent n
   pub fresh : Fresh (n .statements) draft
 
 -- the statement p at position q is right, and the tables hold it too
-pub record Keeps (k q : ℕ) (t : Taken) (D : Draft) (p : Punched) (names constants elements dos loops code rows jumps : List ℕ) (n : Counts) : Type 0 where
+pub record Keeps (k q : ℕ) (t : Taken) (D : Draft) (p : Punched) (lent : Words) (n : Counts) : Type 0 where
   pub form : Form
   pub reads : (rest : Taken → Read) → readText (house1401 k) q (p .number) t rest (textOf (p .raw)) ≡ withStatement (punchedAs p form) (rest (takes q form t))
-  pub kept : Kept (drafts q (punchedAs p form) D) names constants elements dos loops code rows jumps n
+  pub kept : Kept (drafts q (punchedAs p form) D) lent n
   pub fit : Fit n
   pub counted : n .statements ≡ suc q
 
 -- the first statement from a card on; n counts those before it, m those and it
-pub data Steps (k : ℕ) (deck : List ℕ) (card : ℕ) (t : Taken) (D : Draft) (n : Counts) (names constants elements dos loops code rows jumps : List ℕ) : Step → Type 0 where
-  ended : toCome deck card ≡ [] → Kept D names constants elements dos loops code rows jumps n → Steps k deck card t D n names constants elements dos loops code rows jumps step.End
+pub data Steps (k : ℕ) (deck : List ℕ) (card : ℕ) (t : Taken) (D : Draft) (n : Counts) (lent : Words) : Step → Type 0 where
+  ended : toCome deck card ≡ [] → Kept D lent n → Steps k deck card t D n lent step.End
   refused : (number : ℕ) (p : Punched) (more : List Punched) → toCome deck card ≡ p ∷ more
       → ((rest : Taken → Read) → readText (house1401 k) (n .statements) (p .number) t rest (textOf (p .raw)) ≡ notRead (refusal number (suc (n .statements)) 0))
-      → Steps k deck card t D n names constants elements dos loops code rows jumps (step.Refused number)
+      → Steps k deck card t D n lent (step.Refused number)
   taken : (p : Punched) (next : ℕ) (m : Counts) → toCome deck card ≡ p ∷ toCome deck next → card < next → next ≤ length (cardsOf deck)
-      → Keeps k (n .statements) t D p names constants elements dos loops code rows jumps m
-      → Steps k deck card t D n names constants elements dos loops code rows jumps (step.Kept next m)
+      → Keeps k (n .statements) t D p lent m
+      → Steps k deck card t D n lent (step.Kept next m)
 
 -- after any draft that the tables hold before; with the tables afterwards
-abbrev pub Continues : (k : ℕ) (deck : List ℕ) (card : ℕ) (n : Counts) (names constants elements dos loops code rows jumps : List ℕ) (names′ constants′ elements′ dos′ loops′ code′ rows′ jumps′ : List ℕ) → Step → Type 0
-Continues k deck card n names constants elements dos loops code rows jumps names′ constants′ elements′ dos′ loops′ code′ rows′ jumps′ r =
-    (D : Draft) (t : Taken) → Kept D names constants elements dos loops code rows jumps n → Matches t D → Fresh (n .statements) D → Steps k deck card t D n names′ constants′ elements′ dos′ loops′ code′ rows′ jumps′ r
+abbrev pub Continues : (k : ℕ) (deck : List ℕ) (card : ℕ) (n : Counts) (lent lent′ : Words) → Step → Type 0
+Continues k deck card n lent lent′ r =
+    (D : Draft) (t : Taken) → Kept D lent n → Matches t D → Fresh (n .statements) D → Steps k deck card t D n lent′ r

@@ -1,4 +1,5 @@
 // A deck's next statement: taken from the cards, read, judged by 6 and 10 to 18, and kept in the tables that are lent.
+ghost use Rattle.draft.specs.Kept.{asWords};
 ghost use Rattle.next_statement.specs.Steps.{Ahead, Continues};
 use draft::Counts;
 use statements::Outcome;
@@ -27,8 +28,8 @@ pub fn take_next(
     jumps: &mut [u32],
     n: Counts,
 ) -> Step
-    requires { ⌜ Ahead k (now deck) card (now items) (now names) (now constants) (now elements) (now dos) (now loops) (now code) (now rows) (now jumps) n ⌝ }
-    ensures { λ r. ⌜ Continues k (now (deck .entry)) card n (now (names .entry)) (now (constants .entry)) (now (elements .entry)) (now (dos .entry)) (now (loops .entry)) (now (code .entry)) (now (rows .entry)) (now (jumps .entry)) (now (names .exit)) (now (constants .exit)) (now (elements .exit)) (now (dos .exit)) (now (loops .exit)) (now (code .exit)) (now (rows .exit)) (now (jumps .exit)) r ⌝ }
+    requires { ⌜ Ahead k (now deck) card (now items) (asWords (now names) (now constants) (now elements) (now dos) (now loops) (now code) (now rows) (now jumps)) n ⌝ }
+    ensures { λ r. ⌜ Continues k (now (deck .entry)) card n (asWords (now (names .entry)) (now (constants .entry)) (now (elements .entry)) (now (dos .entry)) (now (loops .entry)) (now (code .entry)) (now (rows .entry)) (now (jumps .entry))) (asWords (now (names .exit)) (now (constants .exit)) (now (elements .exit)) (now (dos .exit)) (now (loops .exit)) (now (code .exit)) (now (rows .exit)) (now (jumps .exit))) r ⌝ }
 {
     let mut text = [0u8; 660];
     let Taken::Statement {

@@ -1,20 +1,19 @@
 -- What the book reads of any bytes, by the tests of the code: wrong at each of them, or the object of the layout that they hold.
 -- Assumes nothing.
 use mathlib.Core.Path.{_≡_, refl, sym, ap, _∙_, subst}
-use Prim.Native.Nat.{ℕ, zero, suc, _+_, _*_, _/_, _%_, _≤_, _<_}
+use Prim.Native.Nat.{ℕ, zero, suc, _+_, _-_, _*_, _/_, _%_, _≤_, _<_}
 use native.Mathlib.Nat.{div-add-mod'}
 use native.Mathlib.Omega.{arith}
-use mathlib.Core.Bool.{Bool, true, false, _&&_, cond}
+use mathlib.Core.Bool.{Bool, cond}
 use mathlib.Core.List.{List, [], _∷_, map}
 use mathlib.Core.Option.{Option, none, some}
 use mathlib.Core.Logic.{_⊎_, inl, inr}
-use lib.Dec.{eqb}
 use lib.ListN.{length, getD, take, drop, length-drop}
 use lib.Seq.{drop-drop, getD-drop, getD-take, length-take-le}
 use borrow.Author.Tests.{eq-eqb, ne-eqb}
 use Rattle.rules_object.specs.Object.{Object}
 use Rattle.rules_object.specs.Kinds.{edition, kindsOf}
-use Rattle.rules_object.specs.Bytes.{word, wordsOf, elementOf, loopOf, lineOf, namedOf, entries, readBodies, objectOf, readBy, readWords, readObject}
+use Rattle.rules_object.specs.Bytes.{word, wordsOf, elementOf, loopOf, lineOf, namedOf, entries, objectOf, readBy, readWords, readObject}
 use Rattle.bodies.specs.Edition.{kinds, count, head, sizes}
 use Rattle.rules_object.specs.Writable.{IsByte}
 use Rattle.rules_shared.specs.Lists.{Each, each-none, each-more}
@@ -108,13 +107,14 @@ ends-le : (s : List ℕ) (d k : ℕ) → d + k ≡ count → endIn s k ≤ endIn
 ends-le s zero k e = let q : k ≡ count = omega arith in subst (λ n. endIn s k ≤ endIn s n) q (omega arith)
 ends-le s (suc d) k e = let r = ends-le s d (suc k) (omega arith) in omega arith
 
-stands : (s : List ℕ) → InOrder s → (k d : ℕ) → d + suc k ≡ count → Stands s k
-stands s o k d e =
-    let f = o .firsts k (omega arith) in
+stands : (s : List ℕ) → InOrder s → (k : ℕ) → k < count → Stands s k
+stands s o k h =
+    let f = o .firsts k h in
+    let e : count - suc k + suc k ≡ count = omega arith in
     record {
       four = ap (λ a. a % 4) f ∙ ends-four s o k (omega arith);
-      inside = omega (arith, ends-le s d (suc k) e, f, o .end);
-      whole = o .whole k (omega arith);
+      inside = omega (arith, ends-le s (count - suc k) (suc k) e, f, o .end);
+      whole = o .whole k h;
     }
 
 body-length : (s : List ℕ) (k : ℕ) → Stands s k → length (bodyIn s k) ≡ lengthIn s k / 4
@@ -141,20 +141,20 @@ reads-some s b o = reads-bodies s b ∙ ap (objectOf kinds (wordAt s 4) (wordAt 
 
 pub no-code : (s : List ℕ) → Begun s → InOrder s → lengthIn s 4 / 4 ≡ 0 → readObject s ≡ none
 no-code s b o e =
-    let l : length (bodyIn s 4) ≡ 0 = body-length s 4 (stands s o 4 2 refl) ∙ e in
+    let l : length (bodyIn s 4) ≡ 0 = body-length s 4 (stands s o 4 (omega arith)) ∙ e in
     reads-some s b o ∙ rw (eq-eqb (length (bodyIn s 4)) 0 l)
 
 reads-layout : (s : List ℕ) → ((i : ℕ) → getD s i 0 < 256) → Begun s → InOrder s → (lengthIn s 4 / 4 ≡ 0 → ⊥) → readObject s ≡ some (objectAt (layoutIn s) s)
 unfolding objectAt layoutIn
 reads-layout s bytes b o h =
-    let at4 = stands s o 4 2 refl in
+    let at4 = stands s o 4 (omega arith) in
     let l : length (bodyIn s 4) ≡ 0 → ⊥ = λ e. h (sym (body-length s 4 at4) ∙ e) in
-    let elements = entries-in elementOf (elementAt s) 9 s (element-one s) 1 (stands s o 1 5 refl) (stands s o 1 5 refl .whole) in
-    let dos = entries-in loopOf (loopAt s) 4 s (loop-one s) 3 (stands s o 3 3 refl) (stands s o 3 3 refl .whole) in
-    let lines = entries-in lineOf (lineAt s) 3 s (line-one s) 5 (stands s o 5 1 refl) (stands s o 5 1 refl .whole) in
-    let names = entries-in namedOf (namedAt s) 5 s (named-one s bytes) 6 (stands s o 6 0 refl) (stands s o 6 0 refl .whole) in
+    let elements = entries-in elementOf (elementAt s) 9 s (element-one s) 1 (stands s o 1 (omega arith)) (stands s o 1 (omega arith) .whole) in
+    let dos = entries-in loopOf (loopAt s) 4 s (loop-one s) 3 (stands s o 3 (omega arith)) (stands s o 3 (omega arith) .whole) in
+    let lines = entries-in lineOf (lineAt s) 3 s (line-one s) 5 (stands s o 5 (omega arith)) (stands s o 5 (omega arith) .whole) in
+    let names = entries-in namedOf (namedAt s) 5 s (named-one s bytes) 6 (stands s o 6 (omega arith)) (stands s o 6 (omega arith) .whole) in
     reads-some s b o
-    ∙ rw (ne-eqb (length (bodyIn s 4)) 0 l, elements, dos, lines, names, words-in s 0 (stands s o 0 6 refl), words-in s 2 (stands s o 2 4 refl), words-in s 4 at4)
+    ∙ rw (ne-eqb (length (bodyIn s 4)) 0 l, elements, dos, lines, names, words-in s 0 (stands s o 0 (omega arith)), words-in s 2 (stands s o 2 (omega arith)), words-in s 4 at4)
 
 placed : (s : List ℕ) → InOrder s → (lengthIn s 4 / 4 ≡ 0 → ⊥) → Placed (layoutIn s) s
 unfolding layoutIn

@@ -16,7 +16,7 @@ use Rattle.rules_deck.specs.Judge.{Taken, right13}
 use Rattle.draft.specs.declared.Counts.{Counts}
 use Rattle.draft.specs.Names.{Lists}
 use Rattle.draft.specs.Draft.{kindOf, setWord, jumpWords, ownWords, loopWords, entriesOf, Draft, drafts}
-use Rattle.draft.specs.Kept.{Fit, Kept, Matches}
+use Rattle.draft.specs.Kept.{Words, Fit, Kept, Matches}
 use Rattle.draft.proofs.Matching.{own-words, jump-count}
 use Rattle.emission.specs.declared.Emitted.{Emitted}
 use Rattle.emission.specs.declared.Emitted.the-variants as emitted
@@ -32,9 +32,9 @@ use Rattle.statements.proofs.Keeping.{entries-both, tabled-as, punched,
 lists-at : {held : List Held} {names : List ℕ} {a b c d : ℕ} → c ≡ a → d ≡ b → Lists held names a b → Lists held names c d
 lists-at {held} {names} {a} {b} {c} {d} e g l = subst (λ (x : ℕ). Lists held names x d) (sym e) (subst (λ (x : ℕ). Lists held names a x) (sym g) l)
 
-module _ {D : Draft} {names constants elements dos loops code rows jumps : List ℕ} {n : Counts} (kept : Kept D names constants elements dos loops code rows jumps n) (f : Form) (number : ℕ)
+module _ {D : Draft} {lent : Words} {n : Counts} (kept : Kept D lent n) (f : Form) (number : ℕ)
     {p : Plan} {items : List ℕ} (plans : Plans f items p) (k : ℕ) (right : right13 (house1401 k) f ≡ true) {m l r : Counts} (md : m .dos ≡ n .dos) (mj : m .jumps ≡ n .jumps) (ms : m .statements ≡ n .statements)
-    (s : After f m l) {words : ℕ} {rows′ jumps′ : List ℕ} (marks : Marked p number words items rows jumps rows′ jumps′ l r) where
+    (s : After f m l) {words : ℕ} (lent′ : Words) (marks : Marked p number words items (lent .rows) (lent .jumps) (lent′ .rows) (lent′ .jumps) l r) where
   numbers : numbersOf p items ≡ jumpWords f
   numbers = book-numbers (lawful1401 k) f plans right
 
@@ -47,8 +47,8 @@ module _ {D : Draft} {names constants elements dos loops code rows jumps : List 
       let b : length (numbersOf p items) ≡ length (jumpWords f) = ap length numbers in
       omega (arith, s .jumps)
 
-  module _ {a : Emitted} (ea : a ≡ emitted.Counts m) {names′ constants′ elements′ code′ : List ℕ}
-      (filled : Filled (n .statements) f (D .held) (D .tables) code names′ constants′ elements′ code′ n a) where
+  module _ {a : Emitted} (ea : a ≡ emitted.Counts m)
+      (filled : Filled (n .statements) f (D .held) (D .tables) (lent .code) (lent′ .names) (lent′ .constants) (lent′ .elements) (lent′ .code) n a) where
     pub fit-after : {t : Taken} → Matches t D → Fit l → Fit n → n .statements < 400 → Fit r
     fit-after M h g few =
         let i = marks .is in
@@ -76,10 +76,10 @@ module _ {D : Draft} {names constants elements dos loops code rows jumps : List 
         let c : length (numbersOf p items) ≡ length (jumpWords f) = ap length numbers in
         cc
 
-    pub kept-after : words ≡ m .code - n .code → {b : Emitted} → b ≡ emitted.Counts l → {dos′ loops′ : List ℕ} → Entered (n .statements) f (D .held) dos loops dos′ loops′ m b
-        → Kept (drafts (n .statements) (punched f number) D) names′ constants′ elements′ dos′ loops′ code′ rows′ jumps′ r
+    pub kept-after : words ≡ m .code - n .code → {b : Emitted} → b ≡ emitted.Counts l → Entered (n .statements) f (D .held) (lent .dos) (lent .loops) (lent′ .dos) (lent′ .loops) m b
+        → Kept (drafts (n .statements) (punched f number) D) lent′ r
     unfolding drafts
-    kept-after w {b} eb {dos′} {loops′} entered =
+    kept-after w {b} eb entered =
         let i = marks .is in
         let rd : r .dos ≡ l .dos = ap (λ (c : Counts). c .dos) i in
         let rc : r .code ≡ m .code = ap (λ (c : Counts). c .code) i ∙ s .code in
@@ -90,23 +90,23 @@ module _ {D : Draft} {names constants elements dos loops code rows jumps : List 
               tabled-as (same-tables kept f number) (ap (λ (c : Counts). c .constants) i ∙ s .constants) (ap (λ (c : Counts). c .elements) i ∙ s .elements)
               (ap (λ (c : Counts). c .exits) i ∙ s .exits) (filled .tables m ea);
           dos-are =
-              ap (λ (x : ℕ). take (4 * x) dos′) rd ∙ entered .dos-are l eb
-              ∙ ap (λ (x : ℕ). take (4 * x) dos ++ concat (map object.loopWords (entriesOf (laterOf D n f) q f))) md
+              ap (λ (x : ℕ). take (4 * x) (lent′ .dos)) rd ∙ entered .dos-are l eb
+              ∙ ap (λ (x : ℕ). take (4 * x) (lent .dos) ++ concat (map object.loopWords (entriesOf (laterOf D n f) q f))) md
               ∙ ap (λ (x : List ℕ). x ++ concat (map object.loopWords (entriesOf (laterOf D n f) q f))) (kept .dos-are)
               ∙ sym (entries-both (D .dos) (entriesOf (laterOf D n f) q f));
           dos-count = omega (arith, s .dos, dos-long kept f number);
           loops-are =
-              ap (λ (x : ℕ). take (2 * x) loops′) rd ∙ entered .loops-are l eb ∙ ap (λ (x : ℕ). take (2 * x) loops ++ loopWords q (m .jumps) f) md
+              ap (λ (x : ℕ). take (2 * x) (lent′ .loops)) rd ∙ entered .loops-are l eb ∙ ap (λ (x : ℕ). take (2 * x) (lent .loops) ++ loopWords q (m .jumps) f) md
               ∙ ap (λ (x : List ℕ). x ++ loopWords q (m .jumps) f) (kept .loops-are) ∙ ap (λ (x : ℕ). D .loops ++ loopWords q x f) (mj ∙ kept .jumps-count);
           code-is =
-              ap (λ (x : ℕ). take x code′) rc ∙ filled .words-are m ea ∙ ap (λ (x : List ℕ). x ++ emit (D .tables) (moreOf D n f)) (kept .code-is)
+              ap (λ (x : ℕ). take x (lent′ .code)) rc ∙ filled .words-are m ea ∙ ap (λ (x : List ℕ). x ++ emit (D .tables) (moreOf D n f)) (kept .code-is)
               ∙ ap (λ (x : List Instr). D .code ++ emit (D .tables) x) (same-code kept f number);
           code-count = omega (arith, filled .code-count m ea, code-long kept f number);
           rows-are =
-              marks .rows-are ∙ ap (λ (x : ℕ). take (5 * x) rows ++ (number ∷ p .kind ∷ setOf p ∷ words ∷ length (numbersOf p items) ∷ [])) (s .statements ∙ ms)
+              marks .rows-are ∙ ap (λ (x : ℕ). take (5 * x) (lent .rows) ++ (number ∷ p .kind ∷ setOf p ∷ words ∷ length (numbersOf p items) ∷ [])) (s .statements ∙ ms)
               ∙ ap (λ (x : List ℕ). x ++ (number ∷ p .kind ∷ setOf p ∷ words ∷ length (numbersOf p items) ∷ [])) (kept .rows-are) ∙ ap (λ (x : List ℕ). D .rows ++ x) (row-is w);
           jumps-are =
-              marks .jumps-are ∙ ap (λ (x : ℕ). take x jumps ++ numbersOf p items) (s .jumps ∙ mj) ∙ ap (λ (x : List ℕ). x ++ numbersOf p items) (kept .jumps-are)
+              marks .jumps-are ∙ ap (λ (x : ℕ). take x (lent .jumps) ++ numbersOf p items) (s .jumps ∙ mj) ∙ ap (λ (x : List ℕ). x ++ numbersOf p items) (kept .jumps-are)
               ∙ ap (λ (x : List ℕ). D .jumps ++ x) numbers;
           jumps-count = omega (arith, r-jumps, kept .jumps-count, length-append (D .jumps) (jumpWords f));
         }

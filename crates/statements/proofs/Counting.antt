@@ -18,6 +18,7 @@ use Rattle.rules_deck.proofs.Readers.{both-true}
 use Rattle.tokens.specs.Words.{capped}
 use Rattle.elements.specs.Values.{targetValue}
 use Rattle.draft.specs.declared.Counts.{Counts}
+use Rattle.draft.specs.Counts.{withDo}
 use Rattle.draft.specs.Draft.{kindOf, setWord, jumpWords}
 use Rattle.draft.proofs.ReadForm.{rightNumber, right13-capped, numbers-exact}
 use Rattle.emission.specs.declared.Emitted.{Emitted}
@@ -27,7 +28,7 @@ use Rattle.plans.specs.Plans.{formPlan, listedWords, Plans}
 use Rattle.plans.proofs.ByKind.{at-do}
 use Rattle.marks.specs.Marks.{numbersOf, Low, cellWord, setOf}
 use Rattle.endings.proofs.Ends.{of-kind}
-use Rattle.statements.specs.Steps.{withDo, Counted}
+use Rattle.statements.specs.Steps.{Counted}
 
 -- ---- a DO counted
 

@@ -16,6 +16,7 @@ use Rattle.rules_deck.specs.Translation.{Held, hidden, cellCount, isName, isHid
 use Rattle.tokens.specs.Words.{nameWord}
 use Rattle.items.specs.Parsed.{Put}
 use Rattle.draft.specs.declared.Counts.{Counts}
+use Rattle.draft.specs.Counts.{withDo}
 use Rattle.draft.specs.Parts.{formFirst}
 use Rattle.draft.specs.Names.{Told, Lists, Known}
 use Rattle.draft.specs.Draft.{kindOf, loopWords, entriesOf}
@@ -29,7 +30,7 @@ use Rattle.plans.proofs.ByKind.{at-do}
 use Rattle.marks.specs.Marks.{cellWord}
 use Rattle.endings.specs.Endings.{doesOf}
 use Rattle.endings.proofs.Ends.{does-do, of-kind}
-use Rattle.statements.specs.Steps.{withDo, Counted, Entered, Enters}
+use Rattle.statements.specs.Steps.{Counted, Entered, Enters}
 use Rattle.statements.proofs.Hidden.{appear-fresh, limit-last}
 
 -- ---- the counts

@@ -8,6 +8,7 @@ use mathlib.Core.List.{List}
 use lib.ListN.{length}
 use Rattle.rules_deck.specs.Translation.{Tables, brings}
 use Rattle.draft.specs.declared.Counts.{Counts}
+use Rattle.draft.specs.Counts.{withNames}
 use Rattle.draft.specs.Parts.{formItems}
 use Rattle.draft.specs.Names.{Lists, namesFit}
 use Rattle.draft.specs.Kept.{Tabled, Fit}
@@ -22,7 +23,7 @@ use Rattle.plans.specs.declared.Plan.{Plan}
 use Rattle.plans.specs.Plans.{Readied}
 use Rattle.naming.specs.Naming.{TakesCells}
 use Rattle.endings.specs.Endings.{doesOf, Emitting, EmitsPlan}
-use Rattle.statements.specs.Steps.{withNames, Onward, Fills}
+use Rattle.statements.specs.Steps.{Onward, Fills}
 
 pub onward-full : (p : Plan) (n : Counts) → Onward p n emitted.Full
 onward-full p n =

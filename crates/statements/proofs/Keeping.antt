@@ -18,7 +18,7 @@ use Rattle.rules_deck.specs.Judge.{Taken, takes, right18, formExitWords, nameCo
 use Rattle.draft.specs.declared.Counts.{Counts}
 use Rattle.draft.specs.Names.{namesFit}
 use Rattle.draft.specs.Draft.{kindOf, loopWords, entriesOf, draftCode, Draft, drafts}
-use Rattle.draft.specs.Kept.{Tabled, tablesFit, Fit, Kept, Matches}
+use Rattle.draft.specs.Kept.{Words, Tabled, tablesFit, Fit, Kept, Matches}
 use Rattle.draft.proofs.Matching.{emit-length, entries-count, matches-next, right18-fits}
 use Rattle.emission.specs.declared.Emitted.{Emitted}
 use Rattle.emission.specs.declared.Emitted.the-variants as emitted
@@ -67,7 +67,7 @@ middle-false false b c e = refl
 all-true : (a b c d e g h : Bool) → a ≡ true → b ≡ true → c ≡ true → d ≡ true → e ≡ true → g ≡ true → h ≡ true → ((a && b) && (c && (d && (e && (g && h))))) ≡ true
 all-true a b c d e g h p q r s t u v = rw (p, q, r, s, t, u, v)
 
-module _ {D : Draft} {names constants elements dos loops code rows jumps : List ℕ} {n : Counts} (kept : Kept D names constants elements dos loops code rows jumps n) (f : Form) (number : ℕ) where
+module _ {D : Draft} {lent : Words} {n : Counts} (kept : Kept D lent n) (f : Form) (number : ℕ) where
   pub same-code : (moreOf D n f) ≡ draftCode (length (D .dos)) (laterOf D n f) f
   same-code = ap (λ (d : ℕ). draftCode d (laterOf D n f) f) (kept .dos-count)
 
@@ -100,7 +100,7 @@ module _ {D : Draft} {names constants elements dos loops code rows jumps : List 
   -- ---- 18
 
   module _ {t : Taken} (M : Matches t D) {names′ constants′ elements′ code′ : List ℕ} {r : Emitted}
-      (filled : Filled (n .statements) f (D .held) (D .tables) code names′ constants′ elements′ code′ n r) where
+      (filled : Filled (n .statements) f (D .held) (D .tables) (lent .code) names′ constants′ elements′ code′ n r) where
     pub full-18 : r ≡ emitted.Full → right18 (takes (n .statements) f t) ≡ false
     full-18 e = test-18 t M ∙ inner-false (namesFit (laterOf D n f)) (leb (n .dos + length (formLast f)) 64) (tablesFit (tablesOf (D .tables) (moreOf D n f)) (n .code + length (moreOf D n f)) (n .dos + length (formLast f))) (filled .full e)
 

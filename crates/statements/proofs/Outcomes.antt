@@ -15,7 +15,7 @@ use Rattle.draft.specs.declared.Counts.{Counts}
 use Rattle.draft.specs.Parts.{itemsWords, formFirst}
 use Rattle.draft.specs.Names.{Lists, Known}
 use Rattle.draft.specs.Draft.{kindOf, Draft}
-use Rattle.draft.specs.Kept.{Fit, Kept, Matches}
+use Rattle.draft.specs.Kept.{Words, Fit, Kept, Matches}
 use Rattle.draft.proofs.Matching.{jump-count}
 use Rattle.names.proofs.Growth.{cells-append}
 use Rattle.emission.specs.declared.Emitted.{Emitted}
@@ -36,23 +36,23 @@ use Rattle.statements.proofs.Counting.{After, after, book-numbers, low-
 use Rattle.statements.proofs.Keeping.{full-18, dos-18, exits-grow}
 
 -- a form of this plan, and the draft before it
-pub record Given (p : Plan) (first items names constants elements dos loops code rows jumps : List ℕ) (n : Counts) (k : ℕ) (f : Form) (D : Draft) : Type 0 where
+pub record Given (p : Plan) (first items : List ℕ) (lent : Words) (n : Counts) (k : ℕ) (f : Form) (D : Draft) : Type 0 where
   pub plans : Plans f items p
   pub first-are : first ≡ itemsWords (formFirst f)
   pub passed : Passed k f
-  pub kept : Kept D names constants elements dos loops code rows jumps n
+  pub kept : Kept D lent n
   pub fresh : Fresh (n .statements) D
 
-module _ {p : Plan} {first items names constants elements dos loops code rows jumps : List ℕ} {n : Counts} where
-  pub given-of : (h : Planning p first items names constants elements dos loops code rows jumps n)
-      → Given p first items names constants elements dos loops code rows jumps n (h .digits) (h .readied .form) (h .draft)
+module _ {p : Plan} {first items : List ℕ} {lent : Words} {n : Counts} where
+  pub given-of : (h : Planning p first items lent n)
+      → Given p first items lent n (h .digits) (h .readied .form) (h .draft)
   given-of h = record { plans = h .readied .plans; first-are = h .readied .first-are; passed = h .passed; kept = h .kept; fresh = h .fresh }
 
-  module _ {k : ℕ} {f : Form} {D : Draft} (g : Given p first items names constants elements dos loops code rows jumps n k f D) where
-    pub is-15 : {a : Bool} → RightArrays p items names (n .names) a → a ≡ right15 (house1401 k) (D .held) f
+  module _ {k : ℕ} {f : Form} {D : Draft} (g : Given p first items lent n k f D) where
+    pub is-15 : {a : Bool} → RightArrays p items (lent .names) (n .names) a → a ≡ right15 (house1401 k) (D .held) f
     is-15 r = r k f (D .held) (n .cells) (g .plans) (g .kept .held) (told-of (g .passed))
 
-    pub is-16 : {a : Bool} → RightOperands p first items names (n .names) a → a ≡ right16 (D .held) f
+    pub is-16 : {a : Bool} → RightOperands p first items (lent .names) (n .names) a → a ≡ right16 (D .held) f
     is-16 r = r f (D .held) (n .cells) (g .plans) (g .first-are) (g .kept .held) (told-of (g .passed))
 
     module _ {t : Taken} (M : Matches t D) where
@@ -62,7 +62,7 @@ module _ {p : Plan} {first items names constants elements dos loops code rows ju
       pub as-16 : {b : Bool} → right16 (D .held) f ≡ b → right16 (t .held) f ≡ b
       as-16 e = ap (λ (h : List Held). right16 h f) (M .held) ∙ e
 
-    module _ {a b : Bool} (ra : RightArrays p items names (n .names) a) (ea : a ≡ true) (rb : RightOperands p first items names (n .names) b) (eb : b ≡ true) where
+    module _ {a b : Bool} (ra : RightArrays p items (lent .names) (n .names) a) (ea : a ≡ true) (rb : RightOperands p first items (lent .names) (n .names) b) (eb : b ≡ true) where
       right15-is : right15 (house1401 k) (D .held) f ≡ true
       right15-is = sym (is-15 ra) ∙ ea
 
@@ -72,15 +72,15 @@ module _ {p : Plan} {first items names constants elements dos loops code rows ju
       pub rightly : Right k (n .statements) f (D .held)
       rightly = right-of (n .statements) (D .held) (g .passed) right15-is right16-is
 
-      pub filled-of : {names′ constants′ elements′ code′ : List ℕ} {r : Emitted} → Fills p first items names constants elements code names′ constants′ elements′ code′ n r
-          → Filled (n .statements) f (D .held) (D .tables) code names′ constants′ elements′ code′ n r
+      pub filled-of : {names′ constants′ elements′ code′ : List ℕ} {r : Emitted} → Fills p first items (lent .names) (lent .constants) (lent .elements) (lent .code) names′ constants′ elements′ code′ n r
+          → Filled (n .statements) f (D .held) (D .tables) (lent .code) names′ constants′ elements′ code′ n r
       filled-of s = s k (n .statements) f (D .held) (D .tables) (g .plans) (g .first-are) (g .kept .held) (g .kept .tables) rightly
 
       pub entered-of : {names′ constants′ elements′ code′ dos′ loops′ : List ℕ} {r s : Emitted} {m : Counts}
-          → Filled (n .statements) f (D .held) (D .tables) code names′ constants′ elements′ code′ n r → r ≡ emitted.Counts m → m .statements ≡ n .statements
-          → Enters p names′ dos loops dos′ loops′ m s → Entered (n .statements) f (D .held) dos loops dos′ loops′ m s
+          → Filled (n .statements) f (D .held) (D .tables) (lent .code) names′ constants′ elements′ code′ n r → r ≡ emitted.Counts m → m .statements ≡ n .statements
+          → Enters p names′ (lent .dos) (lent .loops) dos′ loops′ m s → Entered (n .statements) f (D .held) (lent .dos) (lent .loops) dos′ loops′ m s
       entered-of {names′} {dos′ = dos′} {loops′} {s = s} {m} w e q x =
-          subst (λ (i : ℕ). Entered i f (D .held) dos loops dos′ loops′ m s) q
+          subst (λ (i : ℕ). Entered i f (D .held) (lent .dos) (lent .loops) dos′ loops′ m s) q
           (x f (D .held) (g .plans .plan)
           (subst (λ (i : ℕ). Lists (brings i f (D .held)) names′ (m .names) (m .cells)) (sym q) (w .lists m e))
           (subst (λ (i : ℕ). Known (brings i f (D .held)) (formFirst f)) (sym q) (rightly .known-first))
@@ -136,9 +136,9 @@ listed-room p items =
     let n : p .listed ≡ length ns = ap (λ (x : Plan). x .listed) (h .plan) in
     omega (arith, length-take (length (map capped ns)) items, ap length (h .listed), length-map ns capped))
 
-module _ {p : Plan} {first items names constants elements dos loops code rows jumps : List ℕ} {n : Counts} {k : ℕ} {f : Form} {D : Draft}
-    (g : Given p first items names constants elements dos loops code rows jumps n k f D)
-    {names′ constants′ elements′ code′ : List ℕ} {r : Emitted} {m : Counts} (w : Filled (n .statements) f (D .held) (D .tables) code names′ constants′ elements′ code′ n r)
+module _ {p : Plan} {first items : List ℕ} {lent : Words} {n : Counts} {k : ℕ} {f : Form} {D : Draft}
+    (g : Given p first items lent n k f D)
+    {names′ constants′ elements′ code′ : List ℕ} {r : Emitted} {m : Counts} (w : Filled (n .statements) f (D .held) (D .tables) (lent .code) names′ constants′ elements′ code′ n r)
     (e : r ≡ emitted.Counts m) (o : Onward p n r) where
   pub code-grows : n .code ≤ m .code
   code-grows = omega (arith, w .code-count m e)
@@ -147,7 +147,7 @@ module _ {p : Plan} {first items names constants elements dos loops code rows ju
     later : After f m l
     later = after f (g .plans .plan) c x
 
-    pub jumping : Fit n → n .statements < 400 → length jumps ≡ 1424 → Jumping p items jumps (l .jumps)
+    pub jumping : Fit n → n .statements < 400 → length (lent .jumps) ≡ 1424 → Jumping p items (lent .jumps) (l .jumps)
     jumping h few long =
         record {
           low = low-numbers (lawful1401 k) f (g .plans) (g .passed .right-13);
@@ -171,38 +171,38 @@ module _ {p : Plan} {first items names constants elements dos loops code rows ju
 
 -- ---- the outcomes
 
-module _ {p : Plan} (number : ℕ) {first items names constants elements dos loops code rows jumps : List ℕ} {n : Counts}
-    (names″ constants″ elements″ dos″ loops″ code″ rows″ jumps″ : List ℕ) {a : Bool} (ra : RightArrays p items names (n .names) a) where
-  pub refused-15 : a ≡ false → (D : Draft) → Kept D names constants elements dos loops code rows jumps n
-      → ComesPlanned p number first items (n .statements) D names″ constants″ elements″ dos″ loops″ code″ rows″ jumps″ (outcome.Refused 15)
+module _ {p : Plan} (number : ℕ) {first items : List ℕ} {lent : Words} {n : Counts}
+    (lent″ : Words) {a : Bool} (ra : RightArrays p items (lent .names) (n .names) a) where
+  pub refused-15 : a ≡ false → (D : Draft) → Kept D lent n
+      → ComesPlanned p number first items (n .statements) D lent″ (outcome.Refused 15)
   unfolding Judged
   refused-15 e D kept k f t pl fa pa M fr =
-      let g : Given p first items names constants elements dos loops code rows jumps n k f D = record { plans = pl; first-are = fa; passed = pa; kept = kept; fresh = fr } in
+      let g : Given p first items lent n k f D = record { plans = pl; first-are = fa; passed = pa; kept = kept; fresh = fr } in
       judged-15 (n .statements) t pa (as-15 g M (sym (is-15 g ra) ∙ e))
 
-  module _ (ea : a ≡ true) {b : Bool} (rb : RightOperands p first items names (n .names) b) where
-    pub refused-16 : b ≡ false → (D : Draft) → Kept D names constants elements dos loops code rows jumps n
-        → ComesPlanned p number first items (n .statements) D names″ constants″ elements″ dos″ loops″ code″ rows″ jumps″ (outcome.Refused 16)
+  module _ (ea : a ≡ true) {b : Bool} (rb : RightOperands p first items (lent .names) (n .names) b) where
+    pub refused-16 : b ≡ false → (D : Draft) → Kept D lent n
+        → ComesPlanned p number first items (n .statements) D lent″ (outcome.Refused 16)
     unfolding Judged
     refused-16 e D kept k f t pl fa pa M fr =
-        let g : Given p first items names constants elements dos loops code rows jumps n k f D = record { plans = pl; first-are = fa; passed = pa; kept = kept; fresh = fr } in
+        let g : Given p first items lent n k f D = record { plans = pl; first-are = fa; passed = pa; kept = kept; fresh = fr } in
         judged-16 (n .statements) t pa (as-15 g M (sym (is-15 g ra) ∙ ea)) (as-16 g M (sym (is-16 g rb) ∙ e))
 
-    module _ (eb : b ≡ true) {names′ constants′ elements′ code′ : List ℕ} {r : Emitted} (fills : Fills p first items names constants elements code names′ constants′ elements′ code′ n r) where
-      pub no-room : r ≡ emitted.Full → (D : Draft) → Kept D names constants elements dos loops code rows jumps n
-          → ComesPlanned p number first items (n .statements) D names″ constants″ elements″ dos″ loops″ code″ rows″ jumps″ (outcome.Refused 18)
+    module _ (eb : b ≡ true) {names′ constants′ elements′ code′ : List ℕ} {r : Emitted} (fills : Fills p first items (lent .names) (lent .constants) (lent .elements) (lent .code) names′ constants′ elements′ code′ n r) where
+      pub no-room : r ≡ emitted.Full → (D : Draft) → Kept D lent n
+          → ComesPlanned p number first items (n .statements) D lent″ (outcome.Refused 18)
       unfolding Judged
       no-room e D kept k f t pl fa pa M fr =
-          let g : Given p first items names constants elements dos loops code rows jumps n k f D = record { plans = pl; first-are = fa; passed = pa; kept = kept; fresh = fr } in
+          let g : Given p first items lent n k f D = record { plans = pl; first-are = fa; passed = pa; kept = kept; fresh = fr } in
           judged-18 (n .statements) t pa (as-15 g M (sym (is-15 g ra) ∙ ea)) (as-16 g M (sym (is-16 g rb) ∙ eb))
           (full-18 kept f number M (filled-of g ra ea rb eb fills) e)
 
       module _ {m : Counts} (e : r ≡ emitted.Counts m) (o : Onward p n r) {s : Emitted} (c : Counted p m s) where
-        pub too-many : s ≡ emitted.Full → (D : Draft) → Kept D names constants elements dos loops code rows jumps n
-            → ComesPlanned p number first items (n .statements) D names″ constants″ elements″ dos″ loops″ code″ rows″ jumps″ (outcome.Refused 18)
+        pub too-many : s ≡ emitted.Full → (D : Draft) → Kept D lent n
+            → ComesPlanned p number first items (n .statements) D lent″ (outcome.Refused 18)
         unfolding Judged
         too-many x D kept k f t pl fa pa M fr =
-            let g : Given p first items names constants elements dos loops code rows jumps n k f D = record { plans = pl; first-are = fa; passed = pa; kept = kept; fresh = fr } in
+            let g : Given p first items lent n k f D = record { plans = pl; first-are = fa; passed = pa; kept = kept; fresh = fr } in
             let many = c .full x in
             judged-18 (n .statements) t pa (as-15 g M (sym (is-15 g ra) ∙ ea)) (as-16 g M (sym (is-16 g rb) ∙ eb))
             (dos-18 kept f number M (of-kind p f (pl .plan) 4 (many .0)) (omega (arith, o .dos m e, many .1)))

@@ -20,6 +20,7 @@ use Rattle.items.specs.Parsed.{Put}
 use Rattle.forms.specs.declared.Statement.{Statement}
 use Rattle.draft.specs.declared.Counts.{Counts}
 use Rattle.draft.specs.Parts.{itemsWords, formFirst}
+use Rattle.draft.specs.Kept.{Words}
 use Rattle.draft.specs.Draft.{Draft}
 use Rattle.limits.specs.Tests.{lowest, ofStatement, exitsIn}
 use Rattle.limits.proofs.Book.{of-form, exits-fit}
@@ -104,22 +105,22 @@ first-in {f} {p} {items} {a} {b} {top} h q =
 
 -- ---- outcomes
 
-pub comes-low : (number k q w : ℕ) {s : Statement} {items : List ℕ} {D : Draft} (names constants elements dos loops code rows jumps : List ℕ) → w ≡ ofStatement k items s → (w ≡ 0 → ⊥)
-    → Comes s number k items q D names constants elements dos loops code rows jumps (outcome.Refused w)
+pub comes-low : (number k q w : ℕ) {s : Statement} {items : List ℕ} {D : Draft} (lent : Words) → w ≡ ofStatement k items s → (w ≡ 0 → ⊥)
+    → Comes s number k items q D lent (outcome.Refused w)
 unfolding Judged
-comes-low number k q w names constants elements dos loops code rows jumps e h R t M fr = refused-low R k q w t e h
+comes-low number k q w lent e h R t M fr = refused-low R k q w t e h
 
-pub comes-planned : (number k q : ℕ) {s : Statement} {items after a b : List ℕ} {p : Plan} {top : ℕ} {D : Draft} (names constants elements dos loops code rows jumps : List ℕ) (r : Outcome)
+pub comes-planned : (number k q : ℕ) {s : Statement} {items after a b : List ℕ} {p : Plan} {top : ℕ} {D : Draft} (lent : Words) (r : Outcome)
     → 1 ≤ k → k ≤ 9 → 0 ≡ ofStatement k items s → 6 ≤ length items → length after ≡ length items → Planned s items after p → Put a b 0 (firstWords p) top
-    → ComesPlanned p number (take (top - 0) (drop 0 b)) after q D names constants elements dos loops code rows jumps r
-    → Comes s number k items q D names constants elements dos loops code rows jumps r
-comes-planned number k q₀ names constants elements dos loops code rows jumps r x y e six long h q c R t M fr =
+    → ComesPlanned p number (take (top - 0) (drop 0 b)) after q D lent r
+    → Comes s number k items q D lent r
+comes-planned number k q₀ lent r x y e six long h q c R t M fr =
     let pl = plans-in R six long h in
     c k (R .form) t pl (first-in pl q) (passed-of R k x y e) M fr
 
-pub planning : {s : Statement} {number k : ℕ} {items after a b : List ℕ} {p : Plan} {top : ℕ} {names constants elements dos loops code rows jumps : List ℕ} {n : Counts}
-    → Ready s number k items names constants elements dos loops code rows jumps n → 0 ≡ ofStatement k items s → length after ≡ length items → Planned s items after p
-    → Put a b 0 (firstWords p) top → Planning p (take (top - 0) (drop 0 b)) after names constants elements dos loops code rows jumps n
+pub planning : {s : Statement} {number k : ℕ} {items after a b : List ℕ} {p : Plan} {top : ℕ} {lent : Words} {n : Counts}
+    → Ready s number k items lent n → 0 ≡ ofStatement k items s → length after ≡ length items → Planned s items after p
+    → Put a b 0 (firstWords p) top → Planning p (take (top - 0) (drop 0 b)) after lent n
 planning {k = k} h e long pl q =
     let R = h .reading in
     let plans = plans-in R (omega (arith, h .items-long)) long pl in

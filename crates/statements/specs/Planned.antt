@@ -8,26 +8,26 @@ use Rattle.rules_deck.specs.Judge.{Taken}
 use Rattle.draft.specs.declared.Counts.{Counts}
 use Rattle.draft.specs.Parts.{itemsWords, formFirst}
 use Rattle.draft.specs.Draft.{Draft}
-use Rattle.draft.specs.Kept.{Fit, Room, Kept, Matches}
+use Rattle.draft.specs.Kept.{Words, Fit, Room, Kept, Matches}
 use Rattle.plans.specs.declared.Plan.{Plan}
 use Rattle.plans.specs.Plans.{Plans, Readied}
 use Rattle.statements.specs.declared.Outcome.{Outcome}
 use Rattle.statements.specs.Taking.{Fresh, Judged}
 use Rattle.statements.specs.Steps.{Passed}
 
-pub record Planning (p : Plan) (first items names constants elements dos loops code rows jumps : List ℕ) (n : Counts) : Type 0 where
+pub record Planning (p : Plan) (first items : List ℕ) (lent : Words) (n : Counts) : Type 0 where
   pub readied : Readied p first items
   pub digits : ℕ
   pub passed : Passed digits (readied .form)
-  pub room : Room names constants elements dos loops code rows jumps
+  pub room : Room lent
   pub fit : Fit n
   pub few : n .statements < 400
   pub draft : Draft
-  pub kept : Kept draft names constants elements dos loops code rows jumps n
+  pub kept : Kept draft lent n
   pub fresh : Fresh (n .statements) draft
 
 -- for any form of this plan, after what the draft D has
-abbrev pub ComesPlanned : Plan → ℕ → List ℕ → List ℕ → ℕ → Draft → (names constants elements dos loops code rows jumps : List ℕ) → Outcome → Type 0
-ComesPlanned p number first items q D names constants elements dos loops code rows jumps r =
+abbrev pub ComesPlanned : Plan → ℕ → List ℕ → List ℕ → ℕ → Draft → Words → Outcome → Type 0
+ComesPlanned p number first items q D lent r =
     (k : ℕ) (f : Form) (t : Taken) → Plans f items p → first ≡ itemsWords (formFirst f) → Passed k f → Matches t D → Fresh q D
-    → Judged k q (record { number = number; form = f }) t D names constants elements dos loops code rows jumps r
+    → Judged k q (record { number = number; form = f }) t D lent r

@@ -17,6 +17,7 @@ use Rattle.rules_deck.specs.Cards.{rightDigits}
 use Rattle.rules_deck.specs.Grammar.{formOf}
 use Rattle.rules_deck.specs.Judge.{right11, right12, right13, right14, right15}
 use Rattle.draft.specs.declared.Counts.{Counts}
+use Rattle.draft.specs.Counts.{withDo, withMarks}
 use Rattle.draft.specs.Parts.{itemsWords, formFirst, formItems}
 use Rattle.draft.specs.Names.{Lists, Told, Known, namesFit}
 use Rattle.draft.specs.Draft.{loopWords, entriesOf, draftCode}
@@ -29,20 +30,6 @@ use Rattle.marks.specs.Marks.{numbersOf, setOf}
 use Rattle.endings.specs.Endings.{doesOf}
 
 -- ---- cells and code
-
-abbrev pub withNames : Counts → ℕ → ℕ → Counts
-withNames n names cells =
-    record {
-      names = names;
-      cells = cells;
-      constants = n .constants;
-      elements = n .elements;
-      exits = n .exits;
-      dos = n .dos;
-      code = n .code;
-      jumps = n .jumps;
-      statements = n .statements;
-    }
 
 -- whatever the tables hold
 pub record Onward (p : Plan) (n : Counts) (r : Emitted) : Type 0 where
@@ -76,20 +63,6 @@ Fills p first items names constants elements words names′ constants′ element
 
 -- ---- a DO's entries
 
-abbrev pub withDo : Counts → Counts
-withDo m =
-    record {
-      names = m .names;
-      cells = m .cells;
-      constants = m .constants;
-      elements = m .elements;
-      exits = m .exits;
-      dos = m .dos + 1;
-      code = m .code;
-      jumps = m .jumps;
-      statements = m .statements;
-    }
-
 pub record Entering (p : Plan) (names dos loops : List ℕ) (m : Counts) : Type 0 where
   pub names-long : length names ≡ 400
   pub dos-long : length dos ≡ 256
@@ -119,22 +92,8 @@ Enters p names dos loops dos′ loops′ m r =
 
 -- ---- the row and the jumps
 
-abbrev pub marked : Counts → ℕ → Counts
-marked m jumps =
-    record {
-      names = m .names;
-      cells = m .cells;
-      constants = m .constants;
-      elements = m .elements;
-      exits = m .exits;
-      dos = m .dos;
-      code = m .code;
-      jumps = jumps;
-      statements = m .statements + 1;
-    }
-
 pub record Marked (p : Plan) (number words : ℕ) (items rows jumps rows′ jumps′ : List ℕ) (m r : Counts) : Type 0 where
-  pub is : r ≡ marked m (m .jumps + length (numbersOf p items))
+  pub is : r ≡ withMarks m (m .jumps + length (numbersOf p items))
   pub jumps-are : take (r .jumps) jumps′ ≡ take (m .jumps) jumps ++ numbersOf p items
   pub rows-are : take (5 * r .statements) rows′ ≡ take (5 * m .statements) rows ++ (number ∷ p .kind ∷ setOf p ∷ words ∷ length (numbersOf p items) ∷ [])
 

@@ -16,7 +16,7 @@ use Rattle.forms.specs.declared.Statement.{Statement}
 use Rattle.forms.specs.Statements.{formWords, statementOf}
 use Rattle.draft.specs.declared.Counts.{Counts}
 use Rattle.draft.specs.Draft.{Draft, drafts}
-use Rattle.draft.specs.Kept.{Fit, Room, Kept, Matches}
+use Rattle.draft.specs.Kept.{Words, Fit, Room, Kept, Matches}
 use Rattle.statements.specs.declared.Outcome.{Outcome}
 use Rattle.statements.specs.declared.Outcome.the-variants as outcome
 
@@ -34,35 +34,33 @@ abbrev pub Fresh : ℕ → Draft → Type 0
 Fresh q D = (p : ℕ) → q ≤ p → holds (isHidden p) (D .held) ≡ false
 
 -- what stands between the code and its limits; the tables hold some draft
-pub record Ready (s : Statement) (number k : ℕ) (items names constants elements dos loops code rows jumps : List ℕ) (n : Counts) : Type 0 where
+pub record Ready (s : Statement) (number k : ℕ) (items : List ℕ) (lent : Words) (n : Counts) : Type 0 where
   pub reading : Reading s items
   pub number-low : number ≤ 99999
   pub digits-some : 1 ≤ k
   pub digits-few : k ≤ 9
   pub items-long : 2651 ≤ length items
-  pub room : Room names constants elements dos loops code rows jumps
+  pub room : Room lent
   pub fit : Fit n
   pub statements-few : n .statements < 400
   pub draft : Draft
-  pub kept : Kept draft names constants elements dos loops code rows jumps n
+  pub kept : Kept draft lent n
   pub fresh : Fresh (n .statements) draft
 
 -- the tables hold the draft with the statement
-pub record Took (k q : ℕ) (st : trees.Statement) (t : Taken) (D : Draft) (names constants elements dos loops code rows jumps : List ℕ) (n : Counts) : Type 0 where
+pub record Took (k q : ℕ) (st : trees.Statement) (t : Taken) (D : Draft) (lent : Words) (n : Counts) : Type 0 where
   pub right : judgeForm (house1401 k) q (st .form) t ≡ none
-  pub kept : Kept (drafts q st D) names constants elements dos loops code rows jumps n
+  pub kept : Kept (drafts q st D) lent n
   pub fit : Fit n
   pub counted : n .statements ≡ suc q
 
 -- where it is refused, the tables are free
-unfoldable pub Judged :
-    (k q : ℕ) (st : trees.Statement) (t : Taken) (D : Draft) (names constants elements dos loops code rows jumps : List ℕ) → Outcome → Type 0
-Judged k q st t D names constants elements dos loops code rows jumps (outcome.Refused m) = judgeForm (house1401 k) q (st .form) t ≡ some m
-Judged k q st t D names constants elements dos loops code rows jumps (outcome.Taken n) =
-    Took k q st t D names constants elements dos loops code rows jumps n
+unfoldable pub Judged : (k q : ℕ) (st : trees.Statement) (t : Taken) (D : Draft) (lent : Words) → Outcome → Type 0
+Judged k q st t D lent (outcome.Refused m) = judgeForm (house1401 k) q (st .form) t ≡ some m
+Judged k q st t D lent (outcome.Taken n) = Took k q st t D lent n
 
 -- the statement at position q, after what the draft D has
-abbrev pub Comes : Statement → ℕ → ℕ → List ℕ → ℕ → Draft → (names constants elements dos loops code rows jumps : List ℕ) → Outcome → Type 0
-Comes s number k items q D names constants elements dos loops code rows jumps r =
+abbrev pub Comes : Statement → ℕ → ℕ → List ℕ → ℕ → Draft → Words → Outcome → Type 0
+Comes s number k items q D lent r =
     (R : Reading s items) (t : Taken) → Matches t D → Fresh q D
-    → Judged k q (record { number = number; form = R .form }) t D names constants elements dos loops code rows jumps r
+    → Judged k q (record { number = number; form = R .form }) t D lent r

@@ -1,13 +1,12 @@
 // One statement that was read: refused by 11 to 18, the lowest number first, or taken into the draft.
 ghost use Prim.Native.Nat.{_+_, _*_, _≤_};
 ghost use lib.ListN.{length};
-ghost use mathlib.Core.Path.{_≡_};
 ghost use Rattle.draft.specs.Draft.{Draft};
-ghost use Rattle.draft.specs.Kept.{Fit, Kept};
+ghost use Rattle.draft.specs.Kept.{asWords, Fit, Kept};
 ghost use Rattle.emission.specs.Contracts.{Lent};
 ghost use Rattle.marks.specs.Marks.{Jumping};
 ghost use Rattle.plans.specs.Plans.{Readied};
-ghost use Rattle.statements.specs.Steps.{withNames, Onward, Fills, withDo, Entering, Counted, Enters, marked, Marked};
+ghost use Rattle.statements.specs.Steps.{Onward, Fills, Entering, Counted, Enters, Marked};
 ghost use Rattle.statements.specs.Taking.{Ready, Comes};
 ghost use Rattle.statements.specs.Planned.{Planning, ComesPlanned};
 use cards::Number;
@@ -21,22 +20,6 @@ use plans::Plan;
 pub enum Outcome {
     Refused(u32),
     Taken(Counts),
-}
-
-fn with_names(n: Counts, names: usize, cells: usize) -> Counts
-    ensures { λ r. ⌜ r ≡ withNames n names cells ⌝ }
-{
-    Counts {
-        names,
-        cells,
-        constants: n.constants,
-        elements: n.elements,
-        exits: n.exits,
-        dos: n.dos,
-        code: n.code,
-        jumps: n.jumps,
-        statements: n.statements,
-    }
 }
 
 // The cells that a form brings, and its code.
@@ -63,25 +46,8 @@ fn fill(
     ) else {
         return Emitted::Full;
     };
-    let m = with_names(n, a, b);
+    let m = draft::with_names(n, a, b);
     endings::emit_plan(p, items, names, constants, elements, code, m)
-}
-
-fn with_do(m: Counts) -> Counts
-    requires { ⌜ m .dos ≤ 64 ⌝ }
-    ensures { λ r. ⌜ r ≡ withDo m ⌝ }
-{
-    Counts {
-        names: m.names,
-        cells: m.cells,
-        constants: m.constants,
-        elements: m.elements,
-        exits: m.exits,
-        dos: m.dos + 1,
-        code: m.code,
-        jumps: m.jumps,
-        statements: m.statements,
-    }
 }
 
 // A DO's entry and its loop; its hidden cells are the last.
@@ -101,24 +67,7 @@ fn enter_do(p: Plan, names: &[u64], dos: &mut [u32], loops: &mut [u32], m: Count
     let limit = (m.cells - 2) as u32;
     marks::put_do(dos, m.dos, variable, limit);
     marks::put_loop(loops, m.dos, m.statements, m.jumps);
-    Emitted::Counts(with_do(m))
-}
-
-fn with_marks(m: Counts, jumps: usize) -> Counts
-    requires { ⌜ m .statements ≤ 400 ⌝ }
-    ensures { λ r. ⌜ r ≡ marked m jumps ⌝ }
-{
-    Counts {
-        names: m.names,
-        cells: m.cells,
-        constants: m.constants,
-        elements: m.elements,
-        exits: m.exits,
-        dos: m.dos,
-        code: m.code,
-        jumps,
-        statements: m.statements + 1,
-    }
+    Emitted::Counts(draft::with_do(m))
 }
 
 // The statement's numbers, and its row.
@@ -145,7 +94,7 @@ fn mark(
         words,
         count,
     );
-    with_marks(m, top)
+    draft::with_marks(m, top)
 }
 
 // 15, 16 and 18, in this order.
@@ -164,8 +113,8 @@ fn take_planned(
     jumps: &mut [u32],
     n: Counts,
 ) -> Outcome
-    requires { ⌜ Planning p (now first) (now items) (now names) (now constants) (now elements) (now dos) (now loops) (now code) (now rows) (now jumps) n ⌝ }
-    ensures { λ r. ⌜ ((D : Draft) → Kept D (now (names .entry)) (now (constants .entry)) (now (elements .entry)) (now (dos .entry)) (now (loops .entry)) (now (code .entry)) (now (rows .entry)) (now (jumps .entry)) n → ComesPlanned p (number .0) (now (first .entry)) (now (items .entry)) (n .statements) D (now (names .exit)) (now (constants .exit)) (now (elements .exit)) (now (dos .exit)) (now (loops .exit)) (now (code .exit)) (now (rows .exit)) (now (jumps .exit)) r) ⌝ }
+    requires { ⌜ Planning p (now first) (now items) (asWords (now names) (now constants) (now elements) (now dos) (now loops) (now code) (now rows) (now jumps)) n ⌝ }
+    ensures { λ r. ⌜ ((D : Draft) → Kept D (asWords (now (names .entry)) (now (constants .entry)) (now (elements .entry)) (now (dos .entry)) (now (loops .entry)) (now (code .entry)) (now (rows .entry)) (now (jumps .entry))) n → ComesPlanned p (number .0) (now (first .entry)) (now (items .entry)) (n .statements) D (asWords (now (names .exit)) (now (constants .exit)) (now (elements .exit)) (now (dos .exit)) (now (loops .exit)) (now (code .exit)) (now (rows .exit)) (now (jumps .exit))) r) ⌝ }
 {
     if !naming::right_arrays(p, first, items, names, n.names) {
         return Outcome::Refused(15);
@@ -199,8 +148,8 @@ pub fn take(
     jumps: &mut [u32],
     n: Counts,
 ) -> Outcome
-    requires { ⌜ Ready s (number .0) k (now items) (now names) (now constants) (now elements) (now dos) (now loops) (now code) (now rows) (now jumps) n ⌝ }
-    ensures { λ r. ⌜ ((D : Draft) → Kept D (now (names .entry)) (now (constants .entry)) (now (elements .entry)) (now (dos .entry)) (now (loops .entry)) (now (code .entry)) (now (rows .entry)) (now (jumps .entry)) n → Comes s (number .0) k (now (items .entry)) (n .statements) D (now (names .exit)) (now (constants .exit)) (now (elements .exit)) (now (dos .exit)) (now (loops .exit)) (now (code .exit)) (now (rows .exit)) (now (jumps .exit)) r) ⌝ }
+    requires { ⌜ Ready s (number .0) k (now items) (asWords (now names) (now constants) (now elements) (now dos) (now loops) (now code) (now rows) (now jumps)) n ⌝ }
+    ensures { λ r. ⌜ ((D : Draft) → Kept D (asWords (now (names .entry)) (now (constants .entry)) (now (elements .entry)) (now (dos .entry)) (now (loops .entry)) (now (code .entry)) (now (rows .entry)) (now (jumps .entry))) n → Comes s (number .0) k (now (items .entry)) (n .statements) D (asWords (now (names .exit)) (now (constants .exit)) (now (elements .exit)) (now (dos .exit)) (now (loops .exit)) (now (code .exit)) (now (rows .exit)) (now (jumps .exit))) r) ⌝ }
 {
     let wrong = limits::of_statement(k, items, s);
     if wrong != 0 {

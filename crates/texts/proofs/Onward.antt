@@ -72,7 +72,7 @@ module _ (content : Punched → List ℕ) where
     pub passes : card + passed (drop card (cardsOf deck)) ≡ next
     pub within : next ≤ length (cardsOf deck)
 
-  going : {deck : List ℕ} {card : ℕ} {table table′ : List ℕ} {r : Taken} {number : Number} {n next : ℕ} → ((p : Punched) → RightStatement p → length (content p) ≤ 660)
+  going : {deck : List ℕ} {card : ℕ} {table table′ : List ℕ} {r : Taken} {number : Number} {n next : ℕ} → ((k : ℕ) (p : Punched) → RightStatement (house1401 k) p → length (content p) ≤ 660)
       → Accepted deck → Takes content deck card table table′ r → r ≡ Statement number n next → Going deck card table table′ number n next
   going {deck} {card} {table} {table′} {r} {number} {n} {next} room a t f = go (held (drop card cards))
     where
@@ -88,7 +88,7 @@ module _ (content : Punched → List ℕ) where
           let s : Statement number n next ≡ Statement (record { 0 = p .number }) (length (content p)) (card + passed (drop card cards)) = sym f ∙ t .says ∙ ap (λ (ps : List Punched). firstOf content ps (card + passed (drop card cards))) e in
           let m : n ≡ length (content p) = cc in
           let k : card + passed (drop card cards) ≡ next = cc in
-          let fine = room p (each-head (subst (Each (RightStatement (house1401 (a .digits)))) e (each-from card cards (all-right deck a)))) in
+          let fine = room (a .digits) p (each-head (subst (Each (RightStatement (house1401 (a .digits)))) e (each-from card cards (all-right deck a)))) in
           let o : table′ ≡ over 0 (content p) table = t .put ∙ ap (λ (ps : List Punched). over 0 (firstContent content ps) table) e in
           record {
             taken = p;
@@ -118,7 +118,7 @@ Onward = Going punchedText
 
 pub onward : {deck : List ℕ} {card : ℕ} {text text′ : List ℕ} {r : Taken} {number : Number} {n next : ℕ} → Accepted deck → Takes punchedText deck card text text′ r
     → r ≡ Statement number n next → Onward deck card text text′ number n next
-onward a t f = going punchedText (λ p r. r .text-short) a t f
+onward a t f = going punchedText (λ k p r. r .text-short) a t f
 
 pub ended : {deck : List ℕ} {card : ℕ} {text text′ : List ℕ} {r : Taken} → Takes punchedText deck card text text′ r → r ≡ End → (grouped (drop card (cardsOf deck)) ≡ []) × (text′ ≡ text)
 ended t f = none-taken punchedText t f
@@ -139,7 +139,7 @@ module _ {deck : List ℕ} {card : ℕ} {raw raw′ : List ℕ} {r : Taken} (t :
 
   module _ {number : Number} {n next : ℕ} (a : Accepted deck) (f : r ≡ Statement number n next) where
     pub raw-going : Going punchedRaw deck card raw raw′ number n next
-    raw-going = going punchedRaw (λ p q. q .raw-short) a t f
+    raw-going = going punchedRaw (λ k p q. q .raw-short) a t f
 
     -- the table stays as long as it is
     pub raw-long : length raw ≡ 660 → length raw′ ≡ 660

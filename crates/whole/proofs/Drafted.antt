@@ -1,7 +1,7 @@
 -- Tables that hold a deck's draft hold what the whole is judged by.
 -- Assumes nothing.
 use mathlib.Core.Path.{_≡_, ap, _∙_}
-use Prim.Native.Nat.{ℕ, _*_}
+use Prim.Native.Nat.{_*_}
 use native.Mathlib.Omega.{arith}
 use mathlib.Core.List.{List}
 use lib.ListN.{length, take}
@@ -10,19 +10,19 @@ use Rattle.rules_shared.specs.Lists.{Each}
 use Rattle.rules_deck.specs.Trees.{Statement}
 use Rattle.draft.specs.declared.Counts.{Counts}
 use Rattle.draft.specs.Draft.{draftOf}
-use Rattle.draft.specs.Kept.{Fit, Room, Kept}
+use Rattle.draft.specs.Kept.{Words, Fit, Room, Kept}
 use Rattle.draft.specs.Sketch.{deckRows}
 use Rattle.draft.proofs.DraftDeck.{draft-rows, draft-jumps, draft-loops, rows-count}
 use Rattle.whole.specs.Whole.{SetsTold, Sketched, Whole, LowNumber}
 
-module _ (deck : List Statement) (names constants elements dos loops code rows jumps : List ℕ) (n : Counts)
-    (room : Room names constants elements dos loops code rows jumps) (fit : Fit n) (kept : Kept (draftOf deck) names constants elements dos loops code rows jumps n) (told : Each SetsTold deck) (numbered : Each LowNumber deck) where
-  pub sketched : Sketched deck rows (n .statements) loops (n .dos) jumps (n .jumps)
+module _ (deck : List Statement) (lent : Words) (n : Counts)
+    (room : Room lent) (fit : Fit n) (kept : Kept (draftOf deck) lent n) (told : Each SetsTold deck) (numbered : Each LowNumber deck) where
+  pub sketched : Sketched deck (lent .rows) (n .statements) (lent .loops) (n .dos) (lent .jumps) (n .jumps)
   sketched =
-      let are : take (5 * n .statements) rows ≡ deckRows deck = kept .rows-are ∙ draft-rows deck in
+      let are : take (5 * n .statements) (lent .rows) ≡ deckRows deck = kept .rows-are ∙ draft-rows deck in
       let few = fit .statements in
       let long = room .rows-long in
-      let taken = length-take-le (5 * n .statements) rows (omega arith) in
+      let taken = length-take-le (5 * n .statements) (lent .rows) (omega arith) in
       let same = ap length are in
       let many = rows-count deck in
       record {
@@ -34,7 +34,7 @@ module _ (deck : List Statement) (names constants elements dos loops code rows j
         numbered = numbered;
       }
 
-  pub whole : Whole rows (n .statements) loops (n .dos) jumps (n .jumps)
+  pub whole : Whole (lent .rows) (n .statements) (lent .loops) (n .dos) (lent .jumps) (n .jumps)
   whole =
       let few = fit .statements in
       let exits = fit .exits in

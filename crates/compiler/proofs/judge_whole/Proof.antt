@@ -13,7 +13,7 @@ judge-requires c κs =
     let st = c .before .before .before .before .before .before .before .before .before in
     let d = st .pre .deck in
     let h = st .pre .held in
-    whole d _ _ _ _ _ _ _ _ _ (h .room) (h .fit) (h .kept) (told h) (low h)
+    whole d _ _ (h .room) (h .fit) (h .kept) (told h) (low h)
 
 enum-known-verdict : tie.Need-enum-known-verdict
 enum-known-verdict c = search needs
@@ -29,7 +29,7 @@ put-positions-requires c κs =
     let st = c .before .before .before .before .before .before .before .before .before .before .before .before .before .before in
     let d = st .pre .deck in
     let h = st .pre .held in
-    (placed h (c .before .before .before .before .judge .result) (c .before .before .before .before .judge .ensures d (sketched d _ _ _ _ _ _ _ _ _ (h .room) (h .fit) (h .kept) (told h) (low h))) (c .before .before .enum-told .given .1), length-replicate {A = ℕ} 1424 0)
+    (placed h (c .before .before .before .before .judge .result) (c .before .before .before .before .judge .ensures d (sketched d _ _ (h .room) (h .fit) (h .kept) (told h) (low h))) (c .before .before .enum-told .given .1), length-replicate {A = ℕ} 1424 0)
 
 slice-aggregate-finish : tie.Need-slice-aggregate-finish
 slice-aggregate-finish c = search needs
@@ -39,7 +39,7 @@ finish-requires c κs =
     let st = c .before .before .before .before .before .before .before .before .before .before .before .before .before .before .before .before .before .before .before in
     let d = st .pre .deck in
     let h = st .pre .held in
-    record { deck = d; are = finished h (c .before .before .before .before .before .before .before .before .before .judge .result) (c .before .before .before .before .before .before .before .before .before .judge .ensures d (sketched d _ _ _ _ _ _ _ _ _ (h .room) (h .fit) (h .kept) (told h) (low h))) (c .before .before .before .before .before .before .before .enum-told .given .1) (c .before .before .before .before .put-positions .ensures) }
+    record { deck = d; are = finished h (c .before .before .before .before .before .before .before .before .before .judge .result) (c .before .before .before .before .before .before .before .before .before .judge .ensures d (sketched d _ _ (h .room) (h .fit) (h .kept) (told h) (low h))) (c .before .before .before .before .before .before .before .enum-told .given .1) (c .before .before .before .before .put-positions .ensures) }
 
 enum-known-length : tie.Need-enum-known-length
 enum-known-length c = search needs
@@ -55,7 +55,7 @@ returns : tie.Need-returns
 returns c =
     let st = c .before .before .before .before .before .before .before .before .before .before .before .before .before in
     λ d h.
-    whole-refused h (st .args .output .now) (c .before .before .before .judge .result) (c .before .before .before .judge .ensures d (sketched d _ _ _ _ _ _ _ _ _ (h .room) (h .fit) (h .kept) (told h) (low h))) (c .before .verdict .given .1)
+    whole-refused h (st .args .output .now) (c .before .before .before .judge .result) (c .before .before .before .judge .ensures d (sketched d _ _ (h .room) (h .fit) (h .kept) (told h) (low h))) (c .before .verdict .given .1)
 
 same-length : tie.Need-same-length
 same-length c = search needs
@@ -67,7 +67,7 @@ returns-2 : tie.Need-returns-2
 returns-2 c =
     let st = c .before .before .before .before .before .before .before .before .before .before .before .before .before .before .before .before .before .before .before .before .before .before .before .before .before .before .before in
     λ d h.
-    whole-object h (st .args .output .now) _ (c .before .before .before .before .before .before .before .before .before .before .before .before .before .before .before .before .before .judge .result) (c .before .before .before .before .before .before .before .before .before .before .before .before .before .before .before .before .before .judge .ensures d (sketched d _ _ _ _ _ _ _ _ _ (h .room) (h .fit) (h .kept) (told h) (low h))) (c .before .before .before .before .before .before .before .before .before .before .before .before .before .before .before .enum-told .given .1) _ (c .before .before .before .before .before .before .before .finish .ensures .0 d (finished h (c .before .before .before .before .before .before .before .before .before .before .before .before .before .before .before .before .before .judge .result) (c .before .before .before .before .before .before .before .before .before .before .before .before .before .before .before .before .before .judge .ensures d (sketched d _ _ _ _ _ _ _ _ _ (h .room) (h .fit) (h .kept) (told h) (low h))) (c .before .before .before .before .before .before .before .before .before .before .before .before .before .before .before .enum-told .given .1) (c .before .before .before .before .before .before .before .before .before .before .before .before .put-positions .ensures))) (c .before .length .given .1)
+    whole-object h (st .args .output .now) _ (c .before .before .before .before .before .before .before .before .before .before .before .before .before .before .before .before .before .judge .result) (c .before .before .before .before .before .before .before .before .before .before .before .before .before .before .before .before .before .judge .ensures d (sketched d _ _ (h .room) (h .fit) (h .kept) (told h) (low h))) (c .before .before .before .before .before .before .before .before .before .before .before .before .before .before .before .enum-told .given .1) _ (c .before .before .before .before .before .before .before .finish .ensures .0 d (finished h (c .before .before .before .before .before .before .before .before .before .before .before .before .before .before .before .before .before .judge .result) (c .before .before .before .before .before .before .before .before .before .before .before .before .before .before .before .before .before .judge .ensures d (sketched d _ _ (h .room) (h .fit) (h .kept) (told h) (low h))) (c .before .before .before .before .before .before .before .before .before .before .before .before .before .before .before .enum-told .given .1) (c .before .before .before .before .before .before .before .before .before .before .before .before .put-positions .ensures))) (c .before .length .given .1)
 
 same-length-3 : tie.Need-same-length-3
 same-length-3 c = search needs
@@ -79,7 +79,7 @@ returns-3 : tie.Need-returns-3
 returns-3 c =
     let st = c .before .before .before .before .before .before .before .before .before .before .before .before .before .before .before .before .before .before .before .before .before .before .before .before .before .before in
     λ d h.
-    whole-short h (st .args .output .now) _ (c .before .before .before .before .before .before .before .before .before .before .before .before .before .before .before .before .judge .result) (c .before .before .before .before .before .before .before .before .before .before .before .before .before .before .before .before .judge .ensures d (sketched d _ _ _ _ _ _ _ _ _ (h .room) (h .fit) (h .kept) (told h) (low h))) (c .before .before .before .before .before .before .before .before .before .before .before .before .before .before .enum-told .given .1) _ (c .before .before .before .before .before .before .finish .ensures .0 d (finished h (c .before .before .before .before .before .before .before .before .before .before .before .before .before .before .before .before .judge .result) (c .before .before .before .before .before .before .before .before .before .before .before .before .before .before .before .before .judge .ensures d (sketched d _ _ _ _ _ _ _ _ _ (h .room) (h .fit) (h .kept) (told h) (low h))) (c .before .before .before .before .before .before .before .before .before .before .before .before .before .before .enum-told .given .1) (c .before .before .before .before .before .before .before .before .before .before .before .put-positions .ensures))) (c .enum-told2 .given .1)
+    whole-short h (st .args .output .now) _ (c .before .before .before .before .before .before .before .before .before .before .before .before .before .before .before .before .judge .result) (c .before .before .before .before .before .before .before .before .before .before .before .before .before .before .before .before .judge .ensures d (sketched d _ _ (h .room) (h .fit) (h .kept) (told h) (low h))) (c .before .before .before .before .before .before .before .before .before .before .before .before .before .before .enum-told .given .1) _ (c .before .before .before .before .before .before .finish .ensures .0 d (finished h (c .before .before .before .before .before .before .before .before .before .before .before .before .before .before .before .before .judge .result) (c .before .before .before .before .before .before .before .before .before .before .before .before .before .before .before .before .judge .ensures d (sketched d _ _ (h .room) (h .fit) (h .kept) (told h) (low h))) (c .before .before .before .before .before .before .before .before .before .before .before .before .before .before .enum-told .given .1) (c .before .before .before .before .before .before .before .before .before .before .before .put-positions .ensures))) (c .enum-told2 .given .1)
 
 pub judge-whole-spec : {M : Type 1} → statement M
 judge-whole-spec =

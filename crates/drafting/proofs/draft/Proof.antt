@@ -4,6 +4,7 @@ use Prim.Native.Nat.{_-_}
 use native.Mathlib.Omega.{arith}
 use lib.ListN.{length}
 use Rattle.rules_deck.specs.Cards.{cardsOf}
+use Rattle.draft.specs.Kept.{asWords}
 use Rattle.drafting.proofs.Round.{Round, round-start, round-ahead, turn-ended, turn-refused, turn-further, turn-on}
 use borrow.Author.Needs.{needs}
 use Rattle.drafting.proofs.draft.Statement.{statement}
@@ -13,14 +14,14 @@ use Rattle.drafting.proofs.draft.Lts as lts
 use Rattle.next_statement.proofs.take_next.Reads as take-next-reads
 
 abbrev Inv-loop : tie.InvT-loop
-Inv-loop k deck items₀ names₀ constants₀ elements₀ dos₀ loops₀ code₀ rows₀ jumps₀ n₀ card₀ items names constants elements dos loops code rows jumps n card = Round k deck items₀ names₀ constants₀ elements₀ dos₀ loops₀ code₀ rows₀ jumps₀ card items names constants elements dos loops code rows jumps n
+Inv-loop k deck items₀ names₀ constants₀ elements₀ dos₀ loops₀ code₀ rows₀ jumps₀ n₀ card₀ items names constants elements dos loops code rows jumps n card = Round k deck items₀ (asWords names₀ constants₀ elements₀ dos₀ loops₀ code₀ rows₀ jumps₀) card items (asWords names constants elements dos loops code rows jumps) n
 
 abbrev μ-loop : tie.MeasureT-loop
 μ-loop k deck items₀ names₀ constants₀ elements₀ dos₀ loops₀ code₀ rows₀ jumps₀ n₀ card₀ items names constants elements dos loops code rows jumps n card = length (cardsOf deck) - card
 
 loop-holds : tie.Need-loop-holds Inv-loop μ-loop
 loop-holds c =
-    round-start _ _ _ _ _ _ _ _ _ _ _
+    round-start _ _ _ _
 
 take-next-requires : tie.Need-take-next-requires Inv-loop μ-loop
 take-next-requires c κs =

@@ -2,6 +2,7 @@
 use mathlib.Core.Path.{sym, _∙_}
 use borrow.Author.Needs.{needs}
 use Rattle.number.specs.Code.{lossOf}
+use Rattle.rules_shared.proofs.ChooseLaws.{marked-no}
 use Rattle.registers.proofs.Laws.{marked-first, marked-before}
 use Rattle.registers.proofs.mark_after.Statement.{statement}
 use Rattle.registers.proofs.mark_after.Tie as tie
@@ -26,7 +27,9 @@ returns-2 c =
     marked-before (a .mark) (lossOf (a .loss)) (a .index) (sym (c .before .before .is-loss .ensures) ∙ c .before .if1 .taken) (c .if2 .left)
 
 returns-3 : tie.Need-returns-3
-returns-3 c = search needs
+returns-3 c =
+    let a = c .before .before .args in
+    sym (marked-no (a .mark) (lossOf (a .loss)) (a .index) (sym (c .before .is-loss .ensures) ∙ c .if1 .left))
 
 pub mark-after-spec : {M : Type 1} → statement M
 mark-after-spec =

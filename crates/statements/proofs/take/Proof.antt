@@ -18,7 +18,7 @@ same-length c = search needs
 returns : tie.Need-returns
 returns c =
     let st = c .before .before .before .before .before .before .before .before .before .before .before .before in
-    λ D kept. comes-low (st .args .number .0) (st .args .k) (st .args .n .statements) _ _ _ _ _ _ _ _ _ (c .before .of-statement .ensures) (c .if1 .taken)
+    λ D kept. comes-low (st .args .number .0) (st .args .k) (st .args .n .statements) _ _ (c .before .of-statement .ensures) (c .if1 .taken)
 
 plan-of-requires : tie.Need-plan-of-requires
 plan-of-requires c κs = search needs
@@ -78,7 +78,7 @@ returns-2 c =
     let st = c .before .before .before .before .before .before .before .before .before .before .before .before .before .before .before .before .before .before .before .before .before .before .before .before .before .before .before .before .before .before .before .before .before .before .before .before .before .before .before .before .before .before .before .before .before .before .before in
     let h = st .pre in
     let e = sym (c .before .before .before .before .before .before .before .before .before .before .before .before .before .before .before .before .before .before .before .before .before .before .before .before .before .before .before .before .before .before .before .before .before .before .before .if1 .left) ∙ c .before .before .before .before .before .before .before .before .before .before .before .before .before .before .before .before .before .before .before .before .before .before .before .before .before .before .before .before .before .before .before .before .before .before .before .before .of-statement .ensures in
-    λ D kept. comes-planned (st .args .number .0) (st .args .k) (st .args .n .statements) _ _ _ _ _ _ _ _ _ (h .digits-some) (h .digits-few) e (omega (arith, h .items-long)) (c .before .before .before .before .before .before .before .before .before .before .before .before .before .before .before .before .before .before .before .before .before .before .before .before .before .before .before .before .before .before .before .before .before .plan-of .kept .1 .0) (c .before .before .before .before .before .before .before .before .before .before .before .before .before .before .before .before .before .before .before .before .before .before .before .before .before .before .before .before .before .before .before .before .before .plan-of .ensures) (c .before .before .before .before .before .before .before .before .before .before .before .before .before .before .before .before .before .before .before .before .before .before .before .before .before .before .before .before .before .put-first .ensures) (c .before .before .before .before .before .before .before .before .before .before .before .before .before .before .before .before .take-planned .ensures D kept)
+    λ D kept. comes-planned (st .args .number .0) (st .args .k) (st .args .n .statements) _ _ (h .digits-some) (h .digits-few) e (omega (arith, h .items-long)) (c .before .before .before .before .before .before .before .before .before .before .before .before .before .before .before .before .before .before .before .before .before .before .before .before .before .before .before .before .before .before .before .before .before .plan-of .kept .1 .0) (c .before .before .before .before .before .before .before .before .before .before .before .before .before .before .before .before .before .before .before .before .before .before .before .before .before .before .before .before .before .before .before .before .before .plan-of .ensures) (c .before .before .before .before .before .before .before .before .before .before .before .before .before .before .before .before .before .before .before .before .before .before .before .before .before .before .before .before .before .put-first .ensures) (c .before .before .before .before .before .before .before .before .before .before .before .before .before .before .before .before .take-planned .ensures D kept)
 
 pub take-spec : {M : Type 1} → statement M
 take-spec =

@@ -21,7 +21,7 @@ returns : tie.Need-returns
 returns c =
     let st = c .before .before .before .before .before .before .before .before .before .before .before .before .before in
     let ra = c .before .right-arrays .ensures in
-    refused-15 (st .args .number .0) _ _ _ _ _ _ _ _ ra (not-true _ (c .if1 .taken))
+    refused-15 (st .args .number .0) _ ra (not-true _ (c .if1 .taken))
 
 right-operands-requires : tie.Need-right-operands-requires
 right-operands-requires c κs =
@@ -38,7 +38,7 @@ returns-2 c =
     let ra = c .before .before .before .before .right-arrays .ensures in
     let ea = not-false _ (c .before .before .before .if1 .left) in
     let rb = c .before .right-operands .ensures in
-    refused-16 (st .args .number .0) _ _ _ _ _ _ _ _ ra ea rb (not-true _ (c .if2 .taken))
+    refused-16 (st .args .number .0) _ ra ea rb (not-true _ (c .if2 .taken))
 
 fill-requires : tie.Need-fill-requires
 fill-requires c κs =
@@ -72,7 +72,7 @@ returns-3 c =
     let rb = c .before .before .before .before .before .before .before .before .before .before .before .before .before .before .before .before .right-operands .ensures in
     let eb = not-false _ (c .before .before .before .before .before .before .before .before .before .before .before .before .before .before .before .if2 .left) in
     let fills = c .before .before .before .before .before .before .before .before .before .before .fill .ensures .1 in
-    no-room (st .args .number .0) _ _ _ _ _ _ _ _ ra ea rb eb fills (c .enum-told .given .1)
+    no-room (st .args .number .0) _ ra ea rb eb fills (c .enum-told .given .1)
 
 enter-do-requires : tie.Need-enter-do-requires
 enter-do-requires c κs =
@@ -121,7 +121,7 @@ returns-4 c =
     let eb = not-false _ (c .before .before .before .before .before .before .before .before .before .before .before .before .before .before .before .before .before .before .before .before .before .before .before .before .before .before .if2 .left) in
     let o = c .before .before .before .before .before .before .before .before .before .before .before .before .before .before .before .before .before .before .before .before .before .fill .ensures .0 in
     let fills = c .before .before .before .before .before .before .before .before .before .before .before .before .before .before .before .before .before .before .before .before .before .fill .ensures .1 in
-    too-many (st .args .number .0) _ _ _ _ _ _ _ _ ra ea rb eb fills (c .before .before .before .before .before .before .before .before .before .before .before .m .given .1) o (c .before .before .before .before .before .before .enter-do .ensures .0) (c .enum-told2 .given .1)
+    too-many (st .args .number .0) _ ra ea rb eb fills (c .before .before .before .before .before .before .before .before .before .before .before .m .given .1) o (c .before .before .before .before .before .before .enter-do .ensures .0) (c .enum-told2 .given .1)
 
 sub-words : tie.Need-sub-words
 sub-words c =
