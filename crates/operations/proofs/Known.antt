@@ -25,7 +25,8 @@ use Rattle.object.specs.declared.Layout.{Layout}
 use Rattle.object.specs.Layout.{listFrom, elementAt, loopAt, objectAt}
 use Rattle.registers.specs.declared.Regs.{Regs}
 use Rattle.subscripts.specs.Elements.{Cell, SubscriptIn, ElementIn}
-use Rattle.operations.specs.Ready.{LoopIn, exitIf, chosen, signOf, Held, Ready}
+use Rattle.operations.specs.Ready.{Held, Ready}
+use Rattle.entry_operations.specs.Entries.{LoopIn, exitIf, chosen, signOf}
 use Rattle.subscripts.proofs.Laws.{apart}
 
 pub both : (a b : Bool) → (a && b) ≡ true → (a ≡ true) × (b ≡ true)

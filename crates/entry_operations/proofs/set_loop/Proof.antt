@@ -5,10 +5,10 @@ use lib.ListN.{set, length-set}
 use mir.Val.{toZ, ofZ}
 use mir.Syntax.{w64}
 use mir.Facts.{toZ-ofZ}
-use Rattle.operations.proofs.Laws.{sets-alike}
+use Rattle.entry_operations.proofs.Laws.{sets-alike}
 use borrow.Author.Needs.{needs}
-use Rattle.operations.proofs.set_loop.Statement.{statement}
-use Rattle.operations.proofs.set_loop.Tie as tie
+use Rattle.entry_operations.proofs.set_loop.Statement.{statement}
+use Rattle.entry_operations.proofs.set_loop.Tie as tie
 
 load-requires : tie.Need-load-requires
 load-requires c κs = search needs

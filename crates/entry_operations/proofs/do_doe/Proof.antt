@@ -5,10 +5,10 @@ use mir.Facts.{toZ-ofZ}
 use Rattle.rules_object.specs.Machine.{cell}
 use borrow.Author.Tests.{not-true, not-false}
 use Rattle.rules_shared.specs.Choose.{positive}
-use Rattle.operations.proofs.Laws.{turn-fits, turn-no, turn-again, turn-over}
+use Rattle.entry_operations.proofs.Laws.{turn-fits, turn-no, turn-again, turn-over}
 use borrow.Author.Needs.{needs}
-use Rattle.operations.proofs.do_doe.Statement.{statement}
-use Rattle.operations.proofs.do_doe.Tie as tie
+use Rattle.entry_operations.proofs.do_doe.Statement.{statement}
+use Rattle.entry_operations.proofs.do_doe.Tie as tie
 
 load-requires : tie.Need-load-requires
 load-requires c κs = search needs

@@ -10,11 +10,11 @@ use Rattle.rules_object.specs.Machine.{cell}
 use borrow.Author.Tests.{not-true, not-false}
 use Rattle.rules_shared.specs.Choose.{allPositive}
 use Rattle.object.specs.Layout.{loopAt}
-use Rattle.operations.proofs.Laws.{sets-alike}
+use Rattle.entry_operations.proofs.Laws.{sets-alike}
 use Rattle.arithmetic.specs.Performed.{next, begun}
 use borrow.Author.Needs.{needs}
-use Rattle.operations.proofs.do_doi.Statement.{statement}
-use Rattle.operations.proofs.do_doi.Tie as tie
+use Rattle.entry_operations.proofs.do_doi.Statement.{statement}
+use Rattle.entry_operations.proofs.do_doi.Tie as tie
 
 sub-f : tie.Need-sub-f
 sub-f c = search needs

@@ -9,8 +9,8 @@ use Rattle.subscripts.proofs.Laws.{element-below}
 use Rattle.subscripts.specs.Elements.{placeFound}
 use Rattle.arithmetic.specs.Performed.{popped, put}
 use borrow.Author.Needs.{needs}
-use Rattle.operations.proofs.do_ste.Statement.{statement}
-use Rattle.operations.proofs.do_ste.Tie as tie
+use Rattle.entry_operations.proofs.do_ste.Statement.{statement}
+use Rattle.entry_operations.proofs.do_ste.Tie as tie
 
 element-place-requires : tie.Need-element-place-requires
 element-place-requires c κs = search needs

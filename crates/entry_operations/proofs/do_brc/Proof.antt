@@ -10,12 +10,12 @@ use Rattle.rules_object.specs.Machine.{cell}
 use Rattle.word.specs.Word.{wordAt}
 use borrow.Author.Tests.{not-true, not-false}
 use Rattle.rules_shared.specs.Choose.{positive}
-use Rattle.operations.proofs.Laws.{chosen-low, chosen-far, chosen-some}
+use Rattle.entry_operations.proofs.Laws.{chosen-low, chosen-far, chosen-some}
 use Rattle.registers.specs.Registers.{regs}
 use Rattle.arithmetic.specs.Performed.{next, branched}
 use borrow.Author.Needs.{needs}
-use Rattle.operations.proofs.do_brc.Statement.{statement}
-use Rattle.operations.proofs.do_brc.Tie as tie
+use Rattle.entry_operations.proofs.do_brc.Statement.{statement}
+use Rattle.entry_operations.proofs.do_brc.Tie as tie
 
 sub-h : tie.Need-sub-h
 sub-h c = search needs

@@ -20,7 +20,7 @@ use Rattle.subscripts.proofs.Laws.{apart}
 use Rattle.registers.specs.declared.Regs.{Regs}
 use Rattle.registers.specs.Registers.{goingTo, onward}
 use Rattle.arithmetic.specs.Performed.{next, stopped, turned, ended}
-use Rattle.operations.specs.Ready.{LoopIn, exitIf, chosen, signOf}
+use Rattle.entry_operations.specs.Entries.{LoopIn, exitIf, chosen, signOf}
 
 -- ---- signs
 

@@ -5,9 +5,9 @@ use native.Mathlib.Omega.{arith}
 use lib.IntN.{pos}
 use mir.Facts.{toZ-ofZ}
 use lib.Signed.{ltZ}
-use Rattle.operations.proofs.Laws.{sign-below, sign-zero, sign-above}
-use Rattle.operations.proofs.sign.Statement.{statement}
-use Rattle.operations.proofs.sign.Tie as tie
+use Rattle.entry_operations.proofs.Laws.{sign-below, sign-zero, sign-above}
+use Rattle.entry_operations.proofs.sign.Statement.{statement}
+use Rattle.entry_operations.proofs.sign.Tie as tie
 
 returns : tie.Need-returns
 returns c =

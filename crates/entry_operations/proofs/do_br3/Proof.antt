@@ -9,10 +9,10 @@ use Rattle.rules_object.specs.Machine.{cell}
 use Rattle.word.specs.Word.{wordAt}
 use Rattle.registers.specs.Registers.{regs}
 use Rattle.arithmetic.specs.Performed.{next}
-use Rattle.operations.specs.Ready.{signOf}
+use Rattle.entry_operations.specs.Entries.{signOf}
 use borrow.Author.Needs.{needs}
-use Rattle.operations.proofs.do_br3.Statement.{statement}
-use Rattle.operations.proofs.do_br3.Tie as tie
+use Rattle.entry_operations.proofs.do_br3.Statement.{statement}
+use Rattle.entry_operations.proofs.do_br3.Tie as tie
 
 sub-h : tie.Need-sub-h
 sub-h c = search needs

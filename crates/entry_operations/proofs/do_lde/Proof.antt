@@ -10,8 +10,8 @@ use Rattle.subscripts.proofs.Laws.{element-below}
 use Rattle.subscripts.specs.Elements.{placeFound}
 use Rattle.arithmetic.specs.Performed.{pushed, loaded}
 use borrow.Author.Needs.{needs}
-use Rattle.operations.proofs.do_lde.Statement.{statement}
-use Rattle.operations.proofs.do_lde.Tie as tie
+use Rattle.entry_operations.proofs.do_lde.Statement.{statement}
+use Rattle.entry_operations.proofs.do_lde.Tie as tie
 
 element-place-requires : tie.Need-element-place-requires
 element-place-requires c κs = search needs
