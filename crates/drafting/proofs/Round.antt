@@ -20,8 +20,8 @@ use Rattle.draft.specs.declared.Counts.{Counts}
 use Rattle.draft.specs.Draft.{Draft, noDraft, draftOf}
 use Rattle.draft.specs.Kept.{Words, Fit, Kept}
 use Rattle.draft.proofs.Matching.{matches-deck}
-use Rattle.statements.specs.Taking.{Fresh}
-use Rattle.statements.proofs.Hidden.{fresh-deck}
+use Rattle.statement_parts.specs.Fresh.{Fresh}
+use Rattle.statement_parts.proofs.Hidden.{fresh-deck}
 use Rattle.next_statement.specs.declared.Step.{Step}
 use Rattle.next_statement.specs.declared.Step.the-variants as step
 use Rattle.drafting.specs.declared.Drafted.the-variants as drafted

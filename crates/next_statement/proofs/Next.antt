@@ -29,9 +29,11 @@ use Rattle.reader.specs.Which.{isForm}
 use Rattle.draft.specs.declared.Counts.{Counts}
 use Rattle.draft.specs.Draft.{Draft}
 use Rattle.draft.specs.Kept.{Words, Kept, Matches}
-use Rattle.statements.specs.declared.Outcome.{Outcome}
-use Rattle.statements.specs.declared.Outcome.the-variants as outcome
-use Rattle.statements.specs.Taking.{Fresh, Reading, Took, Judged, Comes}
+use Rattle.planned.specs.declared.Outcome.{Outcome}
+use Rattle.planned.specs.declared.Outcome.the-variants as outcome
+use Rattle.statements.specs.Taking.{Reading, Comes}
+use Rattle.planned.specs.Judged.{Took, Judged}
+use Rattle.statement_parts.specs.Fresh.{Fresh}
 use Rattle.next_statement.specs.declared.Step.the-variants as step
 use Rattle.next_statement.specs.Steps.{punchedAs, toCome, Steps, refused, taken}
 

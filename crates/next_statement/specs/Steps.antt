@@ -14,7 +14,7 @@ use Rattle.texts.specs.Taking.{Accepted}
 use Rattle.draft.specs.declared.Counts.{Counts}
 use Rattle.draft.specs.Draft.{Draft, drafts}
 use Rattle.draft.specs.Kept.{Words, Fit, Room, Kept, Matches}
-use Rattle.statements.specs.Taking.{Fresh}
+use Rattle.statement_parts.specs.Fresh.{Fresh}
 use Rattle.next_statement.specs.declared.Step.{Step}
 use Rattle.next_statement.specs.declared.Step.the-variants as step
 

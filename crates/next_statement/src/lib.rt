@@ -2,7 +2,7 @@
 ghost use Rattle.draft.specs.Kept.{asWords};
 ghost use Rattle.next_statement.specs.Steps.{Ahead, Continues};
 use draft::Counts;
-use statements::Outcome;
+use planned::Outcome;
 use texts::Taken;
 
 pub enum Step {

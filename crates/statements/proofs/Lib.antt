@@ -1,11 +1,1 @@
-pub mod Filling
-pub mod Marking
-pub mod Hidden
-pub mod Dos
-pub mod Judging
-pub mod Counting
-pub mod Keeping
-pub mod Assembly
-pub mod Outcomes
-pub mod Takes
 pub mod Reading

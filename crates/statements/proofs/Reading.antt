@@ -28,11 +28,12 @@ use Rattle.plans.specs.declared.Plan.{Plan}
 use Rattle.plans.specs.Plans.{Planned, Plans, firstWords}
 use Rattle.plans.proofs.Arms.{target-room}
 use Rattle.plans.proofs.Forms.{first-form, plans-of}
-use Rattle.statements.specs.declared.Outcome.{Outcome}
-use Rattle.statements.specs.declared.Outcome.the-variants as outcome
-use Rattle.statements.specs.Taking.{Reading, Ready, Judged, Comes}
-use Rattle.statements.specs.Steps.{Passed}
-use Rattle.statements.specs.Planned.{Planning, ComesPlanned}
+use Rattle.planned.specs.declared.Outcome.{Outcome}
+use Rattle.planned.specs.declared.Outcome.the-variants as outcome
+use Rattle.statements.specs.Taking.{Reading, Ready, Comes}
+use Rattle.planned.specs.Judged.{Judged}
+use Rattle.statement_parts.specs.Steps.{Passed}
+use Rattle.planned.specs.Planned.{Planning, ComesPlanned}
 
 -- ---- 11 to 14
 

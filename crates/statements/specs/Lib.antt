@@ -1,3 +1,1 @@
 pub mod Taking
-pub mod Steps
-pub mod Planned

@@ -1,24 +1,21 @@
 -- One statement that was read: refused by 11 to 18, or taken into the draft.
 -- Assumes nothing.
 use mathlib.Core.Path.{_≡_}
-use mathlib.Core.Bool.{false}
 use mathlib.Core.List.{List}
-use mathlib.Core.Option.{none, some}
-use Prim.Native.Nat.{ℕ, suc, _≤_, _<_}
+use mathlib.Core.Option.{some}
+use Prim.Native.Nat.{ℕ, _≤_, _<_}
 use lib.ListN.{length, take}
-use Rattle.rules_shared.specs.House.{house1401}
 use Rattle.rules_deck.specs.Trees.{Form}
-use Rattle.rules_deck.specs.Trees as trees
 use Rattle.rules_deck.specs.Grammar.{formOf}
-use Rattle.rules_deck.specs.Translation.{isHidden, holds}
-use Rattle.rules_deck.specs.Judge.{Taken, judgeForm}
+use Rattle.rules_deck.specs.Judge.{Taken}
 use Rattle.forms.specs.declared.Statement.{Statement}
 use Rattle.forms.specs.Statements.{formWords, statementOf}
 use Rattle.draft.specs.declared.Counts.{Counts}
-use Rattle.draft.specs.Draft.{Draft, drafts}
+use Rattle.draft.specs.Draft.{Draft}
 use Rattle.draft.specs.Kept.{Words, Fit, Room, Kept, Matches}
-use Rattle.statements.specs.declared.Outcome.{Outcome}
-use Rattle.statements.specs.declared.Outcome.the-variants as outcome
+use Rattle.planned.specs.declared.Outcome.{Outcome}
+use Rattle.statement_parts.specs.Fresh.{Fresh}
+use Rattle.planned.specs.Judged.{Judged}
 
 -- what the reader gave, and the table that it filled
 pub record Reading (s : Statement) (items : List ℕ) : Type 0 where
@@ -28,10 +25,6 @@ pub record Reading (s : Statement) (items : List ℕ) : Type 0 where
   pub short : length text ≤ 660
   pub says : s ≡ statementOf form
   pub table : take (length (formWords form)) items ≡ formWords form
-
--- no DO at position q or later has hidden cells yet
-abbrev pub Fresh : ℕ → Draft → Type 0
-Fresh q D = (p : ℕ) → q ≤ p → holds (isHidden p) (D .held) ≡ false
 
 -- what stands between the code and its limits; the tables hold some draft
 pub record Ready (s : Statement) (number k : ℕ) (items : List ℕ) (lent : Words) (n : Counts) : Type 0 where
@@ -46,18 +39,6 @@ pub record Ready (s : Statement) (number k : ℕ) (items : List ℕ) (lent : Wor
   pub draft : Draft
   pub kept : Kept draft lent n
   pub fresh : Fresh (n .statements) draft
-
--- the tables hold the draft with the statement
-pub record Took (k q : ℕ) (st : trees.Statement) (t : Taken) (D : Draft) (lent : Words) (n : Counts) : Type 0 where
-  pub right : judgeForm (house1401 k) q (st .form) t ≡ none
-  pub kept : Kept (drafts q st D) lent n
-  pub fit : Fit n
-  pub counted : n .statements ≡ suc q
-
--- where it is refused, the tables are free
-unfoldable pub Judged : (k q : ℕ) (st : trees.Statement) (t : Taken) (D : Draft) (lent : Words) → Outcome → Type 0
-Judged k q st t D lent (outcome.Refused m) = judgeForm (house1401 k) q (st .form) t ≡ some m
-Judged k q st t D lent (outcome.Taken n) = Took k q st t D lent n
 
 -- the statement at position q, after what the draft D has
 abbrev pub Comes : Statement → ℕ → ℕ → List ℕ → ℕ → Draft → Words → Outcome → Type 0

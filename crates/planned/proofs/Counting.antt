@@ -28,7 +28,7 @@ use Rattle.plans.specs.Plans.{formPlan, listedWords, Plans}
 use Rattle.plans.proofs.ByKind.{at-do}
 use Rattle.marks.specs.Marks.{numbersOf, Low, cellWord, setOf}
 use Rattle.endings.proofs.Ends.{of-kind}
-use Rattle.statements.specs.Steps.{Counted}
+use Rattle.statement_parts.specs.Steps.{Counted}
 
 -- ---- a DO counted
 

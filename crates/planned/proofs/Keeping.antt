@@ -22,8 +22,8 @@ use Rattle.draft.specs.Kept.{Words, Tabled, tablesFit, Fit, Kept, Matches}
 use Rattle.draft.proofs.Matching.{emit-length, entries-count, matches-next, right18-fits}
 use Rattle.emission.specs.declared.Emitted.{Emitted}
 use Rattle.emission.specs.declared.Emitted.the-variants as emitted
-use Rattle.statements.specs.Steps.{Filled}
-use Rattle.statements.proofs.Counting.{After, one-last}
+use Rattle.statement_parts.specs.Steps.{Filled}
+use Rattle.planned.proofs.Counting.{After, one-last}
 
 pub entries-both : (a b : List Loop) → concat (map object.loopWords (a ++ b)) ≡ concat (map object.loopWords a) ++ concat (map object.loopWords b)
 entries-both [] b = refl

@@ -13,15 +13,15 @@ use Rattle.emission.specs.declared.Emitted.{Emitted}
 use Rattle.emission.specs.declared.Emitted.the-variants as emitted
 use Rattle.plans.specs.declared.Plan.{Plan}
 use Rattle.naming.specs.Naming.{RightArrays, RightOperands}
-use Rattle.statements.specs.declared.Outcome.the-variants as outcome
-use Rattle.statements.specs.Taking.{Judged}
-use Rattle.statements.specs.Steps.{Onward, Fills, Counted, Enters, Marked}
-use Rattle.statements.specs.Planned.{ComesPlanned}
-use Rattle.statements.proofs.Judging.{judged-none}
-use Rattle.statements.proofs.Counting.{after}
-use Rattle.statements.proofs.Keeping.{fits-18}
-use Rattle.statements.proofs.Assembly.{fit-after, kept-after, r-statements}
-use Rattle.statements.proofs.Outcomes.{Given, is-15, is-16, as-15, as-16, filled-of, entered-of}
+use Rattle.planned.specs.declared.Outcome.the-variants as outcome
+use Rattle.planned.specs.Judged.{Judged}
+use Rattle.statement_parts.specs.Steps.{Onward, Fills, Counted, Enters, Marked}
+use Rattle.planned.specs.Planned.{ComesPlanned}
+use Rattle.planned.proofs.Judging.{judged-none}
+use Rattle.planned.proofs.Counting.{after}
+use Rattle.planned.proofs.Keeping.{fits-18}
+use Rattle.planned.proofs.Assembly.{fit-after, kept-after, r-statements}
+use Rattle.planned.proofs.Outcomes.{Given, is-15, is-16, as-15, as-16, filled-of, entered-of}
 
 module _ {p : Plan} {number : ℕ} {first items : List ℕ} {lent lent′ : Words} {n m l r : Counts}
     {a b : Bool} {u v : Emitted} {words : ℕ} where

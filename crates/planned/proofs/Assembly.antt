@@ -24,10 +24,10 @@ use Rattle.plans.specs.declared.Plan.{Plan}
 use Rattle.plans.specs.Plans.{Plans}
 use Rattle.plans.proofs.ByKind.{plan-kind}
 use Rattle.marks.specs.Marks.{numbersOf, setOf}
-use Rattle.statements.specs.Steps.{Filled, Entered, Marked}
+use Rattle.statement_parts.specs.Steps.{Filled, Entered, Marked}
 use Rattle.rules_deck.proofs.Houses.{lawful1401}
-use Rattle.statements.proofs.Counting.{After, book-numbers, set-word}
-use Rattle.statements.proofs.Keeping.{entries-both, tabled-as, punched, laterOf, moreOf, same-code, same-tables, dos-long, code-long, exits-grow}
+use Rattle.planned.proofs.Counting.{After, book-numbers, set-word}
+use Rattle.planned.proofs.Keeping.{entries-both, tabled-as, punched, laterOf, moreOf, same-code, same-tables, dos-long, code-long, exits-grow}
 
 lists-at : {held : List Held} {names : List ℕ} {a b c d : ℕ} → c ≡ a → d ≡ b → Lists held names a b → Lists held names c d
 lists-at {held} {names} {a} {b} {c} {d} e g l = subst (λ (x : ℕ). Lists held names x d) (sym e) (subst (λ (x : ℕ). Lists held names a x) (sym g) l)

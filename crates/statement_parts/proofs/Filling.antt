@@ -23,7 +23,7 @@ use Rattle.plans.specs.declared.Plan.{Plan}
 use Rattle.plans.specs.Plans.{Readied}
 use Rattle.naming.specs.Naming.{TakesCells}
 use Rattle.endings.specs.Endings.{doesOf, Emitting, EmitsPlan}
-use Rattle.statements.specs.Steps.{Onward, Fills}
+use Rattle.statement_parts.specs.Steps.{Onward, Fills}
 
 pub onward-full : (p : Plan) (n : Counts) → Onward p n emitted.Full
 onward-full p n =

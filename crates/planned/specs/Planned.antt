@@ -11,9 +11,10 @@ use Rattle.draft.specs.Draft.{Draft}
 use Rattle.draft.specs.Kept.{Words, Fit, Room, Kept, Matches}
 use Rattle.plans.specs.declared.Plan.{Plan}
 use Rattle.plans.specs.Plans.{Plans, Readied}
-use Rattle.statements.specs.declared.Outcome.{Outcome}
-use Rattle.statements.specs.Taking.{Fresh, Judged}
-use Rattle.statements.specs.Steps.{Passed}
+use Rattle.planned.specs.declared.Outcome.{Outcome}
+use Rattle.planned.specs.Judged.{Judged}
+use Rattle.statement_parts.specs.Fresh.{Fresh}
+use Rattle.statement_parts.specs.Steps.{Passed}
 
 pub record Planning (p : Plan) (first items : List ℕ) (lent : Words) (n : Counts) : Type 0 where
   pub readied : Readied p first items

@@ -10,7 +10,7 @@ use Rattle.draft.specs.declared.Counts.{Counts}
 use Rattle.draft.specs.Counts.{withMarks}
 use Rattle.plans.specs.declared.Plan.{Plan}
 use Rattle.marks.specs.Marks.{numbersOf, setOf}
-use Rattle.statements.specs.Steps.{Marked}
+use Rattle.statement_parts.specs.Steps.{Marked}
 
 pub marking : {p : Plan} {number words : ℕ} {items rows jumps rows′ jumps′ : List ℕ} {m r : Counts} {top last set : ℕ} → Put jumps jumps′ (m .jumps) (numbersOf p items) top
     → set ≡ setOf p → Put rows rows′ (5 * m .statements) (number ∷ p .kind ∷ set ∷ words ∷ (top - m .jumps) ∷ []) last → r ≡ withMarks m top

@@ -1,8 +1,8 @@
 -- `statements::mark` meets its contract. Assumes nothing.
-use Rattle.statements.proofs.Marking.{marking}
+use Rattle.statement_parts.proofs.Marking.{marking}
 use borrow.Author.Needs.{needs}
-use Rattle.statements.proofs.mark.Statement.{statement}
-use Rattle.statements.proofs.mark.Tie as tie
+use Rattle.statement_parts.proofs.mark.Statement.{statement}
+use Rattle.statement_parts.proofs.mark.Tie as tie
 
 put-jumps-requires : tie.Need-put-jumps-requires
 put-jumps-requires c κs = search needs

@@ -12,7 +12,7 @@ use Rattle.rules_deck.specs.Trees.{Name, Form, assign, goTo, computed, ifs, loo
 use Rattle.rules_deck.specs.Deck.{declare, arraysIn}
 use Rattle.rules_deck.specs.Translation.{Held, name, array, hidden, size, cellCount, isName, isHidden, firstCell, limitOf, holds, appear, formPlain, hiddenIn}
 use Rattle.draft.specs.Draft.{Draft, drafts, noDraft, draftFrom, draftOf}
-use Rattle.statements.specs.Taking.{Fresh}
+use Rattle.statement_parts.specs.Fresh.{Fresh}
 
 pub holds-both : (test : Held → Bool) (a b : List Held) → holds test (a ++ b) ≡ (holds test a || holds test b)
 holds-both test [] b = refl

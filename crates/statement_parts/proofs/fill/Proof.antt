@@ -1,8 +1,8 @@
 -- `statements::fill` meets its contract. Assumes nothing.
-use Rattle.statements.proofs.Filling.{onward-full, cells-within, emitting, cells-full, cells-then, fit-as, onward-as, plan-as}
+use Rattle.statement_parts.proofs.Filling.{onward-full, cells-within, emitting, cells-full, cells-then, fit-as, onward-as, plan-as}
 use borrow.Author.Needs.{needs}
-use Rattle.statements.proofs.fill.Statement.{statement}
-use Rattle.statements.proofs.fill.Tie as tie
+use Rattle.statement_parts.proofs.fill.Statement.{statement}
+use Rattle.statement_parts.proofs.fill.Tie as tie
 
 take-cells-requires : tie.Need-take-cells-requires
 take-cells-requires c κs =

@@ -26,14 +26,15 @@ use Rattle.plans.proofs.ByKind.{at-do, at-computed}
 use Rattle.marks.specs.Marks.{Jumping}
 use Rattle.naming.specs.Naming.{RightArrays, RightOperands}
 use Rattle.endings.proofs.Ends.{of-kind}
-use Rattle.statements.specs.declared.Outcome.the-variants as outcome
-use Rattle.statements.specs.Taking.{Fresh, Judged}
-use Rattle.statements.specs.Steps.{Passed, Right, Onward, Filled, Fills, Entering, Counted, Entered, Enters}
-use Rattle.statements.specs.Planned.{Planning, ComesPlanned}
-use Rattle.statements.proofs.Judging.{told-of, right-of, judged-15, judged-16, judged-18}
+use Rattle.planned.specs.declared.Outcome.the-variants as outcome
+use Rattle.planned.specs.Judged.{Judged}
+use Rattle.statement_parts.specs.Fresh.{Fresh}
+use Rattle.statement_parts.specs.Steps.{Passed, Right, Onward, Filled, Fills, Entering, Counted, Entered, Enters}
+use Rattle.planned.specs.Planned.{Planning, ComesPlanned}
+use Rattle.planned.proofs.Judging.{told-of, right-of, judged-15, judged-16, judged-18}
 use Rattle.rules_deck.proofs.Houses.{lawful1401}
-use Rattle.statements.proofs.Counting.{After, after, book-numbers, low-numbers}
-use Rattle.statements.proofs.Keeping.{full-18, dos-18, exits-grow}
+use Rattle.planned.proofs.Counting.{After, after, book-numbers, low-numbers}
+use Rattle.planned.proofs.Keeping.{full-18, dos-18, exits-grow}
 
 -- a form of this plan, and the draft before it
 pub record Given (p : Plan) (first items : List ℕ) (lent : Words) (n : Counts) (k : ℕ) (f : Form) (D : Draft) : Type 0 where

@@ -1,8 +1,8 @@
 -- `statements::enter_do` meets its contract. Assumes nothing.
-use Rattle.statements.proofs.Dos.{counted-other, counted-full, counted-one, enters-other, enters-full, enters-one}
+use Rattle.statement_parts.proofs.Dos.{counted-other, counted-full, counted-one, enters-other, enters-full, enters-one}
 use borrow.Author.Needs.{needs}
-use Rattle.statements.proofs.enter_do.Statement.{statement}
-use Rattle.statements.proofs.enter_do.Tie as tie
+use Rattle.statement_parts.proofs.enter_do.Statement.{statement}
+use Rattle.statement_parts.proofs.enter_do.Tie as tie
 
 returns : tie.Need-returns
 returns c =

@@ -30,8 +30,8 @@ use Rattle.plans.proofs.ByKind.{at-do}
 use Rattle.marks.specs.Marks.{cellWord}
 use Rattle.endings.specs.Endings.{doesOf}
 use Rattle.endings.proofs.Ends.{does-do, of-kind}
-use Rattle.statements.specs.Steps.{Counted, Entered, Enters}
-use Rattle.statements.proofs.Hidden.{appear-fresh, limit-last}
+use Rattle.statement_parts.specs.Steps.{Counted, Entered, Enters}
+use Rattle.statement_parts.proofs.Hidden.{appear-fresh, limit-last}
 
 -- ---- the counts
 

@@ -14,7 +14,7 @@ use Rattle.rules_deck.proofs.Houses.{lawful1401}
 use Rattle.draft.specs.Names.{Told}
 use Rattle.draft.proofs.ReadForm.{read-told}
 use Rattle.draft.proofs.Knowing.{brings-first, brings-items}
-use Rattle.statements.specs.Steps.{Passed, Right}
+use Rattle.statement_parts.specs.Steps.{Passed, Right}
 
 pub told-of : {k : ℕ} {f : Form} → Passed k f → Each Told (formNames f)
 told-of {k} {f} h = read-told (lawful1401 k) (h .text) f (h .read) (h .right-11)

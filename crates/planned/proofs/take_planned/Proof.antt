@@ -2,11 +2,11 @@
 use mathlib.Core.Path.{refl, _∙_}
 use native.Mathlib.Omega.{arith}
 use borrow.Author.Tests.{not-true, not-false}
-use Rattle.statements.proofs.Outcomes.{given-of, filled-of, entering, code-grows, jumping, statements-same, refused-15, refused-16, no-room, too-many}
-use Rattle.statements.proofs.Takes.{is-taken}
+use Rattle.planned.proofs.Outcomes.{given-of, filled-of, entering, code-grows, jumping, statements-same, refused-15, refused-16, no-room, too-many}
+use Rattle.planned.proofs.Takes.{is-taken}
 use borrow.Author.Needs.{needs}
-use Rattle.statements.proofs.take_planned.Statement.{statement}
-use Rattle.statements.proofs.take_planned.Tie as tie
+use Rattle.planned.proofs.take_planned.Statement.{statement}
+use Rattle.planned.proofs.take_planned.Tie as tie
 
 right-arrays-requires : tie.Need-right-arrays-requires
 right-arrays-requires c κs =

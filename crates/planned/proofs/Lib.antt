@@ -1,0 +1,6 @@
+pub mod Assembly
+pub mod Counting
+pub mod Keeping
+pub mod Judging
+pub mod Outcomes
+pub mod Takes

@@ -1,0 +1,4 @@
+pub mod Filling
+pub mod Dos
+pub mod Hidden
+pub mod Marking
