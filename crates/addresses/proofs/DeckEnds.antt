@@ -14,7 +14,7 @@ use lib.Seq.{take-length}
 use borrow.Author.Tests.{eqb-true, eqb-false, eq-eqb, ne-eqb, lt-ltb, le-ltb}
 use Rattle.rules_shared.specs.House.{House}
 use Rattle.rules_object.specs.Operations.{NEG}
-use Rattle.rules_deck.specs.Trees.{Statement}
+use Rattle.rules_text.specs.Trees.{Statement}
 use Rattle.rules_deck.specs.Deck.{positionOf, Do, dosOf, dimsOf, endingWith, endings}
 use Rattle.rules_deck.specs.Whole.{lastOf}
 use Rattle.rules_deck.specs.Translation.{heldOf, doNumber, words, addressAt}

@@ -8,7 +8,7 @@ use mathlib.Core.List.{List, [], _∷_, _++_, map, reverse, reverseAux}
 use mathlib.Core.Option.{some}
 use lib.ListN.{length, take, getD, getElem?, length-append}
 use lib.Seq.{getD-append-add}
-use Rattle.rules_deck.specs.Trees.{valueOf, Form, assign, goTo, computed, ifs, loop, continue, stop, end, dimension, Statement, formExits, formLast}
+use Rattle.rules_text.specs.Trees.{valueOf, Form, assign, goTo, computed, ifs, loop, continue, stop, end, dimension, Statement, formExits, formLast}
 use Rattle.rules_deck.specs.Deck.{Do, doOf, dosFrom}
 use Rattle.rules_deck.specs.Accepted.{Among, here, there}
 use Rattle.rules_deck.proofs.TestLaws.{clash}

@@ -8,7 +8,7 @@ use mathlib.Core.List.{List}
 use lib.ListN.{length, getD, set}
 use lib.Seq.{getD-set-same, getD-set-other}
 use Rattle.rules_shared.specs.House.{House}
-use Rattle.rules_deck.specs.Trees.{Statement}
+use Rattle.rules_text.specs.Trees.{Statement}
 use Rattle.rules_deck.specs.Translation.{addressAt}
 use Rattle.rules_deck.proofs.Addresses.{at-some, address-zero}
 use Rattle.addresses.specs.Given.{Judged, Starts}

@@ -10,7 +10,7 @@ use lib.Seq.{getD-take, getD-append-add}
 use Rattle.rules_shared.specs.House.{House}
 use Rattle.rules_object.specs.Operations.{Instr, NEG}
 use Rattle.rules_object.specs.Bytes.{concat}
-use Rattle.rules_deck.specs.Trees.{Name, Form, Statement}
+use Rattle.rules_text.specs.Trees.{Name, Form, Statement}
 use Rattle.rules_deck.specs.Deck.{Dims}
 use Rattle.rules_deck.specs.Translation.{Held, formCode}
 use Rattle.rules_deck.proofs.TestLaws.{clash, at-before}

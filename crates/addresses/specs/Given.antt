@@ -6,7 +6,7 @@ use mathlib.Core.List.{List, map}
 use lib.ListN.{length, take, getD}
 use Rattle.rules_shared.specs.House.{House}
 use Rattle.rules_object.specs.Bytes.{concat}
-use Rattle.rules_deck.specs.Trees.{Statement}
+use Rattle.rules_text.specs.Trees.{Statement}
 use Rattle.rules_deck.specs.Deck.{positionOf, dosOf}
 use Rattle.rules_deck.specs.Translation.{addressAt}
 use Rattle.rules_deck.specs.Accepted.{Accepted}

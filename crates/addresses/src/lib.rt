@@ -4,7 +4,7 @@ ghost use mathlib.Core.List.{List, [], _∷_};
 ghost use Prim.Native.Nat.{_+_, _*_, _^_, _<_};
 ghost use lib.ListN.{length};
 ghost use Rattle.rules_shared.specs.House.{House};
-ghost use Rattle.rules_deck.specs.Trees.{Statement};
+ghost use Rattle.rules_text.specs.Trees.{Statement};
 ghost use Rattle.items.specs.Parsed.{Put};
 ghost use Rattle.addresses.specs.Given.{Judged, Given, Starts};
 ghost use Rattle.addresses.specs.Ends.{lastAt, endsAt, Lasts};

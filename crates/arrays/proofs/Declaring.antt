@@ -10,11 +10,11 @@ use lib.Dec.{leb}
 use lib.ListN.{length, getD}
 use borrow.Author.Tests.{leb-true}
 use Rattle.rules_shared.specs.Lists.{Each}
-use Rattle.rules_deck.specs.Trees.{Array, array, arrayNames, valueOf}
+use Rattle.rules_text.specs.Trees.{Array, array, arrayNames, valueOf}
 use Rattle.rules_deck.specs.Deck.{declare}
 use Rattle.rules_deck.specs.Translation.{Held}
 use Rattle.rules_deck.specs.Judge.{someCells, rightArrays}
-use Rattle.rules_deck.proofs.Readers.{both-true}
+use Rattle.rules_text.proofs.Readers.{both-true}
 use Rattle.tokens.specs.Words.{most, capped}
 use Rattle.forms.specs.Statements.{arrayWords, allWords}
 use Rattle.draft.specs.Names.{Lists, Told, namesFit}

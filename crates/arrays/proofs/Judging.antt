@@ -10,7 +10,7 @@ use lib.Seq.{getD-drop, drop-at}
 use native.Mathlib.Nat.{add-zero}
 use Rattle.rules_shared.specs.Lists.{Each, each-more}
 use Rattle.rules_shared.proofs.EachLaws.{each-both}
-use Rattle.rules_deck.specs.Trees.{Name, Array, array, arrayNames}
+use Rattle.rules_text.specs.Trees.{Name, Array, array, arrayNames}
 use Rattle.rules_deck.specs.Deck.{declare}
 use Rattle.rules_deck.specs.Translation.{Held}
 use Rattle.rules_deck.specs.Judge.{endsInF, seen, someCells, rightArrays}

@@ -11,7 +11,7 @@ use lib.ListN.{length, getD, drop}
 use lib.Seq.{getD-drop, drop-drop}
 use borrow.Author.Tests.{eq-eqb, ne-eqb, le-leb}
 use Rattle.rules_shared.specs.Lists.{Each, each-more}
-use Rattle.rules_deck.specs.Trees.{Name, Array, array, arrayNames, valueOf}
+use Rattle.rules_text.specs.Trees.{Name, Array, array, arrayNames, valueOf}
 use Rattle.rules_deck.specs.Deck.{sameName, declare}
 use Rattle.rules_deck.specs.Translation.{Held, isName, isArray, holds}
 use Rattle.rules_deck.specs.Judge.{seen, someCells}

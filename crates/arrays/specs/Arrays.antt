@@ -5,7 +5,7 @@ use Prim.Native.Nat.{ℕ}
 use mathlib.Core.Bool.{Bool, true, false}
 use mathlib.Core.List.{List, _++_, map}
 use Rattle.rules_shared.specs.Lists.{Each}
-use Rattle.rules_deck.specs.Trees.{Array, arrayNames}
+use Rattle.rules_text.specs.Trees.{Array, arrayNames}
 use Rattle.rules_deck.specs.Deck.{declare}
 use Rattle.rules_deck.specs.Translation.{Held, array}
 use Rattle.rules_deck.specs.Judge.{rightArrays}

@@ -7,7 +7,7 @@ use mathlib.Core.List.{List, [], _∷_, _++_, map}
 use lib.Dec.{eqb, leb}
 use lib.ListN.{length, getD, drop}
 use Rattle.rules_shared.specs.Lists.{Each}
-use Rattle.rules_deck.specs.Trees.{Name, Array, arrayNames}
+use Rattle.rules_text.specs.Trees.{Name, Array, arrayNames}
 use Rattle.rules_deck.specs.Deck.{Declared, declare}
 use Rattle.rules_deck.specs.Translation.{Held, array}
 use Rattle.rules_deck.specs.Judge.{endsInF, seen, someCells}

@@ -13,9 +13,9 @@ use lib.ListN.{length, getD, take, drop, replicate, length-take, length-replicat
 use lib.Seq.{drop-cons, getD-take, length-take-le, take-add, drop-at}
 use borrow.Author.Tests.{le-leb, lt-leb, ne-eqb, leb-true}
 use Rattle.rules_object.specs.Check.{blanks, isDigit}
-use Rattle.rules_deck.specs.Trees.{valueFrom, valueOf}
-use Rattle.rules_deck.specs.Cards.{numberColumns, textColumns, comment, firstCard, character, characters, allDigits, withoutBlanks, numberOf, rightNumber}
-use Rattle.rules_deck.proofs.CardsLaws.{and-both}
+use Rattle.rules_text.specs.Trees.{valueFrom, valueOf}
+use Rattle.rules_text.specs.Cards.{numberColumns, textColumns, comment, firstCard, character, characters, allDigits, withoutBlanks, numberOf, rightNumber}
+use Rattle.rules_text.proofs.CardsLaws.{and-both}
 use Rattle.number.proofs.Table.{at}
 use Rattle.cards.specs.declared.Value.{Value}
 use Rattle.cards.specs.declared.Value.the-variants as value

@@ -7,7 +7,7 @@ use native.Mathlib.Omega.{arith}
 use native.Mathlib.Numerals.{add-one}
 use lib.ListN.{length, getD, take, drop, length-drop, drop-of-length-le}
 use lib.Seq.{drop-cons, drop-drop, length-take-le}
-use Rattle.rules_deck.specs.Cards.{cut, cardsOf}
+use Rattle.rules_text.specs.Cards.{cut, cardsOf}
 use Rattle.cards.specs.Columns.{CardAt}
 
 length-cut : (n : ℕ) (deck : List ℕ) → length (cut n deck) ≡ n

@@ -5,7 +5,7 @@ use mathlib.Core.Bool.{cond}
 use mathlib.Core.Path.{_≡_}
 use mathlib.Core.List.{List, _∷_}
 use lib.ListN.{length, drop}
-use Rattle.rules_deck.specs.Cards.{cardsOf, numberColumns, allDigits, withoutBlanks, numberOf, rightNumber}
+use Rattle.rules_text.specs.Cards.{cardsOf, numberColumns, allDigits, withoutBlanks, numberOf, rightNumber}
 use Rattle.cards.specs.declared.Value.{Value}
 use Rattle.cards.specs.declared.Value.the-variants as value
 use Rattle.cards.specs.declared.Columns.{Columns}

@@ -11,8 +11,8 @@ use Rattle.rules_object.specs.Bytes.{objectBytes}
 use Rattle.rules_shared.specs.Refusals.{Refusal, refusal, noRoom}
 use Rattle.rules_shared.specs.Output.{notWritten, write}
 use Rattle.rules_shared.specs.Lists.{Each}
-use Rattle.rules_deck.specs.Trees.{Name, Form, assign, loop, Target, cell, Statement}
-use Rattle.rules_deck.specs.Cards.{Punched, Carded, cardsRefused, statements, carded}
+use Rattle.rules_text.specs.Trees.{Name, Form, assign, loop, Target, cell, Statement}
+use Rattle.rules_text.specs.Cards.{Punched, Carded, cardsRefused, statements, carded}
 use Rattle.rules_deck.specs.Translation.{targetPlain, exprPlain, formPlain, heldOf, translate}
 use Rattle.rules_deck.specs.Whole.{targetSets, formSets, judgeDeck}
 use Rattle.rules_deck.specs.Judge.{nothingTaken}

@@ -7,8 +7,8 @@ use lib.ListN.{length}
 use Rattle.rules_shared.specs.House.{house1401}
 use Rattle.rules_shared.specs.Refusals.{refusal, accepted, noRoom}
 use Rattle.rules_shared.specs.Output.{Written, notWritten}
-use Rattle.rules_deck.specs.Trees.{Statement}
-use Rattle.rules_deck.specs.Cards.{Punched, statements, carded}
+use Rattle.rules_text.specs.Trees.{Statement}
+use Rattle.rules_text.specs.Cards.{Punched, statements, carded}
 use Rattle.rules_deck.specs.Compile.{read, readCarded}
 use Rattle.draft.specs.declared.Counts.{Counts}
 use Rattle.draft.specs.Draft.{draftOf}

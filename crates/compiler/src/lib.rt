@@ -3,7 +3,7 @@
 ghost use mathlib.Core.Path.{_≡_};
 ghost use mathlib.Core.List.{List};
 ghost use Rattle.rules_shared.specs.House.{house1401};
-ghost use Rattle.rules_deck.specs.Trees.{Statement};
+ghost use Rattle.rules_text.specs.Trees.{Statement};
 ghost use Rattle.rules_deck.specs.Compile.{read, judgeRead, writeRead, compiling};
 ghost use Rattle.draft.specs.Kept.{asWords};
 ghost use Rattle.compiler.specs.Compiled.{answer, Punches, Holds, HoldsOne};

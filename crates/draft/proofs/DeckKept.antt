@@ -7,7 +7,7 @@ use lib.ListN.{length, length-map}
 use Rattle.rules_shared.specs.House.{House}
 use Rattle.rules_object.specs.Object.{Element, Loop}
 use Rattle.rules_object.specs.Bytes.{concat, elementWords, loopWords}
-use Rattle.rules_deck.specs.Trees.{Statement}
+use Rattle.rules_text.specs.Trees.{Statement}
 use Rattle.rules_deck.specs.Deck.{dosOf}
 use Rattle.rules_deck.specs.Translation.{cellCount, statementCode, codeFrom, codeOf, Tables, noTables, tablesOf, translate}
 use Rattle.rules_deck.specs.Judge.{nameCount, formExitWords, Taken, nothingTaken, takes}

@@ -6,7 +6,7 @@ use native.Mathlib.Nat.{zero-add, add-zero}
 use native.Mathlib.Omega.{arith}
 use mathlib.Core.List.{List, [], _∷_, _++_, append-nil, append-assoc}
 use lib.ListN.{length, length-append}
-use Rattle.rules_deck.specs.Trees.{Statement}
+use Rattle.rules_text.specs.Trees.{Statement}
 use Rattle.rules_deck.specs.Translation.{heldFrom, heldOf}
 use Rattle.draft.specs.Draft.{jumpWords, rowWords, loopWords, Draft, noDraft, drafts, draftFrom, draftOf}
 use Rattle.draft.specs.Sketch.{deckRows, deckJumps, loopsFrom}

@@ -9,7 +9,7 @@ use mathlib.Core.Option.{some}
 use lib.ListN.{length, getElem?, length-append}
 use Rattle.rules_shared.specs.House.{House}
 use Rattle.rules_object.specs.Operations.{Instr, DOI}
-use Rattle.rules_deck.specs.Trees.{Name, Statement, formLast}
+use Rattle.rules_text.specs.Trees.{Name, Statement, formLast}
 use Rattle.rules_deck.specs.Deck.{Dims, dimsIn, dimsOf}
 use Rattle.rules_deck.specs.Translation.{Held, brings, heldFrom, heldOf, formCode, Tables, noTables, tablesAfter, tablesOf, wordOf, emit}
 use Rattle.rules_deck.specs.Judge.{Taken, takes}

@@ -10,7 +10,7 @@ use Rattle.rules_shared.specs.House.{House}
 use Rattle.rules_object.specs.Object.{Loop, Element}
 use Rattle.rules_object.specs.Operations.{Instr, HLT, CON, LOD, STO, LDE, STE, OP, NEG, JMP, BR3, BRC, DOI, DOE}
 use Rattle.rules_shared.proofs.EachLaws.{each-head}
-use Rattle.rules_deck.specs.Trees.{Name, valueOf, Form, assign, goTo, computed, ifs, loop, continue, stop, end, dimension, Statement, formLast, Range, partsOf}
+use Rattle.rules_text.specs.Trees.{Name, valueOf, Form, assign, goTo, computed, ifs, loop, continue, stop, end, dimension, Statement, formLast, Range, partsOf}
 use Rattle.rules_deck.specs.Deck.{Do, Dims, doOf, dosFrom, dosOf, endings, dimsOf}
 use Rattle.rules_deck.specs.Meaning.{third}
 use Rattle.rules_deck.specs.Translation.{Held, hidden, isHidden, cellOf, limitOf, appear, formPlain, brings, heldFrom, heldOf, exprCode, formCode, doInstr, enterCode, addressOf, statementCode, codeFrom, codeOf, Tables, noTables, tablesAfter, tablesOf, translate, doiFor}

@@ -6,11 +6,12 @@ use mathlib.Core.Bool.{Bool, true, false, _&&_, not}
 use mathlib.Core.List.{List, [], _∷_, _++_, append-nil}
 use mathlib.Core.Option.{Option, none, some}
 use Rattle.rules_shared.specs.Lists.{all}
-use Rattle.rules_deck.specs.Trees.{Name, Digits, Expr, con, var, exprNames, exprConstants, Target, cell, element, targetNames, targetConstants, written, Form, assign, goTo, computed, ifs, loop, continue, stop, end, dimension, formNames, formConstants}
+use Rattle.rules_text.specs.Trees.{Name, Digits, Expr, con, var, exprNames, exprConstants, Target, cell, element, targetNames, targetConstants, written, Form, assign, goTo, computed, ifs, loop, continue, stop, end, dimension, formNames, formConstants}
 use Rattle.rules_deck.specs.Meaning.{third}
 use Rattle.rules_deck.specs.Translation.{Held, isArray, holds, exprPlain, targetPlain, formPlain}
 use Rattle.rules_deck.specs.Judge.{Reference, exprReferences, targetReferences, formReferences, rightReference, right16}
-use Rattle.rules_deck.specs.Accepted.{Among, here, there, IsParameter}
+use Rattle.rules_deck.specs.Accepted.{Among, here, there}
+use Rattle.rules_text.specs.Shaped.{IsParameter}
 use Rattle.rules_deck.proofs.TestLaws.{only, among-left, among-right, among-append}
 use Rattle.elements.specs.Values.{targetValue}
 use Rattle.items.specs.Items.{targetWords}

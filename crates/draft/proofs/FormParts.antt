@@ -4,7 +4,7 @@ use mathlib.Core.Path.{_≡_, refl, sym, ap, _∙_}
 use Prim.Native.Nat.{ℕ}
 use mathlib.Core.List.{List, [], _∷_, _++_, append-nil, append-assoc}
 use Rattle.rules_object.specs.Operations.{Instr, NEG, OP}
-use Rattle.rules_deck.specs.Trees.{Name, Digits, Expr, con, var, elm, neg, par, bin, exprNames, exprConstants, Form, assign, goTo, computed, ifs, loop, continue, stop, end, dimension}
+use Rattle.rules_text.specs.Trees.{Name, Digits, Expr, con, var, elm, neg, par, bin, exprNames, exprConstants, Form, assign, goTo, computed, ifs, loop, continue, stop, end, dimension}
 use Rattle.rules_deck.specs.Deck.{Dims}
 use Rattle.rules_deck.specs.Meaning.{third}
 use Rattle.rules_deck.specs.Translation.{Held, exprPlain, exprCode, formCode}

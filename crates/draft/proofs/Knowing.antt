@@ -10,15 +10,15 @@ use mathlib.Core.Option.{some}
 use Rattle.rules_shared.specs.House.{House}
 use Rattle.rules_shared.specs.Lists.{all, Each}
 use Rattle.rules_shared.proofs.EachLaws.{each-map}
-use Rattle.rules_deck.specs.Trees.{Name, Digits, valueOf, Form, formNames, formConstants}
-use Rattle.rules_deck.specs.Cards.{rightDigits}
-use Rattle.rules_deck.specs.Grammar.{formOf}
+use Rattle.rules_text.specs.Trees.{Name, Digits, valueOf, Form, formNames, formConstants}
+use Rattle.rules_text.specs.Cards.{rightDigits}
+use Rattle.rules_text.specs.Grammar.{formOf}
 use Rattle.rules_deck.specs.Deck.{sameName, declare, arraysIn}
 use Rattle.rules_deck.specs.Translation.{Held, name, array, hidden, isName, holds, appear, formPlain, hiddenIn, brings}
 use Rattle.rules_deck.specs.Judge.{right11, right12, Reference, rightCount, rightReference, right16}
 use Rattle.rules_deck.specs.Lawful.{Lawful}
 use Rattle.rules_deck.specs.Accepted.{Among}
-use Rattle.rules_deck.proofs.Readers.{both-true}
+use Rattle.rules_text.proofs.Readers.{both-true}
 use Rattle.rules_deck.proofs.TestLaws.{all-among, among-left, among-right}
 use Rattle.rules_deck.proofs.ArrayLaws.{holds-left}
 use Rattle.rules_deck.proofs.DeckCells.{grown-appear, appear-has}

@@ -10,7 +10,7 @@ use lib.Dec.{leb}
 use lib.ListN.{length, length-append, length-map}
 use Rattle.rules_shared.specs.Limits.{limits}
 use Rattle.rules_object.specs.Operations.{Instr, HLT, LOD, STO, NEG, JMP, BR3, BRC, DOI}
-use Rattle.rules_deck.specs.Trees.{Name, valueOf, Expr, Target, cell, element, written, Form, assign, goTo, computed, ifs, loop, continue, stop, end, dimension, Statement, formExits, formLast, Range, partsOf}
+use Rattle.rules_text.specs.Trees.{Name, valueOf, Expr, Target, cell, element, written, Form, assign, goTo, computed, ifs, loop, continue, stop, end, dimension, Statement, formExits, formLast, Range, partsOf}
 use Rattle.rules_deck.specs.Deck.{Dims}
 use Rattle.rules_deck.specs.Meaning.{third}
 use Rattle.rules_deck.specs.Translation.{Held, cellCount, brings, storeCode, formCode, Tables, tablesAfter, emit}

@@ -10,7 +10,7 @@ use lib.ListN.{length, take, replicate}
 use borrow.Author.Tests.{eq-eqb, ne-eqb}
 use Rattle.rules_shared.specs.Lists.{Each, each-none, each-more}
 use Rattle.rules_shared.proofs.EachLaws.{each-append, each-take}
-use Rattle.rules_deck.specs.Trees.{Name}
+use Rattle.rules_text.specs.Trees.{Name}
 use Rattle.rules_deck.specs.Deck.{sameName}
 use Rattle.rules_deck.specs.Translation.{filled}
 use Rattle.rules_deck.proofs.TestLaws.{same-name}

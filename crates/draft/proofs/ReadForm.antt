@@ -14,18 +14,18 @@ use Rattle.rules_shared.specs.House.{House}
 use Rattle.rules_shared.specs.Lists.{all, Each, each-none, each-more}
 use Rattle.rules_object.specs.Check.{isLetter, isDigit}
 use Rattle.rules_shared.proofs.EachLaws.{each-map}
-use Rattle.rules_deck.specs.Trees.{Name, Digits, valueOf, Form, formNames, formConstants, formExits, formLast}
-use Rattle.rules_deck.specs.Tokens.{isLetterOrDigit}
-use Rattle.rules_deck.specs.Cards.{rightDigits}
-use Rattle.rules_deck.specs.Grammar.{formOf}
+use Rattle.rules_text.specs.Trees.{Name, Digits, valueOf, Form, formNames, formConstants, formExits, formLast}
+use Rattle.rules_text.specs.Tokens.{isLetterOrDigit}
+use Rattle.rules_text.specs.Cards.{rightDigits}
+use Rattle.rules_text.specs.Grammar.{formOf}
 use Rattle.rules_deck.specs.Judge.{startsInteger, right11, right12, numberWithin, right13}
 use Rattle.rules_deck.specs.Lawful.{Lawful}
-use Rattle.rules_deck.specs.Spelling.{IsDigits, IsName, is-name}
+use Rattle.rules_text.specs.Spelling.{IsDigits, IsName, is-name}
 use Rattle.rules_deck.proofs.Houses.{right13-all}
-use Rattle.rules_deck.proofs.Readers.{both-true, digit-bounds, letter-bounds}
-use Rattle.rules_deck.proofs.ReadForms.{read-names, read-constants}
+use Rattle.rules_text.proofs.Readers.{both-true, digit-bounds, letter-bounds}
+use Rattle.rules_text.proofs.ReadForms.{read-names, read-constants}
 use Rattle.rules_deck.proofs.MapNames.{NoBlank}
-use Rattle.rules_deck.proofs.Values.{ten-most, value-within}
+use Rattle.rules_text.proofs.Values.{ten-most, value-within}
 use Rattle.tokens.specs.Words.{most, capped}
 use Rattle.draft.specs.Names.{Told, Exact}
 use Rattle.draft.specs.Draft.{jumpWords}

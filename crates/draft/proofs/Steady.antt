@@ -7,7 +7,7 @@ use mathlib.Core.List.{List, [], _∷_, _++_}
 use Rattle.rules_object.specs.Operations.{Instr}
 use Rattle.rules_shared.specs.Lists.{Each}
 use Rattle.rules_shared.proofs.EachLaws.{each-head, each-left, each-right}
-use Rattle.rules_deck.specs.Trees.{Name, Subscript, constant, linear, Subscripts, one, two, subscriptNames, subscriptsNames, Target, cell, element, Form, assign, goTo, computed, ifs, loop, continue, stop, end, dimension}
+use Rattle.rules_text.specs.Trees.{Name, Subscript, constant, linear, Subscripts, one, two, subscriptNames, subscriptsNames, Target, cell, element, Form, assign, goTo, computed, ifs, loop, continue, stop, end, dimension}
 use Rattle.rules_deck.specs.Deck.{sameName}
 use Rattle.rules_deck.specs.Translation.{Held, name, array, hidden, size, isName, isArray, isHidden, firstCell, holds, cellOf, baseOf, limitOf, subscriptEntry, firstEntry, secondEntry, elementEntry, storeCode, formCode}
 use Rattle.rules_deck.specs.Judge.{Reference, rightCount, rightReference}

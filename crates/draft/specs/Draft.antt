@@ -6,7 +6,7 @@ use mathlib.Core.List.{List, [], _∷_, _++_, map}
 use lib.ListN.{length}
 use Rattle.rules_object.specs.Object.{Loop}
 use Rattle.rules_object.specs.Operations.{Instr, NEG, DOI}
-use Rattle.rules_deck.specs.Trees.{Name, valueOf, Form, assign, goTo, computed, ifs, loop, continue, stop, end, dimension, Statement, Range, partsOf, gathered, formNumbers}
+use Rattle.rules_text.specs.Trees.{Name, valueOf, Form, assign, goTo, computed, ifs, loop, continue, stop, end, dimension, Statement, Range, partsOf, gathered, formNumbers}
 use Rattle.rules_deck.specs.Translation.{Held, cellOf, limitOf, brings, formCode, Tables, noTables, emit, tablesOf}
 use Rattle.rules_deck.specs.Whole.{formSets}
 use Rattle.tokens.specs.Words.{nameWord}

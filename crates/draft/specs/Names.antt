@@ -8,7 +8,7 @@ use lib.Dec.{leb}
 use lib.ListN.{length, take}
 use Rattle.rules_shared.specs.Limits.{limits}
 use Rattle.rules_shared.specs.Lists.{Each}
-use Rattle.rules_deck.specs.Trees.{Name, Digits, valueOf}
+use Rattle.rules_text.specs.Trees.{Name, Digits, valueOf}
 use Rattle.rules_deck.specs.Deck.{Dims, Declared, dimsIn}
 use Rattle.rules_deck.specs.Translation.{Held, name, array, hidden, arraySize, cellCount, isName, holds}
 use Rattle.rules_deck.specs.Judge.{nameCount, Reference, rightReference}

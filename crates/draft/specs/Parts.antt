@@ -6,7 +6,7 @@ use mathlib.Core.Bool.{Bool, _&&_, not}
 use mathlib.Core.List.{List, [], _∷_, _++_, map}
 use Rattle.number.specs.Number.{Op}
 use Rattle.rules_object.specs.Operations.{Instr, HLT, CON, LOD, LDE, OP, NEG, JMP, BR3, BRC}
-use Rattle.rules_deck.specs.Trees.{Name, Digits, valueOf, Subscripts, subscriptsNames, subscriptsConstants, Expr, con, var, elm, neg, par, bin, Target, cell, element, Form, assign, goTo, computed, ifs, loop, continue, stop, end, dimension, Phrase, sets, chooses, computes, steps, declares, partsOf, gathered}
+use Rattle.rules_text.specs.Trees.{Name, Digits, valueOf, Subscripts, subscriptsNames, subscriptsConstants, Expr, con, var, elm, neg, par, bin, Target, cell, element, Form, assign, goTo, computed, ifs, loop, continue, stop, end, dimension, Phrase, sets, chooses, computes, steps, declares, partsOf, gathered}
 use Rattle.rules_deck.specs.Deck.{Dims}
 use Rattle.rules_deck.specs.Meaning.{third}
 use Rattle.rules_shared.specs.Lists.{all}

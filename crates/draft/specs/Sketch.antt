@@ -6,7 +6,7 @@ use lib.ListN.{length}
 use Rattle.rules_object.specs.Object.{Loop}
 use Rattle.rules_object.specs.Operations.{Instr, DOI}
 use Rattle.rules_object.specs.Bytes.{concat}
-use Rattle.rules_deck.specs.Trees.{Name, Statement, formLast}
+use Rattle.rules_text.specs.Trees.{Name, Statement, formLast}
 use Rattle.rules_deck.specs.Deck.{Do, Dims, dimsOf}
 use Rattle.rules_deck.specs.Translation.{Held, heldOf, cellOf, limitOf, formCode}
 use Rattle.draft.specs.Draft.{jumpWords, rowWords, loopWords, noLoop}

@@ -7,8 +7,8 @@ use native.Mathlib.Omega.{arith}
 use lib.ListN.{length, length-append}
 use Rattle.rules_shared.specs.House.{house1401}
 use Rattle.rules_shared.specs.Refusals.{Refusal, refusal}
-use Rattle.rules_deck.specs.Trees.{Statement}
-use Rattle.rules_deck.specs.Cards.{Punched, textOf}
+use Rattle.rules_text.specs.Trees.{Statement}
+use Rattle.rules_text.specs.Cards.{Punched, textOf}
 use Rattle.rules_deck.specs.Judge.{Taken, nothingTaken, takes}
 use Rattle.rules_deck.specs.Accepted.{takenFrom}
 use Rattle.rules_deck.specs.Compile.{Read, notRead, read, withStatement, readText, readFrom}

@@ -11,10 +11,10 @@ use borrow.Author.Tests.{leb-true}
 use Rattle.rules_shared.specs.House.{house1401}
 use Rattle.rules_shared.specs.Refusals.{refusal}
 use Rattle.rules_shared.specs.Lists.{each-none}
-use Rattle.rules_deck.specs.Cards.{Punched, cardsOf, textOf, rightDigits, counted, Carded, cardsRefused, statements, carded}
+use Rattle.rules_text.specs.Cards.{Punched, cardsOf, textOf, rightDigits, counted, Carded, cardsRefused, statements, carded}
 use Rattle.rules_deck.specs.Judge.{Taken, nothingTaken}
 use Rattle.rules_deck.specs.Compile.{Read, notRead, readText, readFrom}
-use Rattle.rules_deck.proofs.CardsLaws.{statements-few}
+use Rattle.rules_text.proofs.CardsLaws.{statements-few}
 use Rattle.texts.proofs.Onward.{from-start}
 use Rattle.draft.specs.declared.Counts.{Counts}
 use Rattle.draft.specs.Draft.{Draft, noDraft, draftOf}

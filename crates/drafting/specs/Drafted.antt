@@ -6,8 +6,8 @@ use mathlib.Core.List.{List}
 use lib.ListN.{length}
 use Rattle.rules_shared.specs.House.{house1401}
 use Rattle.rules_shared.specs.Refusals.{refusal}
-use Rattle.rules_deck.specs.Trees.{Statement}
-use Rattle.rules_deck.specs.Cards.{Punched, statements, carded}
+use Rattle.rules_text.specs.Trees.{Statement}
+use Rattle.rules_text.specs.Cards.{Punched, statements, carded}
 use Rattle.rules_deck.specs.Compile.{Read, notRead, read}
 use Rattle.draft.specs.declared.Counts.{Counts}
 use Rattle.draft.specs.Draft.{draftOf}

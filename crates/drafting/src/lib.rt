@@ -2,7 +2,7 @@
 ghost use mathlib.Core.Path.{_≡_};
 ghost use mathlib.Core.List.{List};
 ghost use Rattle.rules_shared.specs.House.{house1401};
-ghost use Rattle.rules_deck.specs.Cards.{Punched, statements, carded};
+ghost use Rattle.rules_text.specs.Cards.{Punched, statements, carded};
 ghost use Rattle.rules_deck.specs.Judge.{nothingTaken};
 ghost use Rattle.rules_deck.specs.Compile.{readFrom};
 ghost use Rattle.draft.specs.Kept.{asWords};

@@ -9,10 +9,10 @@ use native.Mathlib.Omega.{arith}
 use lib.Dec.{eqb}
 use lib.ListN.{length, drop, getD}
 use borrow.Author.Tests.{eqb-true, eqb-false}
-use Rattle.rules_deck.specs.Trees.{optional, nothing, plus, minus, constant, linear, one, two, cell, element, addendConstants, subscriptNames, subscriptConstants, subscriptsNames, subscriptsConstants}
-use Rattle.rules_deck.specs.Trees as trees
-use Rattle.rules_deck.specs.Tokens.{leftParen, rightParen, star, plusSign, comma, minusSign, bad, give, andThen, after, choose, starts, startsDigit, number, name}
-use Rattle.rules_deck.specs.Grammar.{addend, linearOf, subscript, subscripts, place}
+use Rattle.rules_text.specs.Trees.{optional, nothing, plus, minus, constant, linear, one, two, cell, element, addendConstants, subscriptNames, subscriptConstants, subscriptsNames, subscriptsConstants}
+use Rattle.rules_text.specs.Trees as trees
+use Rattle.rules_text.specs.Tokens.{leftParen, rightParen, star, plusSign, comma, minusSign, bad, give, andThen, after, choose, starts, startsDigit, number, name}
+use Rattle.rules_text.specs.Grammar.{addend, linearOf, subscript, subscripts, place}
 use Rattle.tokens.specs.declared.Sizes.{Sizes}
 use Rattle.tokens.specs.Words.{capped, nameWord}
 use Rattle.tokens.specs.Sizes.{sizesOf, both}

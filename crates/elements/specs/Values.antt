@@ -7,10 +7,10 @@ use mathlib.Core.Option.{Option, none, some}
 use Prim.Native.Nat.{ℕ}
 use lib.Dec.{eqb}
 use lib.ListN.{drop}
-use Rattle.rules_deck.specs.Trees.{Digits, optional, nothing, plus, minus, constant, linear, one, two, cell, addendConstants, subscriptNames, subscriptConstants, subscriptsNames, subscriptsConstants, targetNames, targetConstants}
-use Rattle.rules_deck.specs.Trees as trees
-use Rattle.rules_deck.specs.Tokens.{Found, plusSign, minusSign}
-use Rattle.rules_deck.specs.Grammar.{linearOf}
+use Rattle.rules_text.specs.Trees.{Digits, optional, nothing, plus, minus, constant, linear, one, two, cell, addendConstants, subscriptNames, subscriptConstants, subscriptsNames, subscriptsConstants, targetNames, targetConstants}
+use Rattle.rules_text.specs.Trees as trees
+use Rattle.rules_text.specs.Tokens.{Found, plusSign, minusSign}
+use Rattle.rules_text.specs.Grammar.{linearOf}
 use Rattle.tokens.specs.declared.Sizes.{Sizes}
 use Rattle.tokens.specs.Words.{capped, nameWord}
 use Rattle.tokens.specs.Sizes.{sizesOf}

@@ -2,7 +2,7 @@
 ghost use mathlib.Core.Path.{_≡_};
 ghost use Prim.Native.Nat.{_≤_};
 ghost use lib.ListN.{length, drop};
-ghost use Rattle.rules_deck.specs.Grammar.{addend, subscript, subscripts, place};
+ghost use Rattle.rules_text.specs.Grammar.{addend, subscript, subscripts, place};
 ghost use Rattle.elements.specs.Values.{signNumber, noSubscript, ReadsAddend, ReadsSubscript, ReadsLinear, ReadsSubscripts, ReadsPlace};
 use tokens::Sizes;
 use tokens::Token;

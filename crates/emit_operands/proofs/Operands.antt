@@ -9,7 +9,7 @@ use lib.ListN.{length, take, length-append}
 use Rattle.rules_object.specs.Operations.{CON, LOD, STO, STE}
 use Rattle.rules_object.specs.Bytes.{concat, elementWords}
 use Rattle.rules_shared.proofs.EachLaws.{each-head, each-both}
-use Rattle.rules_deck.specs.Trees.{Digits, valueOf}
+use Rattle.rules_text.specs.Trees.{Digits, valueOf}
 use Rattle.rules_deck.specs.Translation.{Held, cellOf, elementEntry, Tables, pool, poolAt, tablesAfter}
 use Rattle.tokens.specs.Words.{capped, nameWord}
 use Rattle.elements.specs.declared.Element.{Element}
@@ -31,7 +31,7 @@ use Rattle.emission.proofs.Fits.{constants-over, elements-over}
 use Rattle.emission.proofs.Both.{no-room}
 use Rattle.emission.proofs.One.{Between, itself, grows, one, no-counts}
 use Rattle.rules_object.specs.Object as object
-use Rattle.rules_deck.specs.Trees as trees
+use Rattle.rules_text.specs.Trees as trees
 use Rattle.elements.specs.declared.Target.the-variants as target
 use Rattle.entries.specs.declared.Pooled.the-variants as pooled
 use Rattle.emission.specs.declared.Emitted.the-variants as emitted

@@ -7,8 +7,8 @@ use mathlib.Core.List.{List, [], _∷_, _++_}
 use lib.ListN.{length}
 use Rattle.rules_object.specs.Object as object
 use Rattle.rules_object.specs.Operations.{operationNumber, Instr, CON, LOD}
-use Rattle.rules_deck.specs.Trees.{Name, Digits, valueOf}
-use Rattle.rules_deck.specs.Trees as trees
+use Rattle.rules_text.specs.Trees.{Name, Digits, valueOf}
+use Rattle.rules_text.specs.Trees as trees
 use Rattle.rules_deck.specs.Translation.{Held, isName, holds, cellOf, elementEntry, storeCode, Tables, addElement, tablesAfter, operand}
 use Rattle.tokens.specs.Words.{capped, nameWord}
 use Rattle.elements.specs.declared.Element.{Element}

@@ -11,10 +11,10 @@ use borrow.Author.Tests.{eq-eqb, ne-eqb, leb-true}
 use Rattle.rules_shared.specs.House.{house1401}
 use Rattle.rules_object.specs.Operations.{Instr, LOD, BRC, DOI}
 use Rattle.rules_shared.proofs.EachLaws.{each-head}
-use Rattle.rules_deck.specs.Trees.{Name, Digits, valueOf, Form, goTo, computed, formExits, formLast}
+use Rattle.rules_text.specs.Trees.{Name, Digits, valueOf, Form, goTo, computed, formExits, formLast}
 use Rattle.rules_deck.specs.Translation.{Held, isName, holds, cellOf, Tables}
 use Rattle.rules_deck.specs.Judge.{right13}
-use Rattle.rules_deck.proofs.Readers.{both-true}
+use Rattle.rules_text.proofs.Readers.{both-true}
 use Rattle.tokens.specs.Words.{capped, nameWord}
 use Rattle.draft.specs.declared.Counts.{Counts}
 use Rattle.draft.specs.Parts.{Item, formFirst, formEnding}

@@ -7,7 +7,7 @@ use mathlib.Core.List.{List, [], _++_, append-nil}
 use lib.ListN.{length, take, drop}
 use Rattle.rules_shared.specs.Limits.{limits}
 use Rattle.rules_object.specs.Operations.{Instr, DOI}
-use Rattle.rules_deck.specs.Trees.{Form, assign, goTo, computed, ifs, loop, continue, stop, end, dimension, formLast}
+use Rattle.rules_text.specs.Trees.{Form, assign, goTo, computed, ifs, loop, continue, stop, end, dimension, formLast}
 use Rattle.rules_deck.specs.Translation.{Held, Tables}
 use Rattle.draft.specs.declared.Counts.{Counts}
 use Rattle.draft.specs.Parts.{Worded, itemsCode, formItems, formEnding}

@@ -8,7 +8,7 @@ use lib.Dec.{eqb}
 use lib.ListN.{length, take}
 use Rattle.rules_shared.specs.House.{house1401}
 use Rattle.rules_object.specs.Operations.{DOI}
-use Rattle.rules_deck.specs.Trees.{Form, formLast}
+use Rattle.rules_text.specs.Trees.{Form, formLast}
 use Rattle.rules_deck.specs.Translation.{Held, Tables}
 use Rattle.rules_deck.specs.Judge.{right13}
 use Rattle.draft.specs.declared.Counts.{Counts}

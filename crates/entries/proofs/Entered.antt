@@ -11,8 +11,8 @@ use lib.IntN.{pos, negℤ}
 use Rattle.rules_object.specs.Bytes.{signedWord}
 use Rattle.rules_shared.specs.Lists.{Each}
 use Rattle.rules_shared.proofs.EachLaws.{each-head, each-tail, each-both}
-use Rattle.rules_deck.specs.Trees.{Name, Digits, valueOf, optional, Addend, nothing, plus, minus, constant, linear, one, two, addendConstants, subscriptNames, subscriptConstants, subscriptsNames, subscriptsConstants}
-use Rattle.rules_deck.specs.Trees as trees
+use Rattle.rules_text.specs.Trees.{Name, Digits, valueOf, optional, Addend, nothing, plus, minus, constant, linear, one, two, addendConstants, subscriptNames, subscriptConstants, subscriptsNames, subscriptsConstants}
+use Rattle.rules_text.specs.Trees as trees
 use Rattle.rules_deck.specs.Deck.{Dims, width}
 use Rattle.rules_deck.specs.Meaning.{times, addend}
 use Rattle.rules_deck.specs.Translation.{Held, baseOf, firstEntry}

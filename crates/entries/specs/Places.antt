@@ -9,7 +9,7 @@ use lib.ListN.{take}
 use Rattle.rules_object.specs.Bytes.{signedWord, elementWords}
 use Rattle.rules_object.specs.Object.{SubscriptEntry}
 use Rattle.rules_shared.specs.Lists.{Each}
-use Rattle.rules_deck.specs.Trees.{Name, subscriptNames, subscriptConstants, subscriptsNames, subscriptsConstants}
+use Rattle.rules_text.specs.Trees.{Name, subscriptNames, subscriptConstants, subscriptsNames, subscriptsConstants}
 use Rattle.rules_deck.specs.Deck.{Dims}
 use Rattle.rules_deck.specs.Translation.{Held, isName, holds, subscriptEntry, secondEntry, elementEntry}
 use Rattle.rules_deck.specs.Judge.{Reference, rightReference}
@@ -21,7 +21,7 @@ use Rattle.elements.specs.Values.{subscriptValue, subscriptsValue}
 use Rattle.draft.specs.Parts.{Item, place, itemNames, itemConstants, itemPlain, itemReferences}
 use Rattle.draft.specs.Names.{Lists, Told, Exact, dimsHeld}
 use Rattle.entries.specs.declared.Linear.{Linear}
-use Rattle.rules_deck.specs.Trees as trees
+use Rattle.rules_text.specs.Trees as trees
 
 abbrev pub linearWords : Linear → List ℕ
 linearWords s = s .times ∷ s .cell ∷ s .plus ∷ []

@@ -9,10 +9,10 @@ use native.Mathlib.Numerals.{add-one}
 use lib.ListN.{length, take, drop, getD, set, length-append, length-drop, length-set, drop-of-length-le}
 use lib.Seq.{drop-cons, drop-drop, take-suc-set}
 use Rattle.number.specs.Number.{Op, add, sub, mul, div}
-use Rattle.rules_deck.specs.Trees.{Expr, bin, levels, exprNames, exprConstants}
-use Rattle.rules_deck.specs.Tokens.{Found, found, bad, ahead, follow, andThen}
-use Rattle.rules_deck.specs.Grammar.{Mode, joined, more, parse}
-use Rattle.rules_deck.proofs.Found.{ahead-ahead}
+use Rattle.rules_text.specs.Trees.{Expr, bin, levels, exprNames, exprConstants}
+use Rattle.rules_text.specs.Tokens.{Found, found, bad, ahead, follow, andThen}
+use Rattle.rules_text.specs.Grammar.{Mode, joined, more, parse}
+use Rattle.rules_text.proofs.Found.{ahead-ahead}
 use Rattle.tokens.specs.declared.Sizes.{Sizes}
 use Rattle.tokens.specs.Sizes.{both}
 use Rattle.tokens.proofs.Measured.{sizes-join}

@@ -10,11 +10,11 @@ use lib.ListN.{length, take, drop, getD, set, length-append, length-drop}
 use lib.Seq.{take-take, take-append-le, length-take-le, drop-drop, take-suc-set, take-set-le}
 use lib.Dec.{eqb}
 use borrow.Author.Tests.{eqb-true, ne-eqb}
-use Rattle.rules_deck.specs.Trees.{Expr, par, levels, exprNames, exprConstants}
-use Rattle.rules_deck.specs.Tokens.{leftParen, rightParen, Found, found, bad, give, ahead, follow, andThen, after, choose, starts}
-use Rattle.rules_deck.specs.Grammar.{operand, sign, signed, sumOp, productOp, Mode, anExpression, aTerm, aFactor, moreTerms, moreFactors, more, step, parse}
-use Rattle.rules_deck.proofs.Found.{ahead-ahead}
-use Rattle.rules_deck.proofs.Parse.{parse-step}
+use Rattle.rules_text.specs.Trees.{Expr, par, levels, exprNames, exprConstants}
+use Rattle.rules_text.specs.Tokens.{leftParen, rightParen, Found, found, bad, give, ahead, follow, andThen, after, choose, starts}
+use Rattle.rules_text.specs.Grammar.{operand, sign, signed, sumOp, productOp, Mode, anExpression, aTerm, aFactor, moreTerms, moreFactors, more, step, parse}
+use Rattle.rules_text.proofs.Found.{ahead-ahead}
+use Rattle.rules_text.proofs.Parse.{parse-step}
 use Rattle.tokens.specs.declared.Sizes.{Sizes}
 use Rattle.tokens.specs.Sizes.{sizesOf}
 use Rattle.tokens.proofs.Tokens.{after-none, inside}

@@ -1,7 +1,7 @@
 // Readers of expressions: three functions that call each other in a cycle, each on a part of the text, and write postfix items.
 ghost use Prim.Native.Nat.{_+_, _*_, _<_, _≤_};
 ghost use lib.ListN.{length};
-ghost use Rattle.rules_deck.specs.Grammar.{parse, Mode};
+ghost use Rattle.rules_text.specs.Grammar.{parse, Mode};
 ghost use Rattle.items.specs.Parsed.{Parsed};
 use items::Got;
 use tokens::Sizes;

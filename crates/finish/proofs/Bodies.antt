@@ -7,7 +7,7 @@ use native.Mathlib.Omega.{arith}
 use lib.ListN.{length, take, length-take}
 use Rattle.rules_shared.specs.House.{house1401}
 use Rattle.rules_object.specs.Bytes.{bytesOf, concat, loopWords, lineWords, nameWords, objectBytes, bodyWords}
-use Rattle.rules_deck.specs.Trees.{Statement}
+use Rattle.rules_text.specs.Trees.{Statement}
 use Rattle.rules_deck.specs.Deck.{dosOf}
 use Rattle.rules_deck.specs.Translation.{heldOf, linesFrom, namesFrom, loopEntry, translate}
 use Rattle.draft.specs.declared.Counts.{Counts}

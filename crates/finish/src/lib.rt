@@ -5,7 +5,7 @@ ghost use Rattle.rules_object.specs.Bytes.{objectBytes};
 ghost use Rattle.rules_shared.specs.Refusals.{noRoom};
 ghost use Rattle.rules_shared.specs.Output.{write};
 ghost use Rattle.rules_shared.specs.House.{house1401};
-ghost use Rattle.rules_deck.specs.Trees.{Statement};
+ghost use Rattle.rules_text.specs.Trees.{Statement};
 ghost use Rattle.rules_deck.specs.Translation.{translate};
 ghost use Rattle.writer.specs.Answer.{answer, Low};
 ghost use Rattle.finish.specs.Finishing.{Finishes, Finished};

@@ -9,10 +9,10 @@ use native.Mathlib.Omega.{arith}
 use lib.Dec.{eqb}
 use lib.ListN.{length, take, drop, getD, length-drop}
 use borrow.Author.Tests.{eqb-true, eqb-false, eq-eqb, ne-eqb}
-use Rattle.rules_deck.specs.Trees.{Digits, Expr, levels, exprNames, exprConstants, targetNames, targetConstants, Form, assign, goTo, ifs, formNames, formConstants, formLevels}
-use Rattle.rules_deck.specs.Tokens.{leftParen, rightParen, comma, equals, wordGoTo, wordIf, wordContinue, wordStop, wordEnd, Found, found, bad, Reader, give, ahead, andThen, after, afterWord, allOf, whole, number}
-use Rattle.rules_deck.specs.Grammar.{place, expression, parse, anExpression, assignment, plainGoTo, arithmeticIf, readAssignment, readGoTo, readIf}
-use Rattle.rules_deck.proofs.Found.{not-found}
+use Rattle.rules_text.specs.Trees.{Digits, Expr, levels, exprNames, exprConstants, targetNames, targetConstants, Form, assign, goTo, ifs, formNames, formConstants, formLevels}
+use Rattle.rules_text.specs.Tokens.{leftParen, rightParen, comma, equals, wordGoTo, wordIf, wordContinue, wordStop, wordEnd, Found, found, bad, Reader, give, ahead, andThen, after, afterWord, allOf, whole, number}
+use Rattle.rules_text.specs.Grammar.{place, expression, parse, anExpression, assignment, plainGoTo, arithmeticIf, readAssignment, readGoTo, readIf}
+use Rattle.rules_text.proofs.Found.{not-found}
 use Rattle.cards.specs.declared.Number.{Number}
 use Rattle.tokens.specs.declared.Sizes.{Sizes}
 use Rattle.tokens.specs.declared.Token.the-variants as token

@@ -7,8 +7,8 @@ use mathlib.Core.Option.{Option, none, some}
 use mathlib.Core.Bool.{Bool, _&&_, cond}
 use lib.Dec.{eqb}
 use lib.ListN.{length, take, drop}
-use Rattle.rules_deck.specs.Trees.{Digits, Expr, con, var, elm, neg, par, bin, Array, array, Form, assign, goTo, computed, ifs, loop, continue, stop, end, dimension, formNames, formConstants, formLevels}
-use Rattle.rules_deck.specs.Tokens.{comma, wordContinue, wordStop, wordEnd, Reader, give, ahead, andThen, after, allOf, number}
+use Rattle.rules_text.specs.Trees.{Digits, Expr, con, var, elm, neg, par, bin, Array, array, Form, assign, goTo, computed, ifs, loop, continue, stop, end, dimension, formNames, formConstants, formLevels}
+use Rattle.rules_text.specs.Tokens.{comma, wordContinue, wordStop, wordEnd, Reader, give, ahead, andThen, after, allOf, number}
 use Rattle.rules_deck.specs.Meaning.{third}
 use Rattle.cards.specs.declared.Number.{Number}
 use Rattle.tokens.specs.declared.Sizes.{Sizes}

@@ -2,8 +2,8 @@
 ghost use mathlib.Core.Path.{_≡_};
 ghost use Prim.Native.Nat.{_*_, _≤_};
 ghost use lib.ListN.{length, drop};
-ghost use Rattle.rules_deck.specs.Tokens.{comma, after, number};
-ghost use Rattle.rules_deck.specs.Grammar.{readAssignment, readGoTo, readIf};
+ghost use Rattle.rules_text.specs.Tokens.{comma, after, number};
+ghost use Rattle.rules_text.specs.Grammar.{readAssignment, readGoTo, readIf};
 ghost use Rattle.tokens.specs.Words.{most};
 ghost use Rattle.tokens.specs.Reading.{ReadsNumber};
 ghost use Rattle.forms.specs.Statements.{asNumber, answer, Reads, EndsIf, onlyWord, wordForm};

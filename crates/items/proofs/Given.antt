@@ -6,10 +6,10 @@ use Prim.Native.Nat.{ℕ, _+_, _*_, _-_, _≤_}
 use native.Mathlib.Omega.{arith}
 use lib.ListN.{length, take, drop, length-drop}
 use lib.Seq.{take-all, take-take, take-append-le, length-take-le}
-use Rattle.rules_deck.specs.Trees.{Expr, con, levels, cell, element}
-use Rattle.rules_deck.specs.Trees as trees
-use Rattle.rules_deck.specs.Tokens.{Found, found, bad, Reader, give, andThen, startsDigit, number}
-use Rattle.rules_deck.specs.Grammar.{place, operandOf, operand}
+use Rattle.rules_text.specs.Trees.{Expr, con, levels, cell, element}
+use Rattle.rules_text.specs.Trees as trees
+use Rattle.rules_text.specs.Tokens.{Found, found, bad, Reader, give, andThen, startsDigit, number}
+use Rattle.rules_text.specs.Grammar.{place, operandOf, operand}
 use Rattle.tokens.specs.declared.Sizes.{Sizes}
 use Rattle.tokens.specs.Words.{capped}
 use Rattle.tokens.specs.Reading.{constantSize}

@@ -5,7 +5,7 @@ use Prim.Native.Nat.{ℕ}
 use mathlib.Core.List.{List, [], _∷_, _++_}
 use Rattle.number.specs.Number.{Op}
 use Rattle.rules_object.specs.Operations.{OP, operationNumber}
-use Rattle.rules_deck.specs.Trees.{Expr, con, var, elm, neg, par, bin, exprNames, exprConstants, levels}
+use Rattle.rules_text.specs.Trees.{Expr, con, var, elm, neg, par, bin, exprNames, exprConstants, levels}
 use Rattle.tokens.specs.declared.Sizes.{Sizes}
 use Rattle.tokens.specs.Words.{capped, nameWord}
 use Rattle.tokens.specs.Sizes.{sizesOf}

@@ -4,8 +4,8 @@ use mathlib.Core.Path.{_≡_}
 use Prim.Native.Nat.{ℕ, _+_, _*_, _≤_}
 use mathlib.Core.List.{List, [], _++_}
 use lib.ListN.{length, take}
-use Rattle.rules_deck.specs.Trees.{Expr, levels}
-use Rattle.rules_deck.specs.Tokens.{Found, found, bad}
+use Rattle.rules_text.specs.Trees.{Expr, levels}
+use Rattle.rules_text.specs.Tokens.{Found, found, bad}
 use Rattle.items.specs.declared.Got.{Got}
 use Rattle.items.specs.declared.Got.the-variants.{Read, Bad}
 use Rattle.items.specs.Items.{flat, exprSizes}

@@ -2,8 +2,8 @@
 ghost use mathlib.Core.List.{[], _∷_};
 ghost use Prim.Native.Nat.{_+_, _*_, _<_, _≤_};
 ghost use lib.ListN.{length};
-ghost use Rattle.rules_deck.specs.Tokens as book;
-ghost use Rattle.rules_deck.specs.Grammar as grammar;
+ghost use Rattle.rules_text.specs.Tokens as book;
+ghost use Rattle.rules_text.specs.Grammar as grammar;
 ghost use Rattle.items.specs.Items.{subscriptWords, targetWords};
 ghost use Rattle.items.specs.Parsed.{Put, Parsed};
 use elements::Element;

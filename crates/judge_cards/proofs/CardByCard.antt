@@ -10,8 +10,8 @@ use lib.ListN.{length, drop, length-append}
 use borrow.Author.Tests.{ne-eqb}
 use Rattle.rules_shared.specs.House.{house1401}
 use Rattle.rules_object.specs.Check.{blanks}
-use Rattle.rules_deck.specs.Cards.{cardsOf, columnsRead, numberColumns, textColumns, comment, firstCard, characters, Punched, rightNumber, Reading, nothingRead, wrongFirst, wrongContinuation, wrongCard, started, extended, continued, afterCard, cardsRefused, cardByCard}
-use Rattle.rules_deck.proofs.CardsLaws.{Stands, as-comment, as-first, as-continuation, stands}
+use Rattle.rules_text.specs.Cards.{cardsOf, columnsRead, numberColumns, textColumns, comment, firstCard, characters, Punched, rightNumber, Reading, nothingRead, wrongFirst, wrongContinuation, wrongCard, started, extended, continued, afterCard, cardsRefused, cardByCard}
+use Rattle.rules_text.proofs.CardsLaws.{Stands, as-comment, as-first, as-continuation, stands}
 use Rattle.cards.specs.declared.Columns.the-variants as columns
 use Rattle.cards.specs.declared.Number.{Number}
 use Rattle.cards.specs.Columns.{punchedOf, CardAt}

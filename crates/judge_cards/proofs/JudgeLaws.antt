@@ -8,7 +8,7 @@ use native.Mathlib.Omega.{arith}
 use lib.ListN.{length}
 use borrow.Author.Tests.{le-leb, lt-leb, ne-eqb}
 use Rattle.rules_shared.specs.House.{house1401}
-use Rattle.rules_deck.specs.Cards.{cardsOf, nothingRead, Carded, cardsRefused, statements, cardByCard, rightDigits, rightLength, counted, carded}
+use Rattle.rules_text.specs.Cards.{cardsOf, nothingRead, Carded, cardsRefused, statements, cardByCard, rightDigits, rightLength, counted, carded}
 use Rattle.judge_cards.specs.declared.Judged.the-variants.{Refused, Statements}
 use Rattle.cards.specs.declared.Sequence.{Sequence}
 use Rattle.judge_cards.specs.Judging.{judgedOf}

@@ -5,7 +5,7 @@ use mathlib.Core.Bool.{cond}
 use mathlib.Core.List.{List}
 use lib.ListN.{length}
 use Rattle.rules_shared.specs.House.{House}
-use Rattle.rules_deck.specs.Cards.{comment, firstCard, Reading, Carded, cardsRefused, statements}
+use Rattle.rules_text.specs.Cards.{comment, firstCard, Reading, Carded, cardsRefused, statements}
 use Rattle.judge_cards.specs.declared.Judged.{Judged}
 use Rattle.judge_cards.specs.declared.Judged.the-variants.{Refused, Statements}
 use Rattle.judge_cards.specs.declared.Begun.{Begun}

@@ -3,7 +3,7 @@ ghost use mathlib.Core.Path.{_≡_};
 ghost use Prim.Native.Nat.{ℕ, _<_, _≤_};
 ghost use lib.ListN.{length};
 ghost use Rattle.rules_shared.specs.House.{house1401};
-ghost use Rattle.rules_deck.specs.Cards.{cardsOf, nothingRead, wrongFirst, wrongContinuation, wrongCard, cardByCard, carded};
+ghost use Rattle.rules_text.specs.Cards.{cardsOf, nothingRead, wrongFirst, wrongContinuation, wrongCard, cardByCard, carded};
 ghost use Rattle.judge_cards.specs.Judging.{judgedOf, afterOf};
 use cards::Columns;
 use cards::Sequence;

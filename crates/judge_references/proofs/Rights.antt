@@ -10,7 +10,7 @@ use lib.ListN.{length, getD, drop, length-drop}
 use borrow.Author.Tests.{ne-eqb, le-ltb, lt-ltb}
 use Rattle.rules_shared.specs.Lists.{all, Each, each-more}
 use Rattle.rules_shared.proofs.EachLaws.{each-both}
-use Rattle.rules_deck.specs.Trees.{Name, Subscript, constant, linear, Subscripts, one, two, subscriptNames, subscriptsNames}
+use Rattle.rules_text.specs.Trees.{Name, Subscript, constant, linear, Subscripts, one, two, subscriptNames, subscriptsNames}
 use Rattle.rules_deck.specs.Translation.{Held, isArray, holds}
 use Rattle.rules_deck.specs.Judge.{rightCount, rightReference}
 use Rattle.tokens.specs.Words.{nameWord}

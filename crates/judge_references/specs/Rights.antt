@@ -6,7 +6,7 @@ use mathlib.Core.Bool.{Bool, _&&_, not, cond}
 use mathlib.Core.List.{List, _++_}
 use lib.Dec.{eqb, leb}
 use Rattle.rules_shared.specs.Lists.{all, Each}
-use Rattle.rules_deck.specs.Trees.{Name, Subscripts}
+use Rattle.rules_text.specs.Trees.{Name, Subscripts}
 use Rattle.rules_deck.specs.Translation.{Held, isArray, holds}
 use Rattle.rules_deck.specs.Judge.{rightReference}
 use Rattle.draft.specs.Parts.{Item, place, itemWords, itemsWords, itemNames, itemsNames, itemPlain, itemReferences, rightItems}

@@ -11,7 +11,7 @@ use lib.ListN.{length, take, length-take, length-map}
 use borrow.Author.Tests.{leb-true, leb-false, le-leb, lt-leb}
 use Rattle.rules_shared.specs.House.{house1401}
 use Rattle.rules_shared.specs.Lists.{all}
-use Rattle.rules_deck.specs.Trees.{Name, Expr, Digits, valueOf, Form, assign, goTo, computed, ifs, loop, continue, stop, end, dimension, formNames, formConstants, formExits, formLast, formLevels}
+use Rattle.rules_text.specs.Trees.{Name, Expr, Digits, valueOf, Form, assign, goTo, computed, ifs, loop, continue, stop, end, dimension, formNames, formConstants, formExits, formLast, formLevels}
 use Rattle.rules_deck.specs.Judge.{right11, right12, right13, right14}
 use Rattle.rules_deck.proofs.Houses.{lawful1401, right13-all}
 use Rattle.tokens.specs.Words.{capped}

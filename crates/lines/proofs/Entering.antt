@@ -11,7 +11,7 @@ use lib.Seq.{take-set-lt}
 use Rattle.rules_shared.specs.House.{House}
 use Rattle.rules_object.specs.Object.{Loop}
 use Rattle.rules_object.specs.Bytes.{concat, loopWords}
-use Rattle.rules_deck.specs.Trees.{Statement}
+use Rattle.rules_text.specs.Trees.{Statement}
 use Rattle.rules_deck.specs.Deck.{Do, dosOf}
 use Rattle.rules_deck.specs.Translation.{addressAt, loopEntry}
 use Rattle.rules_deck.proofs.TestLaws.{clash, at-before}

@@ -13,7 +13,7 @@ use Rattle.rules_object.specs.Object.{Named}
 use Rattle.rules_object.specs.Bytes.{concat, wordsOf, nameWords}
 use Rattle.rules_object.specs.Writable.{IsByte, WritableNamed}
 use Rattle.rules_shared.specs.Lists.{Each, each-none, each-more}
-use Rattle.rules_deck.specs.Trees.{Statement}
+use Rattle.rules_text.specs.Trees.{Statement}
 use Rattle.rules_deck.specs.Translation.{Held, name, array, hidden, arraySize, heldOf, filled, namesFrom, translate}
 use Rattle.rules_deck.proofs.TestLaws.{clash, at-before}
 use Rattle.rules_deck.proofs.Addresses.{at-some}

@@ -5,7 +5,7 @@ ghost use Prim.Native.Nat.{_+_, _*_, _/_, _<_, _≤_};
 ghost use lib.ListN.{length, take};
 ghost use Rattle.rules_shared.specs.House.{House};
 ghost use Rattle.rules_object.specs.Bytes.{concat, loopWords, lineWords, nameWords};
-ghost use Rattle.rules_deck.specs.Trees.{Statement};
+ghost use Rattle.rules_text.specs.Trees.{Statement};
 ghost use Rattle.rules_deck.specs.Deck.{dosOf};
 ghost use Rattle.rules_deck.specs.Translation.{heldOf, loopEntry, linesFrom, namesFrom};
 ghost use Rattle.addresses.specs.Given.{Rows, Loops, Rowed, Looped, Starts, Holds};

@@ -9,11 +9,11 @@ use native.Mathlib.Omega.{arith}
 use lib.Dec.{eqb}
 use borrow.Author.Tests.{eqb-true, eqb-false}
 use lib.ListN.{length, drop, getD, set, length-set}
-use Rattle.rules_deck.specs.Trees.{Name, Digits, array}
-use Rattle.rules_deck.specs.Trees as trees
-use Rattle.rules_deck.specs.Tokens.{leftParen, rightParen, comma, Found, found, bad, give, ahead, andThen, after, choose, starts, number, name}
-use Rattle.rules_deck.specs.Grammar.{arrayShape}
-use Rattle.rules_deck.proofs.Found.{ahead-none}
+use Rattle.rules_text.specs.Trees.{Name, Digits, array}
+use Rattle.rules_text.specs.Trees as trees
+use Rattle.rules_text.specs.Tokens.{leftParen, rightParen, comma, Found, found, bad, give, ahead, andThen, after, choose, starts, number, name}
+use Rattle.rules_text.specs.Grammar.{arrayShape}
+use Rattle.rules_text.proofs.Found.{ahead-none}
 use Rattle.tokens.specs.declared.Sizes.{Sizes}
 use Rattle.tokens.specs.Words.{capped, nameWord}
 use Rattle.tokens.specs.Sizes.{sizesOf, both}

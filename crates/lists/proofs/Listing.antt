@@ -5,9 +5,9 @@ use mathlib.Core.List.{List, [], _∷_, _++_, append-assoc}
 use Prim.Native.Nat.{ℕ, _+_, _*_, _≤_}
 use native.Mathlib.Omega.{arith}
 use lib.ListN.{length, take, drop, getD, length-append}
-use Rattle.rules_deck.specs.Tokens.{comma, Found, found, bad, Reader, give, ahead, follow, andThen, listed}
-use Rattle.rules_deck.proofs.Parse.{listStep, listed-step}
-use Rattle.rules_deck.proofs.Found.{ahead-none}
+use Rattle.rules_text.specs.Tokens.{comma, Found, found, bad, Reader, give, ahead, follow, andThen, listed}
+use Rattle.rules_text.proofs.Parse.{listStep, listed-step}
+use Rattle.rules_text.proofs.Found.{ahead-none}
 use Rattle.tokens.specs.declared.Sizes.{Sizes}
 use Rattle.tokens.specs.Reading.{endOf}
 use Rattle.tokens.proofs.Tokens.{inside}

@@ -9,10 +9,10 @@ use native.Mathlib.Omega.{arith}
 use lib.Dec.{leb}
 use lib.ListN.{length, take, drop, getD}
 use borrow.Author.Tests.{le-leb, lt-leb}
-use Rattle.rules_deck.specs.Trees.{Name, Digits, array, optional, arrayNames, arrayConstants, Form, computed, dimension, formNames, formConstants, formLevels}
-use Rattle.rules_deck.specs.Trees as trees
-use Rattle.rules_deck.specs.Tokens.{leftParen, rightParen, comma, wordGoTo, wordDimension, Found, found, bad, give, giveIf, ahead, andThen, allOf, whole, listed, number, name}
-use Rattle.rules_deck.specs.Grammar.{rightExits, computedGoTo, arrayShape, dimensions, readComputed, readDimension}
+use Rattle.rules_text.specs.Trees.{Name, Digits, array, optional, arrayNames, arrayConstants, Form, computed, dimension, formNames, formConstants, formLevels}
+use Rattle.rules_text.specs.Trees as trees
+use Rattle.rules_text.specs.Tokens.{leftParen, rightParen, comma, wordGoTo, wordDimension, Found, found, bad, give, giveIf, ahead, andThen, allOf, whole, listed, number, name}
+use Rattle.rules_text.specs.Grammar.{rightExits, computedGoTo, arrayShape, dimensions, readComputed, readDimension}
 use Rattle.tokens.specs.declared.Sizes.{Sizes}
 use Rattle.tokens.specs.Words.{capped, nameWord, startsWord}
 use Rattle.tokens.specs.Sizes.{sizesOf, both}

@@ -5,10 +5,10 @@ use Prim.Native.Nat.{ℕ, _+_, _≤_}
 use mathlib.Core.List.{List, [], _∷_, map}
 use mathlib.Core.Option.{none, some}
 use lib.ListN.{length, take, drop}
-use Rattle.rules_deck.specs.Trees.{Name, Digits, array, optional, arrayNames, arrayConstants, Form, computed}
-use Rattle.rules_deck.specs.Trees as trees
-use Rattle.rules_deck.specs.Tokens.{rightParen, comma, Found, found, bad, Reader, give, giveIf, ahead, andThen, after, choose, starts, allOf, number, name}
-use Rattle.rules_deck.specs.Grammar.{rightExits}
+use Rattle.rules_text.specs.Trees.{Name, Digits, array, optional, arrayNames, arrayConstants, Form, computed}
+use Rattle.rules_text.specs.Trees as trees
+use Rattle.rules_text.specs.Tokens.{rightParen, comma, Found, found, bad, Reader, give, giveIf, ahead, andThen, after, choose, starts, allOf, number, name}
+use Rattle.rules_text.specs.Grammar.{rightExits}
 use Rattle.tokens.specs.declared.Sizes.{Sizes}
 use Rattle.tokens.specs.Words.{capped, nameWord}
 use Rattle.tokens.specs.Sizes.{sizesOf}

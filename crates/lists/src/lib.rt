@@ -2,8 +2,8 @@
 ghost use mathlib.Core.List.{[], _∷_};
 ghost use Prim.Native.Nat.{_+_, _*_, _≤_};
 ghost use lib.ListN.{length, drop};
-ghost use Rattle.rules_deck.specs.Tokens.{listed, number};
-ghost use Rattle.rules_deck.specs.Grammar.{arrayShape, readComputed, readDimension};
+ghost use Rattle.rules_text.specs.Tokens.{listed, number};
+ghost use Rattle.rules_text.specs.Grammar.{arrayShape, readComputed, readDimension};
 ghost use Rattle.items.specs.Parsed.{Put};
 ghost use Rattle.forms.specs.Statements.{Reads};
 ghost use Rattle.lists.specs.Lists.{ReadsArray, ReadsColumns, ReadsNumbers, ReadsArrays, EndsComputed};

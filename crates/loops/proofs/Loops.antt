@@ -8,10 +8,10 @@ use Prim.Native.Nat.{ℕ, _+_, _≤_, _<_, max}
 use native.Mathlib.Omega.{arith}
 use lib.ListN.{length, drop, getD, take, length-append}
 use lib.Seq.{getD-take}
-use Rattle.rules_deck.specs.Trees.{Name, Digits, valueOf, Expr, con, var, levels, exprNames, exprConstants, Form, loop, formNames, formConstants, formLevels, elm, neg, par, bin}
-use Rattle.rules_deck.specs.Tokens.{comma, equals, wordDo, Found, bad, give, ahead, andThen, after, allOf, whole, number, name, plusSign, giveIf}
-use Rattle.rules_deck.specs.Grammar.{parameter, doLoop, readDo, parse, anExpression, expression, isParameter}
-use Rattle.rules_deck.proofs.ReadForms.{clash}
+use Rattle.rules_text.specs.Trees.{Name, Digits, valueOf, Expr, con, var, levels, exprNames, exprConstants, Form, loop, formNames, formConstants, formLevels, elm, neg, par, bin}
+use Rattle.rules_text.specs.Tokens.{comma, equals, wordDo, Found, bad, give, ahead, andThen, after, allOf, whole, number, name, plusSign, giveIf}
+use Rattle.rules_text.specs.Grammar.{parameter, doLoop, readDo, parse, anExpression, expression, isParameter}
+use Rattle.rules_text.proofs.ReadForms.{clash}
 use Rattle.cards.specs.declared.Number.{Number}
 use Rattle.tokens.specs.declared.Sizes.{Sizes}
 use Rattle.tokens.specs.Words.{capped, nameWord, startsWord}

@@ -5,9 +5,9 @@ use Prim.Native.Nat.{ℕ, max}
 use mathlib.Core.List.{List, _∷_, _++_}
 use mathlib.Core.Option.{none, some}
 use lib.ListN.{length, drop}
-use Rattle.rules_deck.specs.Trees.{Name, Digits, Expr, exprNames, exprConstants, levels, Form, loop}
-use Rattle.rules_deck.specs.Tokens.{comma, Found, Reader, give, ahead, andThen, after, choose, starts, allOf}
-use Rattle.rules_deck.specs.Grammar.{parameter}
+use Rattle.rules_text.specs.Trees.{Name, Digits, Expr, exprNames, exprConstants, levels, Form, loop}
+use Rattle.rules_text.specs.Tokens.{comma, Found, Reader, give, ahead, andThen, after, choose, starts, allOf}
+use Rattle.rules_text.specs.Grammar.{parameter}
 use Rattle.cards.specs.declared.Number.{Number}
 use Rattle.tokens.specs.declared.Sizes.{Sizes}
 use Rattle.tokens.specs.Words.{nameWord}

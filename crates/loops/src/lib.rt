@@ -2,7 +2,7 @@
 ghost use mathlib.Core.Path.{_≡_};
 ghost use Prim.Native.Nat.{_*_, _≤_};
 ghost use lib.ListN.{length, drop};
-ghost use Rattle.rules_deck.specs.Grammar.{parameter, readDo};
+ghost use Rattle.rules_text.specs.Grammar.{parameter, readDo};
 ghost use Rattle.forms.specs.Statements.{answer};
 ghost use Rattle.loops.specs.Parameters.{ReadsParameter, EndsBy, EndsDo};
 use cards::Number;

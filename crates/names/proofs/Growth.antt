@@ -12,11 +12,11 @@ use borrow.Author.Tests.{leb-false, lt-leb}
 use Rattle.rules_shared.specs.Limits.{limits}
 use Rattle.rules_shared.specs.Lists.{Each, each-none}
 use Rattle.rules_shared.proofs.EachLaws.{each-append}
-use Rattle.rules_deck.specs.Trees.{Name}
+use Rattle.rules_text.specs.Trees.{Name}
 use Rattle.rules_deck.specs.Deck.{Declared}
 use Rattle.rules_deck.specs.Translation.{Held, name, array, hidden, arraySize, cellCount, isName, holds, appear}
 use Rattle.rules_deck.specs.Judge.{nameCount}
-use Rattle.rules_deck.proofs.CardsLaws.{cases}
+use Rattle.rules_text.proofs.CardsLaws.{cases}
 use Rattle.rules_deck.specs.Cells.{namesHeld, arraysHeld}
 use Rattle.rules_deck.proofs.MapNames.{names-append}
 use Rattle.tokens.specs.Words.{nameWord}

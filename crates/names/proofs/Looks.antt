@@ -10,7 +10,7 @@ use lib.Dec.{ltb}
 use lib.ListN.{getD, drop, take-append-drop}
 use borrow.Author.Tests.{le-ltb}
 use Rattle.rules_shared.specs.Lists.{Each, each-more}
-use Rattle.rules_deck.specs.Trees.{Name}
+use Rattle.rules_text.specs.Trees.{Name}
 use Rattle.rules_deck.specs.Deck.{sameName, Dims, width}
 use Rattle.rules_deck.specs.Translation.{Held, name, array, hidden, arraySize, cellCount, isName, isArray, firstCell, holds, cellOf, baseOf}
 use Rattle.rules_deck.specs.Judge.{nameCount, Reference, rightCount, rightReference}

@@ -9,7 +9,7 @@ use lib.Dec.{eqb, ltb}
 use lib.ListN.{getD, drop}
 use borrow.Author.Tests.{ne-eqb, le-leb, lt-ltb, le-ltb, ltb-true, ltb-false}
 use Rattle.rules_shared.specs.Lists.{Each, each-more}
-use Rattle.rules_deck.specs.Trees.{Name}
+use Rattle.rules_text.specs.Trees.{Name}
 use Rattle.rules_deck.specs.Deck.{sameName, Dims}
 use Rattle.rules_deck.specs.Translation.{Held, name, array, hidden, arraySize, isName, isArray, firstCell, holds}
 use Rattle.rules_deck.specs.Judge.{nameCount}

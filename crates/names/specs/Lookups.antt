@@ -4,7 +4,7 @@ use mathlib.Core.Path.{_≡_}
 use Prim.Native.Nat.{ℕ, _≤_, _<_}
 use mathlib.Core.Bool.{Bool, true, false}
 use mathlib.Core.List.{List}
-use Rattle.rules_deck.specs.Trees.{Name}
+use Rattle.rules_text.specs.Trees.{Name}
 use Rattle.rules_deck.specs.Translation.{Held, isName, isArray, holds, cellOf, baseOf}
 use Rattle.rules_deck.specs.Judge.{Reference, rightReference}
 use Rattle.tokens.specs.Words.{nameWord}

@@ -8,7 +8,7 @@ use mathlib.Core.List.{List}
 use lib.ListN.{length, take, drop, length-take}
 use Rattle.rules_shared.specs.House.{house1401}
 use Rattle.rules_shared.specs.Lists.{Each}
-use Rattle.rules_deck.specs.Trees.{Array, arrayNames, Form, assign, goTo, computed, ifs, loop, continue, stop, end, dimension, formNames}
+use Rattle.rules_text.specs.Trees.{Array, arrayNames, Form, assign, goTo, computed, ifs, loop, continue, stop, end, dimension, formNames}
 use Rattle.rules_deck.specs.Translation.{Held}
 use Rattle.rules_deck.specs.Judge.{rightArrays, right15}
 use Rattle.rules_deck.proofs.BodySeven.{each-here}

@@ -7,7 +7,7 @@ use mathlib.Core.List.{List, [], _∷_, _++_, map, append-nil}
 use lib.ListN.{take, drop}
 use Rattle.rules_shared.specs.House.{house1401}
 use Rattle.rules_shared.specs.Lists.{Each}
-use Rattle.rules_deck.specs.Trees.{Array, arrayNames, Form, assign, goTo, computed, ifs, loop, continue, stop, end, dimension, formNames}
+use Rattle.rules_text.specs.Trees.{Array, arrayNames, Form, assign, goTo, computed, ifs, loop, continue, stop, end, dimension, formNames}
 use Rattle.rules_deck.specs.Deck.{declare, arraysIn}
 use Rattle.rules_deck.specs.Translation.{Held, array, hidden, appear, formPlain, hiddenIn, brings}
 use Rattle.rules_deck.specs.Judge.{rightArrays, right15}

@@ -6,7 +6,7 @@ use mathlib.Core.Bool.{Bool, true}
 use mathlib.Core.List.{List}
 use Rattle.rules_shared.specs.House.{house1401}
 use Rattle.rules_shared.specs.Lists.{Each}
-use Rattle.rules_deck.specs.Trees.{Form, formNames}
+use Rattle.rules_text.specs.Trees.{Form, formNames}
 use Rattle.rules_deck.specs.Translation.{Held, brings}
 use Rattle.rules_deck.specs.Judge.{right15, right16}
 use Rattle.draft.specs.Parts.{itemsWords, formFirst}

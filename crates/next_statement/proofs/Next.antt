@@ -12,13 +12,13 @@ use Rattle.rules_shared.specs.House.{house1401}
 use Rattle.rules_shared.specs.Refusals.{refusal}
 use Rattle.rules_shared.specs.Lists.{Each}
 use Rattle.rules_shared.proofs.EachLaws.{each-head}
-use Rattle.rules_deck.specs.Trees.{Form, assign, goTo, computed, ifs, loop, continue, stop, end, dimension}
-use Rattle.rules_deck.specs.Trees as trees
-use Rattle.rules_deck.specs.Cards.{cardsOf, textOf}
-use Rattle.rules_deck.specs.Grammar.{formOf}
+use Rattle.rules_text.specs.Trees.{Form, assign, goTo, computed, ifs, loop, continue, stop, end, dimension}
+use Rattle.rules_text.specs.Trees as trees
+use Rattle.rules_text.specs.Cards.{cardsOf, textOf}
+use Rattle.rules_text.specs.Grammar.{formOf}
 use Rattle.rules_deck.specs.Judge.{Taken, takes, judgeForm}
 use Rattle.rules_deck.specs.Compile.{Read, notRead, readText, afterReading, afterJudging}
-use Rattle.rules_deck.proofs.CardsLaws.{RightStatement}
+use Rattle.rules_text.proofs.CardsLaws.{RightStatement}
 use Rattle.cards.specs.declared.Number.{Number}
 use Rattle.texts.specs.Taking.{Accepted, over}
 use Rattle.texts.proofs.Onward.{Onward}

@@ -6,8 +6,8 @@ use mathlib.Core.List.{List, [], _∷_}
 use lib.ListN.{length, drop}
 use Rattle.rules_shared.specs.House.{house1401}
 use Rattle.rules_shared.specs.Refusals.{refusal}
-use Rattle.rules_deck.specs.Trees.{Form, Statement}
-use Rattle.rules_deck.specs.Cards.{Punched, cardsOf, textOf, grouped}
+use Rattle.rules_text.specs.Trees.{Form, Statement}
+use Rattle.rules_text.specs.Cards.{Punched, cardsOf, textOf, grouped}
 use Rattle.rules_deck.specs.Judge.{Taken, takes}
 use Rattle.rules_deck.specs.Compile.{Read, notRead, withStatement, readText}
 use Rattle.texts.specs.Taking.{Accepted}

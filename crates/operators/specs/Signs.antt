@@ -8,7 +8,7 @@ use mathlib.Core.Bool.{Bool, cond}
 use lib.Dec.{eqb}
 use lib.ListN.{set}
 use Rattle.number.specs.Number.{Op}
-use Rattle.rules_deck.specs.Tokens.{plusSign, minusSign}
+use Rattle.rules_text.specs.Tokens.{plusSign, minusSign}
 use Rattle.items.specs.Items.{opItem}
 
 -- the item of an operation that a byte may be, and 0 where it is none

@@ -3,7 +3,7 @@ ghost use mathlib.Core.Path.{_≡_};
 ghost use mathlib.Core.Bool.{true};
 ghost use Prim.Native.Nat.{_+_, _*_, _<_};
 ghost use lib.ListN.{length};
-ghost use Rattle.rules_deck.specs.Grammar.{sumOp, productOp};
+ghost use Rattle.rules_text.specs.Grammar.{sumOp, productOp};
 ghost use Rattle.operators.specs.Signs.{Signed, opNumber, signLen};
 
 // How many bytes the leading sign takes that a byte may be.

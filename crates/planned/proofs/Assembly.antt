@@ -10,7 +10,7 @@ use Rattle.rules_shared.specs.House.{house1401}
 use Rattle.rules_object.specs.Operations.{Instr}
 use Rattle.rules_object.specs.Bytes.{concat}
 use Rattle.rules_object.specs.Bytes as object
-use Rattle.rules_deck.specs.Trees.{Form}
+use Rattle.rules_text.specs.Trees.{Form}
 use Rattle.rules_deck.specs.Translation.{Held, emit}
 use Rattle.rules_deck.specs.Judge.{Taken, right13}
 use Rattle.draft.specs.declared.Counts.{Counts}

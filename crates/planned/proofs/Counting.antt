@@ -10,11 +10,11 @@ use lib.ListN.{length, take, length-map}
 use borrow.Author.Tests.{eqb-true, eqb-false, leb-true}
 use Rattle.rules_shared.specs.House.{House}
 use Rattle.rules_shared.specs.Lists.{all, Each, each-none, each-more}
-use Rattle.rules_deck.specs.Trees.{Target, cell, element, Form, assign, goTo, computed, ifs, loop, continue, stop, end, dimension, formExits, formLast}
+use Rattle.rules_text.specs.Trees.{Target, cell, element, Form, assign, goTo, computed, ifs, loop, continue, stop, end, dimension, formExits, formLast}
 use Rattle.rules_deck.specs.Lawful.{Lawful}
 use Rattle.rules_deck.specs.Judge.{right13}
 use Rattle.rules_deck.specs.Whole.{formSets}
-use Rattle.rules_deck.proofs.Readers.{both-true}
+use Rattle.rules_text.proofs.Readers.{both-true}
 use Rattle.tokens.specs.Words.{capped}
 use Rattle.elements.specs.Values.{targetValue}
 use Rattle.draft.specs.declared.Counts.{Counts}
@@ -99,7 +99,7 @@ after {p} {m} {l} {r} f e c s = go (eqb (p .kind) 4) refl
 
 -- ---- the plan's marks
 
-target-set : (t : Target) → cellWord (targetValue t) ≡ setWord (assign t (Rattle.rules_deck.specs.Trees.Expr.con []))
+target-set : (t : Target) → cellWord (targetValue t) ≡ setWord (assign t (Rattle.rules_text.specs.Trees.Expr.con []))
 unfolding cellWord targetValue formSets
 target-set (cell v) = refl
 target-set (element v s) = refl

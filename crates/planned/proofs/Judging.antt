@@ -7,7 +7,7 @@ use Prim.Native.Nat.{ℕ}
 use mathlib.Core.List.{List}
 use Rattle.rules_shared.specs.House.{house1401}
 use Rattle.rules_shared.specs.Lists.{Each}
-use Rattle.rules_deck.specs.Trees.{Form, formNames}
+use Rattle.rules_text.specs.Trees.{Form, formNames}
 use Rattle.rules_deck.specs.Translation.{Held}
 use Rattle.rules_deck.specs.Judge.{Taken, takes, right15, right16, right18, judgeForm}
 use Rattle.rules_deck.proofs.Houses.{lawful1401}

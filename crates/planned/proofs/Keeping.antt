@@ -12,7 +12,7 @@ use Rattle.rules_object.specs.Object.{Loop}
 use Rattle.rules_object.specs.Operations.{Instr}
 use Rattle.rules_object.specs.Bytes.{concat}
 use Rattle.rules_object.specs.Bytes as object
-use Rattle.rules_deck.specs.Trees.{Form, formLast, Statement}
+use Rattle.rules_text.specs.Trees.{Form, formLast, Statement}
 use Rattle.rules_deck.specs.Translation.{Held, brings, Tables, emit, tablesOf, cellCount}
 use Rattle.rules_deck.specs.Judge.{Taken, takes, right18, formExitWords, nameCount}
 use Rattle.draft.specs.declared.Counts.{Counts}

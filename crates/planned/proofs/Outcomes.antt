@@ -8,7 +8,7 @@ use mathlib.Core.List.{List, [], _∷_, map}
 use lib.ListN.{length, length-take, length-map}
 use Rattle.rules_shared.specs.House.{house1401}
 use Rattle.tokens.specs.Words.{capped}
-use Rattle.rules_deck.specs.Trees.{Form}
+use Rattle.rules_text.specs.Trees.{Form}
 use Rattle.rules_deck.specs.Translation.{Held, hidden, appear, formPlain, brings}
 use Rattle.rules_deck.specs.Judge.{Taken, right15, right16}
 use Rattle.draft.specs.declared.Counts.{Counts}

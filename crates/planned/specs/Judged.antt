@@ -4,7 +4,7 @@ use mathlib.Core.Path.{_≡_}
 use mathlib.Core.Option.{none, some}
 use Prim.Native.Nat.{ℕ, suc}
 use Rattle.rules_shared.specs.House.{house1401}
-use Rattle.rules_deck.specs.Trees as trees
+use Rattle.rules_text.specs.Trees as trees
 use Rattle.rules_deck.specs.Judge.{Taken, judgeForm}
 use Rattle.forms.specs.declared.Statement.{Statement}
 use Rattle.draft.specs.declared.Counts.{Counts}

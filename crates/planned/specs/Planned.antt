@@ -3,7 +3,7 @@
 use mathlib.Core.Path.{_≡_}
 use mathlib.Core.List.{List}
 use Prim.Native.Nat.{ℕ, _<_}
-use Rattle.rules_deck.specs.Trees.{Form}
+use Rattle.rules_text.specs.Trees.{Form}
 use Rattle.rules_deck.specs.Judge.{Taken}
 use Rattle.draft.specs.declared.Counts.{Counts}
 use Rattle.draft.specs.Parts.{itemsWords, formFirst}

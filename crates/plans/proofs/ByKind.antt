@@ -4,7 +4,7 @@ use mathlib.Core.Path.{_≡_, refl}
 use native.Mathlib.Omega.{arith}
 use mathlib.Core.List.{List}
 use mathlib.Core.Option.{Option}
-use Rattle.rules_deck.specs.Trees.{Name, Digits, Expr, Target, Array, Form, assign, goTo, computed, ifs, loop, continue, stop, end, dimension}
+use Rattle.rules_text.specs.Trees.{Name, Digits, Expr, Target, Array, Form, assign, goTo, computed, ifs, loop, continue, stop, end, dimension}
 use Rattle.draft.specs.Draft.{kindOf}
 use Rattle.plans.specs.Plans.{formPlan}
 

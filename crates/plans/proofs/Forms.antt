@@ -6,9 +6,9 @@ use mathlib.Core.Option.{Option, none, some}
 use Prim.Native.Nat.{ℕ, _≤_}
 use native.Mathlib.Omega.{arith}
 use lib.ListN.{length, take, length-take}
-use Rattle.rules_deck.specs.Trees.{Expr, Form, assign, goTo, computed, ifs, loop, continue, stop, end, dimension}
+use Rattle.rules_text.specs.Trees.{Expr, Form, assign, goTo, computed, ifs, loop, continue, stop, end, dimension}
 use Rattle.rules_deck.specs.Meaning.{third}
-use Rattle.rules_deck.specs.Accepted.{IsParameter, OptionalParameter, Shaped}
+use Rattle.rules_text.specs.Shaped.{IsParameter, OptionalParameter, Shaped}
 use Rattle.tokens.specs.Words.{capped}
 use Rattle.items.specs.Items.{targetWords, flat}
 use Rattle.forms.specs.Statements.{allWords, formWords, parameterValue, statementOf}

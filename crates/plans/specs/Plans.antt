@@ -6,7 +6,7 @@ use mathlib.Core.Bool.{cond}
 use mathlib.Core.List.{List, [], _∷_, map}
 use lib.Dec.{eqb}
 use lib.ListN.{length, take}
-use Rattle.rules_deck.specs.Trees.{Form, assign, goTo, computed, ifs, loop, continue, stop, end, dimension}
+use Rattle.rules_text.specs.Trees.{Form, assign, goTo, computed, ifs, loop, continue, stop, end, dimension}
 use Rattle.tokens.specs.Words.{capped, nameWord}
 use Rattle.cards.specs.declared.Number.{Number}
 use Rattle.elements.specs.declared.Target.{Target}

@@ -9,7 +9,7 @@ use native.Mathlib.Numerals.{add-one}
 use lib.IntN.{ℤ, pos, natAbs}
 use lib.Signed.{ltZ}
 use Rattle.number.proofs.Whole.{below-zero, not-below-zero}
-use Rattle.rules_deck.specs.Punch.{bytes}
+use Rattle.rules_text.specs.Punch.{bytes}
 use Rattle.rules_program.specs.Text.{numeral, signed, stated, subscripts}
 
 -- ---- a number with its sign

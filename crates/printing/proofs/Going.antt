@@ -10,7 +10,7 @@ use borrow.Author.Tests.{ne-eqb}
 use Rattle.texts.specs.Taking.{over}
 use Rattle.texts.proofs.TextLaws.{over-none, over-append}
 use Rattle.cards.proofs.CardLaws.{column, columns-end}
-use Rattle.rules_deck.specs.Cards.{withoutBlanks}
+use Rattle.rules_text.specs.Cards.{withoutBlanks}
 use Rattle.print_numbers.specs.Puts.{Room, Puts}
 use Rattle.print_numbers.proofs.PutLaws.{puts-length, one-byte}
 

@@ -4,7 +4,7 @@ ghost use Prim.Native.Nat.{_+_, _*_, _≤_, _<_};
 ghost use lib.ListN.{length, take, drop};
 ghost use Rattle.rules_object.specs.Check.{span};
 ghost use Rattle.rules_object.specs.Machine.{cell};
-ghost use Rattle.rules_deck.specs.Cards.{withoutBlanks};
+ghost use Rattle.rules_text.specs.Cards.{withoutBlanks};
 ghost use Rattle.rules_program.specs.Text.{haltLine, refusedLine, valueLine, valueLines, nameLines};
 ghost use Rattle.rules_program.specs.Tidy.{values};
 ghost use Rattle.object.specs.Layout.{namedAt, objectAt};

@@ -14,7 +14,7 @@ use Rattle.rules_object.specs.Bytes.{objectBytes}
 use Rattle.rules_shared.specs.Refusals.{noRoom}
 use Rattle.rules_shared.specs.Output.{Written, writtenIf, write}
 use Rattle.rules_deck.specs.Translation.{translate}
-use Rattle.rules_deck.specs.Cards.{cardLength}
+use Rattle.rules_text.specs.Cards.{cardLength}
 use Rattle.rules_deck.specs.Seen.{objectIn}
 use Rattle.rules_deck.specs.Compile.{Read, notRead, read, deckOf, writeRead, compiling}
 use Rattle.rules_deck.proofs.Houses.{lawful1401}

@@ -29,7 +29,7 @@ use Rattle.rules_object.proofs.Refusals.{from-accepts}
 use Rattle.rules_object.proofs.Runnable.{runs-exactly}
 use Rattle.rules_object.specs.Safe.{freshLent}
 use Rattle.rules_object.specs.Promised.{rightStoreOf, rightStore}
-use Rattle.rules_deck.specs.Trees.{Name, Statement, formNames}
+use Rattle.rules_text.specs.Trees.{Name, Statement, formNames}
 use Rattle.rules_deck.specs.Deck.{Do, sameName, Dims, dimsIn, dimsOf, endings}
 use Rattle.rules_deck.specs.Meaning.{Cause, plain, bounds, Standing, begin, meaning}
 use Rattle.rules_deck.specs.Cost.{meaningSteps}

@@ -19,7 +19,7 @@ use Rattle.rules_object.proofs.RoundTrip.{reads-back, writes-back}
 use Rattle.rules_deck.specs.Translation.{translate}
 use Rattle.rules_deck.specs.Compile.{Read, notRead, read, deckOf, writeRead, compiling}
 use Rattle.rules_deck.proofs.Houses.{lawful1401}
-use Rattle.rules_deck.proofs.Spellings.{spell-read, own-text, read-exactly, one-spelled}
+use Rattle.rules_text.proofs.Spellings.{spell-read, own-text, read-exactly, one-spelled}
 use Rattle.rules_deck.proofs.NoForm.{ten-exactly}
 use Rattle.rules_deck.proofs.CompiledWritable.{compiled-writable}
 use Rattle.rules_deck.proofs.Proved.{decks-right}

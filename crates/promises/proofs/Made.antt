@@ -15,7 +15,7 @@ use Rattle.rules_object.specs.Bytes.{objectBytes, readObject}
 use Rattle.rules_shared.specs.Refusals.{Refusal, refusal, accepted, noRoom}
 use Rattle.rules_shared.specs.Output.{writtenIf, write}
 use Rattle.rules_object.specs.Calls.{passed, checked}
-use Rattle.rules_deck.specs.Trees.{Statement}
+use Rattle.rules_text.specs.Trees.{Statement}
 use Rattle.rules_deck.specs.Meaning.{Key}
 use Rattle.rules_deck.specs.Translation.{heldOf, cellCount, namesFrom, translate}
 use Rattle.rules_deck.specs.Compile.{Read, notRead, read, deckOf, writeRead, compiling}

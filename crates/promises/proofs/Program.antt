@@ -7,7 +7,7 @@ use mathlib.Core.Option.{Option, none, some}
 use lib.ListN.{take, drop, replicate}
 use Rattle.rules_shared.specs.House.{house1401}
 use Rattle.rules_object.specs.Bytes.{objectBytes}
-use Rattle.rules_deck.specs.Cards.{cardLength}
+use Rattle.rules_text.specs.Cards.{cardLength}
 use Rattle.rules_deck.specs.Translation.{translate}
 use Rattle.rules_deck.specs.Compile.{Read, notRead, read, deckOf, writeRead, compiling}
 use Rattle.rules_deck.proofs.Houses.{lawful1401}

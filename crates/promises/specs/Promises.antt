@@ -29,16 +29,17 @@ use Rattle.rules_object.specs.Safe.{Right, ranWithCells, afterSteps, freshLent,
 use Rattle.rules_object.specs.Small.{wordHLT, wordCON, wordADD, wordJMP, object, codeOnly}
 use Rattle.rules_shared.specs.Lists.{Each}
 use Rattle.rules_object.specs.Promised.{Judged, rightStore, Runnable, TouchesOnly, StepsOf}
-use Rattle.rules_deck.specs.Trees.{Name, Statement, Form}
+use Rattle.rules_text.specs.Trees.{Name, Statement, Form}
 use Rattle.rules_deck.specs.Deck.{Do, endings}
-use Rattle.rules_deck.specs.Cards.{cardLength}
-use Rattle.rules_deck.specs.Grammar.{formOf}
+use Rattle.rules_text.specs.Cards.{cardLength}
+use Rattle.rules_text.specs.Grammar.{formOf}
 use Rattle.rules_deck.specs.Meaning.{Cause, Key, bounds, Standing}
 use Rattle.rules_deck.specs.Translation.{addressAt, filled}
 use Rattle.rules_deck.specs.Compile.{deckOf, compiling}
 use Rattle.rules_deck.specs.Lawful.{Lawful}
 use Rattle.rules_deck.specs.Accepted.{Among}
-use Rattle.rules_deck.specs.Spelling.{spellForm, Spells, Spellable, withoutPluses, NoForm}
+use Rattle.rules_text.specs.Spelling.{spellForm, Spells, Spellable, withoutPluses}
+use Rattle.rules_deck.specs.Unspelled.{NoForm}
 use Rattle.rules_deck.specs.Seen.{statementsOf, meaningOf, haltOf, deckSteps, InStatement, deckNames, deckDims, deckLevels, objectIn, namedCell, namedValues, lineOf, series, sum}
 use Rattle.rules_deck.specs.Worked.{decks, DecksRight}
 use Rattle.rules_program.specs.Text.{haltLine, refusedLine, nameLines}

@@ -11,7 +11,7 @@ use borrow.Author.Tests.{leb-true, leb-false, le-leb, lt-leb}
 use Rattle.rules_shared.specs.Limits.{limits}
 use Rattle.rules_shared.specs.House.{House}
 use Rattle.rules_shared.specs.Lists.{all}
-use Rattle.rules_deck.specs.Trees.{Name, Form, formNames, formConstants}
+use Rattle.rules_text.specs.Trees.{Name, Form, formNames, formConstants}
 use Rattle.rules_deck.specs.Judge.{startsInteger, right11, right12, right14}
 use Rattle.tokens.specs.Sizes.{largest, otherLetter, sizesOf}
 use Rattle.forms.specs.Statements.{formSizes}

@@ -9,12 +9,12 @@ use native.Mathlib.Omega.{arith}
 use lib.ListN.{length, take}
 use Rattle.rules_shared.specs.Lists.{each-more}
 use Rattle.rules_shared.proofs.EachLaws.{each-one}
-use Rattle.rules_deck.specs.Trees.{Form, assign, goTo, computed, ifs, loop, continue, stop, end, dimension}
-use Rattle.rules_deck.specs.Tokens.{comma, equals, wordContinue, wordStop, wordEnd, Reader, give, afterWord, whole}
-use Rattle.rules_deck.specs.Grammar.{plainGoTo, doLoop, readAssignment, readGoTo, readComputed, readIf, readDo, readContinue, readStop, readEnd, readDimension, present, readings, firstOf, formOf}
-use Rattle.rules_deck.proofs.Readers.{Any, Good, good-then, good-give, good-after, good-word, good-choose, good-any, good-number, good-name}
-use Rattle.rules_deck.proofs.ReadForms.{whole-good, good-parameter}
-use Rattle.rules_deck.proofs.OneForm.{form-is}
+use Rattle.rules_text.specs.Trees.{Form, assign, goTo, computed, ifs, loop, continue, stop, end, dimension}
+use Rattle.rules_text.specs.Tokens.{comma, equals, wordContinue, wordStop, wordEnd, Reader, give, afterWord, whole}
+use Rattle.rules_text.specs.Grammar.{plainGoTo, doLoop, readAssignment, readGoTo, readComputed, readIf, readDo, readContinue, readStop, readEnd, readDimension, present, readings, firstOf, formOf}
+use Rattle.rules_text.proofs.Readers.{Any, Good, good-then, good-give, good-after, good-word, good-choose, good-any, good-number, good-name}
+use Rattle.rules_text.proofs.ReadForms.{whole-good, good-parameter}
+use Rattle.rules_text.proofs.OneForm.{form-is}
 use Rattle.forms.specs.declared.Statement.{Statement}
 use Rattle.forms.specs.Statements.{formWords, statementOf, answer, words, Reads, onlyWord, wordForm}
 use Rattle.forms.proofs.Forms.{only-is}

@@ -2,7 +2,7 @@
 ghost use mathlib.Core.Path.{_≡_};
 ghost use Prim.Native.Nat.{_*_, _≤_};
 ghost use lib.ListN.{length};
-ghost use Rattle.rules_deck.specs.Grammar.{formOf};
+ghost use Rattle.rules_text.specs.Grammar.{formOf};
 ghost use Rattle.forms.specs.Statements.{Reads};
 ghost use Rattle.reader.specs.Which.{isForm};
 use forms::Statement;

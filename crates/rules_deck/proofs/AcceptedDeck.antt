@@ -12,15 +12,15 @@ use Rattle.rules_shared.specs.Limits.{limits}
 use Rattle.rules_shared.specs.House.{House}
 use Rattle.rules_shared.specs.Refusals.{Refusal}
 use Rattle.rules_shared.specs.Lists.{Each, each-none, each-more}
-use Rattle.rules_deck.specs.Trees.{Form, Statement}
-use Rattle.rules_deck.specs.Cards.{characters, Punched, textOf, Carded, cardsRefused, statements, carded, rightDigits}
+use Rattle.rules_text.specs.Trees.{Form, Statement}
+use Rattle.rules_text.specs.Cards.{characters, Punched, textOf, Carded, cardsRefused, statements, carded, rightDigits}
 use Rattle.rules_deck.specs.Lawful.{Lawful}
-use Rattle.rules_deck.specs.Grammar.{formOf}
+use Rattle.rules_text.specs.Grammar.{formOf}
 use Rattle.rules_deck.specs.Judge.{Taken, nothingTaken, takes, wrong, right11, right12, right13, right14, right15, right16, right18, judgeForm}
 use Rattle.rules_deck.specs.Whole.{judgeDeck}
 use Rattle.rules_deck.specs.Compile.{Read, notRead, read, withStatement, afterJudging, afterReading, readText, readFrom, readCarded, orRefuse, judgeRead, deckOf}
 use Rattle.rules_deck.specs.Accepted.{takenFrom, takenBefore, JudgedAt, Accepted}
-use Rattle.rules_deck.proofs.CardsLaws.{TextCharacter, textLimit, RightStatement, statements-right, statements-few}
+use Rattle.rules_text.proofs.CardsLaws.{TextCharacter, textLimit, RightStatement, statements-right, statements-few}
 use Rattle.rules_deck.proofs.TestLaws.{clash, else-both, not-wrong}
 use Rattle.rules_deck.proofs.TakenLaws.{before-next}
 

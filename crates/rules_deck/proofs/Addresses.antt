@@ -8,7 +8,7 @@ use mathlib.Core.List.{List, [], _∷_, _++_, map}
 use mathlib.Core.Option.{some}
 use lib.ListN.{length, getElem?, length-append, length-map}
 use Rattle.rules_object.specs.Operations.{Instr, NEG, DOE}
-use Rattle.rules_deck.specs.Trees.{Name, Form, assign, goTo, computed, ifs, loop, continue, stop, end, dimension, Statement}
+use Rattle.rules_text.specs.Trees.{Name, Form, assign, goTo, computed, ifs, loop, continue, stop, end, dimension, Statement}
 use Rattle.rules_deck.specs.Deck.{Dims, dimsOf, endings}
 use Rattle.rules_deck.specs.Translation.{Held, heldOf, formCode, words, addressIn, addressAt, addressOf, doInstr, enterCode, statementCode, codeFrom, codeOf}
 use Rattle.rules_deck.proofs.TestLaws.{clash, at-before}

@@ -5,13 +5,13 @@ use Prim.Native.Nat.{ℕ, suc}
 use mathlib.Core.Logic.{_⊎_, inl, inr}
 use mathlib.Core.Bool.{Bool, true, false, _||_, cond, false≢true}
 use mathlib.Core.List.{List, [], _∷_, _++_, map, append-nil, append-assoc}
-use Rattle.rules_deck.specs.Trees.{Name, Array, Form, Statement, Range, partsOf}
+use Rattle.rules_text.specs.Trees.{Name, Array, Form, Statement, Range, partsOf}
 use Rattle.rules_deck.specs.Deck.{sameName, Declared, declare, arraysIn, arraysOf, dimsIn, dimsOf}
 use Rattle.rules_deck.specs.Translation.{Held, name, array, hidden, arraySize, isName, isArray, holds, appear, formPlain, hiddenIn, brings, heldFrom, heldOf}
 use Rattle.rules_deck.specs.Judge.{Reference, rightCount, rightReference}
 use Rattle.rules_deck.specs.Cells.{arraysHeld, sizeOf}
 use Rattle.rules_deck.specs.Accepted.{Among, here, there}
-use Rattle.rules_deck.proofs.CardsLaws.{cases}
+use Rattle.rules_text.proofs.CardsLaws.{cases}
 use Rattle.rules_deck.proofs.TestLaws.{or-neither, or-either, or-one, name-same}
 
 -- ---- the arrays of a map

@@ -16,19 +16,19 @@ use Rattle.rules_shared.specs.Lists.{all, Each, each-more}
 use Rattle.rules_object.specs.Object.{Named}
 use Rattle.rules_object.specs.Check.{span, isLetter, isDigit}
 use Rattle.rules_shared.proofs.EachLaws.{each-map}
-use Rattle.rules_deck.specs.Trees.{Name, Array, array, arrayNames, Form, Statement, formNames, Range, partsOf}
-use Rattle.rules_deck.specs.Tokens.{isLetterOrDigit}
+use Rattle.rules_text.specs.Trees.{Name, Array, array, arrayNames, Form, Statement, formNames, Range, partsOf}
+use Rattle.rules_text.specs.Tokens.{isLetterOrDigit}
 use Rattle.rules_deck.specs.Deck.{sameName, Dims, Declared, declare, arraysIn, dimsIn, dimsOf}
 use Rattle.rules_deck.specs.Meaning.{plain}
 use Rattle.rules_deck.specs.Translation.{Held, name, hidden, cellCount, isName, isArray, holds, cellOf, baseOf, appear, formPlain, hiddenIn, brings, heldFrom, heldOf, filled, namesFrom}
 use Rattle.rules_deck.specs.Judge.{startsInteger, right11, Reference, rightReference, rightCount, formReferences, right16}
 use Rattle.rules_deck.specs.Accepted.{Among, here, there, Accepted}
 use Rattle.rules_deck.specs.Cells.{key, Has, namesHeld}
-use Rattle.rules_deck.specs.Spelling.{IsName, is-name}
+use Rattle.rules_text.specs.Spelling.{IsName, is-name}
 use Rattle.rules_deck.proofs.Houses.{name-fits}
-use Rattle.rules_deck.proofs.CardsLaws.{cases}
-use Rattle.rules_deck.proofs.Readers.{both-true, digit-bounds, letter-bounds}
-use Rattle.rules_deck.proofs.ReadForms.{read-names}
+use Rattle.rules_text.proofs.CardsLaws.{cases}
+use Rattle.rules_text.proofs.Readers.{both-true, digit-bounds, letter-bounds}
+use Rattle.rules_text.proofs.ReadForms.{read-names}
 use Rattle.rules_deck.proofs.CellLaws.{holds-right}
 use Rattle.rules_deck.proofs.Names.{name-same}
 use Rattle.rules_deck.proofs.TestLaws.{all-among, among-left, among-append}

@@ -11,13 +11,13 @@ use lib.Seq.{getD-set-same, getD-set-other}
 use lib.IntN.{ℤ, pos}
 use borrow.Author.Tests.{eqb-true}
 use Rattle.rules_object.specs.Machine.{cell}
-use Rattle.rules_deck.specs.Trees.{Name}
+use Rattle.rules_text.specs.Trees.{Name}
 use Rattle.rules_deck.specs.Deck.{sameName}
 use Rattle.rules_deck.specs.Meaning.{Key, plain, elementAt, sameKey, Values, put}
 use Rattle.rules_deck.specs.Translation.{Held, name, array, hidden, arraySize, size, cellCount, isName, isArray, isHidden, firstCell, holds, cellOf, baseOf, limitOf}
 use Rattle.rules_deck.specs.Cells.{Slot, key, limit, step, slotCell, sizeOf, Has, Holds}
 use Rattle.rules_deck.proofs.Names.{same-name, same-key, other-key}
-use Rattle.rules_deck.proofs.CardsLaws.{cases}
+use Rattle.rules_text.proofs.CardsLaws.{cases}
 use Rattle.rules_deck.proofs.TestLaws.{or-right, or-either}
 use Rattle.rules_deck.proofs.ArrayLaws.{holds-left}
 

@@ -23,14 +23,14 @@ use Rattle.rules_shared.specs.Lists.{firstBad, Each, each-none, each-more}
 use Rattle.rules_object.specs.Calls.{refused42, refused43}
 use Rattle.rules_object.proofs.Limited.{Limited, passes}
 use Rattle.rules_shared.proofs.EachLaws.{each-one, each-map}
-use Rattle.rules_deck.specs.Trees.{Name, Statement}
-use Rattle.rules_deck.specs.Tokens.{isLetterOrDigit}
+use Rattle.rules_text.specs.Trees.{Name, Statement}
+use Rattle.rules_text.specs.Tokens.{isLetterOrDigit}
 use Rattle.rules_deck.specs.Judge.{startsInteger}
 use Rattle.rules_deck.specs.Translation.{heldOf, cellCount, codeOf, filled, translate}
 use Rattle.rules_deck.specs.Lawful.{Lawful}
 use Rattle.rules_deck.specs.Accepted.{Accepted}
-use Rattle.rules_deck.specs.Spelling.{Passes, IsName, is-name}
-use Rattle.rules_deck.proofs.CardsLaws.{and-both}
+use Rattle.rules_text.specs.Spelling.{Passes, IsName, is-name}
+use Rattle.rules_text.proofs.CardsLaws.{and-both}
 use Rattle.rules_deck.proofs.TestLaws.{both, or-either, at-before}
 use Rattle.rules_deck.proofs.Addresses.{at-head, at-tail, at-fits, at-some}
 use Rattle.rules_deck.proofs.Tables.{getD-at, slice-at, InTables}

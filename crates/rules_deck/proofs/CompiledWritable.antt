@@ -23,15 +23,15 @@ use Rattle.rules_shared.specs.Lists.{Each, each-none, each-more}
 use Rattle.rules_shared.proofs.EachLaws.{each-map, each-append, each-take}
 use Rattle.rules_object.proofs.Limited.{tables-within}
 use Rattle.rules_object.proofs.RoundTrip.{all-eight, object-most, reads-back}
-use Rattle.rules_deck.specs.Trees.{Name, Statement}
-use Rattle.rules_deck.specs.Tokens.{isLetterOrDigit}
+use Rattle.rules_text.specs.Trees.{Name, Statement}
+use Rattle.rules_text.specs.Tokens.{isLetterOrDigit}
 use Rattle.rules_deck.specs.Translation.{heldOf, filled, translate}
 use Rattle.rules_deck.specs.Compile.{read, deckOf}
 use Rattle.rules_deck.specs.Seen.{levelsIn}
 use Rattle.rules_deck.specs.Lawful.{Lawful}
 use Rattle.rules_deck.specs.Accepted.{Accepted}
-use Rattle.rules_deck.specs.Spelling.{Passes, IsName, is-name}
-use Rattle.rules_deck.proofs.Readers.{digit-bounds, letter-bounds}
+use Rattle.rules_text.specs.Spelling.{Passes, IsName, is-name}
+use Rattle.rules_text.proofs.Readers.{digit-bounds, letter-bounds}
 use Rattle.rules_deck.proofs.TestLaws.{or-one}
 use Rattle.rules_deck.proofs.FittingDeck.{names-count, fitting}
 use Rattle.rules_deck.proofs.Emitted.{code-length}

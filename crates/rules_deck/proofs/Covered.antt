@@ -4,7 +4,7 @@ use mathlib.Core.Path.{_≡_, refl, ap}
 use mathlib.Core.Logic.{_⊎_, inl, inr}
 use mathlib.Core.List.{List, [], _∷_, _++_, map}
 use mathlib.Core.Option.{Option, some}
-use Rattle.rules_deck.specs.Trees.{Name, Subscripts, subscriptsNames, Expr, var, elm, neg, par, bin, exprNames, Target, cell, element, targetNames, written, Array, array, arrayNames, Form, assign, computed, ifs, loop, dimension, formNames}
+use Rattle.rules_text.specs.Trees.{Name, Subscripts, subscriptsNames, Expr, var, elm, neg, par, bin, exprNames, Target, cell, element, targetNames, written, Array, array, arrayNames, Form, assign, computed, ifs, loop, dimension, formNames}
 use Rattle.rules_deck.specs.Deck.{declare, arraysIn}
 use Rattle.rules_deck.specs.Translation.{Held, exprPlain, targetPlain, formPlain}
 use Rattle.rules_deck.specs.Judge.{Reference, exprReferences, targetReferences, formReferences}

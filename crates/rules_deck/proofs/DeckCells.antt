@@ -10,13 +10,13 @@ use native.Mathlib.Omega.{arith}
 use lib.ListN.{getElem?}
 use borrow.Author.Tests.{eq-eqb}
 use Rattle.rules_shared.proofs.Places.{place-below}
-use Rattle.rules_deck.specs.Trees.{Name, Subscripts, one, two, Form, loop, Statement}
+use Rattle.rules_text.specs.Trees.{Name, Subscripts, one, two, Form, loop, Statement}
 use Rattle.rules_deck.specs.Deck.{Do, doOf, dosFrom, dosOf, dimsOf, width}
 use Rattle.rules_deck.specs.Meaning.{plain, elementAt, Values, placeIn}
 use Rattle.rules_deck.specs.Translation.{Held, name, hidden, isName, isHidden, holds, appear, formPlain, brings, heldFrom, heldOf}
 use Rattle.rules_deck.specs.Accepted.{Among, here, there}
 use Rattle.rules_deck.specs.Cells.{Slot, key, limit, Has}
-use Rattle.rules_deck.proofs.CardsLaws.{cases}
+use Rattle.rules_text.proofs.CardsLaws.{cases}
 use Rattle.rules_deck.proofs.TestLaws.{among-append}
 pub use Rattle.rules_deck.proofs.TestLaws.{among-left, among-right}
 pub use Rattle.rules_deck.proofs.ArrayLaws.{size-held as size-dims}

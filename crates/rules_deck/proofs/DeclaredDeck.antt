@@ -13,12 +13,12 @@ use lib.ListN.{length, getElem?}
 use borrow.Author.Tests.{leb-true, eqb-true, not-true}
 use Rattle.rules_shared.specs.House.{House}
 use Rattle.rules_shared.specs.Lists.{all}
-use Rattle.rules_deck.specs.Trees.{Name, valueOf, Subscripts, one, two, Array, array, Form, assign, computed, ifs, loop, Statement}
+use Rattle.rules_text.specs.Trees.{Name, valueOf, Subscripts, one, two, Array, array, Form, assign, computed, ifs, loop, Statement}
 use Rattle.rules_deck.specs.Deck.{sameName, Dims, Declared, declare, arraysIn, arraysOf, dimsOf}
 use Rattle.rules_deck.specs.Translation.{Held, isName, isArray, holds, formPlain, brings}
 use Rattle.rules_deck.specs.Judge.{endsInF, seen, someCells, rightArrays, right15, Reference, formReferences, rightCount, rightReference, right16, Taken, takes}
 use Rattle.rules_deck.specs.Accepted.{Among, here, there, takenBefore, Accepted}
-use Rattle.rules_deck.proofs.CardsLaws.{and-both}
+use Rattle.rules_text.proofs.CardsLaws.{and-both}
 use Rattle.rules_deck.proofs.TestLaws.{or-neither, among-none, same-name, all-among, among-append, among-map, at-before}
 use Rattle.rules_deck.proofs.TakenLaws.{before-next, kept, held-all}
 use Rattle.rules_deck.specs.Cells.{arraysHeld}

@@ -11,7 +11,7 @@ use mathlib.Core.Option.{Option, some}
 use lib.Dec.{eqb}
 use lib.ListN.{getElem?}
 use borrow.Author.Tests.{eqb-true}
-use Rattle.rules_deck.specs.Trees.{Name, Digits, valueOf, Expr, Form, loop, Statement, formLast}
+use Rattle.rules_text.specs.Trees.{Name, Digits, valueOf, Expr, Form, loop, Statement, formLast}
 use Rattle.rules_deck.specs.Deck.{Do, doOf, dosFrom, dosOf, endingWith, endings}
 use Rattle.rules_deck.specs.Accepted.{Among, here, there}
 use Rattle.rules_deck.proofs.TestLaws.{clash, only, among-left, among-right, among-append, among-reverse}

@@ -12,7 +12,7 @@ use Rattle.rules_object.specs.Object.{Object}
 use Rattle.rules_object.specs.Operations.{Instr, DOE, decode}
 use Rattle.rules_shared.specs.Lists.{Each, each-none, each-more}
 use Rattle.rules_shared.proofs.EachLaws.{each-one, each-append}
-use Rattle.rules_deck.specs.Trees.{Name, valueOf, Expr, con, var, elm, neg, par, bin, Target, cell, element, Form, assign, goTo, computed, ifs, loop, continue, stop, end, dimension, Statement, Range, partsOf}
+use Rattle.rules_text.specs.Trees.{Name, valueOf, Expr, con, var, elm, neg, par, bin, Target, cell, element, Form, assign, goTo, computed, ifs, loop, continue, stop, end, dimension, Statement, Range, partsOf}
 use Rattle.rules_deck.specs.Deck.{positionOf, Do, Dims, doOf, dosFrom, dosOf, dimsOf, endings, doAt}
 use Rattle.rules_deck.specs.Meaning.{third}
 use Rattle.rules_deck.specs.Translation.{Held, size, cellCount, firstCell, cellOf, heldOf, exprCode, storeCode, formCode, addressOf, loopEntry, doInstr, enterCode, statementCode, codeFrom, codeOf, noTables, translate, doiFor}

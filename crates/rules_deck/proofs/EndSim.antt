@@ -15,7 +15,7 @@ use Rattle.rules_object.specs.Operations.{DOE}
 use Rattle.rules_object.specs.Machine.{State}
 use Rattle.rules_object.proofs.States.{state}
 use Rattle.rules_object.specs.Machine
-use Rattle.rules_deck.specs.Trees.{cell, Statement}
+use Rattle.rules_text.specs.Trees.{cell, Statement}
 use Rattle.rules_deck.specs.Deck.{Do, dosOf}
 use Rattle.rules_deck.specs.Meaning.{Cause, plain, Values, Bounds, Standing, turned, endOf, finish}
 use Rattle.rules_deck.specs.Cost.{turnedSteps, endSteps, finishSteps}

@@ -15,7 +15,7 @@ use Rattle.rules_shared.proofs.Places.{right-constant, place-same}
 use Rattle.rules_object.specs.Operations.{Instr, LDE, OP, NEG}
 use Rattle.rules_object.specs.Machine.{cell, subscriptOf, placeOf, elementLoaded, operated}
 use Rattle.rules_object.proofs.States.{state}
-use Rattle.rules_deck.specs.Trees.{Name, valueOf, Subscript, constant, linear, Subscripts, one, two, subscriptNames, subscriptsNames, Expr, con, var, elm, neg, par, bin, Statement}
+use Rattle.rules_text.specs.Trees.{Name, valueOf, Subscript, constant, linear, Subscripts, one, two, subscriptNames, subscriptsNames, Expr, con, var, elm, neg, par, bin, Statement}
 use Rattle.rules_deck.specs.Deck.{dimsOf}
 use Rattle.rules_deck.specs.Meaning.{Cause, plain, elementAt, Values, Evaluated, val, bad, subscript, placeIn, elementValue, after, negated, joined, eval}
 use Rattle.rules_deck.specs.Cost.{andOne, joinedSteps, exprSteps}

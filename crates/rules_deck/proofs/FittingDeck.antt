@@ -12,12 +12,12 @@ use borrow.Author.Tests.{leb-true, eqb-true}
 use Rattle.rules_shared.specs.Limits.{limits}
 use Rattle.rules_shared.specs.House.{House}
 use Rattle.rules_object.specs.Operations.{Instr, DOE}
-use Rattle.rules_deck.specs.Trees.{Form, Statement, formLast, Range, partsOf}
+use Rattle.rules_text.specs.Trees.{Form, Statement, formLast, Range, partsOf}
 use Rattle.rules_deck.specs.Deck.{positionOf, Do, doOf, dosFrom, dosOf, endingWith, endings, dimsOf, doAt}
 use Rattle.rules_deck.specs.Translation.{Held, name, array, hidden, arraySize, cellCount, heldOf, enterCode, addressOf, statementCode, doInstr, codeFrom, codeOf, Tables, noTables, tablesOf, namesFrom}
 use Rattle.rules_deck.specs.Judge.{Taken, nothingTaken, takes, poolAll, formPooled, formReferences, formExitWords, nameCount, right18}
 use Rattle.rules_deck.specs.Accepted.{Among, here, there, takenFrom, takenBefore, Accepted, Fitting}
-use Rattle.rules_deck.proofs.CardsLaws.{cases, and-both}
+use Rattle.rules_text.proofs.CardsLaws.{cases, and-both}
 use Rattle.rules_deck.proofs.TestLaws.{last-at}
 use Rattle.rules_deck.proofs.TakenLaws.{before-all, held-all}
 use Rattle.rules_deck.proofs.NestedDeck.{number-at, last-number}

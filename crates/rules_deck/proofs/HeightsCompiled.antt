@@ -11,12 +11,13 @@ use lib.ListN.{length, getElem?, replicate, length-append, length-map}
 use Rattle.rules_object.specs.Operations.{Instr, OP, NEG, DOI, DOE, pops, pushes, successors}
 use Rattle.number.specs.Number.{Op, add, sub, mul, div}
 use Rattle.rules_object.specs.Flow.{heightAt}
-use Rattle.rules_deck.specs.Trees.{Name, Digits, valueOf, Expr, con, var, elm, neg, par, bin, Target, cell, element, Form, assign, goTo, computed, ifs, loop, continue, stop, end, dimension, Statement, formExits, formLevels}
+use Rattle.rules_text.specs.Trees.{Name, Digits, valueOf, Expr, con, var, elm, neg, par, bin, Target, cell, element, Form, assign, goTo, computed, ifs, loop, continue, stop, end, dimension, Statement, formExits, formLevels}
 use Rattle.rules_deck.specs.Deck.{Dims, dimsOf, positionOf, Do, endings}
 use Rattle.rules_deck.specs.Meaning.{third}
 use Rattle.rules_deck.specs.Translation.{Held, heldOf, exprCode, storeCode, formCode, words, addressIn, addressAt, addressOf, doInstr, enterCode, statementCode, codeFrom, codeOf}
 use Rattle.rules_deck.specs.Seen.{levelsIn}
-use Rattle.rules_deck.specs.Accepted.{Among, here, there, IsParameter, OptionalParameter, Shaped}
+use Rattle.rules_deck.specs.Accepted.{Among, here, there}
+use Rattle.rules_text.specs.Shaped.{IsParameter, OptionalParameter, Shaped}
 use Rattle.rules_deck.proofs.Addresses.{At, at-some, at-head, at-tail, at-left, at-right, words-code, address-suc, address-grows, address-most}
 use Rattle.rules_deck.proofs.Tables.{getD-at}
 use Rattle.rules_deck.proofs.Needs.{need, need-some, sum-need, parameter-need, levels-deck, exprHeights, formHeights, length-expr, length-form, deckHeights, height-zero, heights-at}

@@ -11,12 +11,12 @@ use Rattle.number.specs.Number.{digitsRule}
 use Rattle.rules_shared.specs.Limits.{limits}
 use Rattle.rules_shared.specs.House.{House, house1401}
 use Rattle.rules_shared.specs.Lists.{all}
-use Rattle.rules_deck.specs.Trees.{Digits, Form, formExits, formLast}
-use Rattle.rules_deck.specs.Cards.{rightDigits}
+use Rattle.rules_text.specs.Trees.{Digits, Form, formExits, formLast}
+use Rattle.rules_text.specs.Cards.{rightDigits}
 use Rattle.rules_deck.specs.Judge.{numberWithin, right13}
 use Rattle.rules_deck.specs.Lawful.{Lawful}
-use Rattle.rules_deck.proofs.CardsLaws.{and-both}
-use Rattle.rules_deck.proofs.Values.{ten-most}
+use Rattle.rules_text.proofs.CardsLaws.{and-both}
+use Rattle.rules_text.proofs.Values.{ten-most}
 
 digits1401 : (k : ℕ) → rightDigits (house1401 k) ≡ true → (1 ≤ k) × (k ≤ limits .digits)
 unfolding rightDigits

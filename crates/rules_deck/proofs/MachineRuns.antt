@@ -16,7 +16,7 @@ use Rattle.rules_object.specs.Operations.{Instr}
 use Rattle.rules_object.specs.Machine.{State, act, step}
 use Rattle.rules_object.proofs.States.{state}
 use Rattle.rules_shared.proofs.RunLaws.{steps-add, Steps, rest, seq, one, last}
-use Rattle.rules_deck.specs.Trees.{Statement}
+use Rattle.rules_text.specs.Trees.{Statement}
 use Rattle.rules_deck.specs.Translation.{codeOf, translate}
 use Rattle.rules_deck.specs.Lawful.{Lawful}
 use Rattle.rules_deck.specs.Accepted.{Fitting}

@@ -12,7 +12,7 @@ use Rattle.rules_shared.specs.House.{House}
 use Rattle.rules_object.specs.Object.{Named}
 use Rattle.rules_object.specs.Check.{span}
 use Rattle.rules_shared.specs.Lists.{Each, each-none, each-more}
-use Rattle.rules_deck.specs.Trees.{Name}
+use Rattle.rules_text.specs.Trees.{Name}
 use Rattle.rules_deck.specs.Deck.{sameName, Dims, dimsIn, Declared, width}
 use Rattle.rules_deck.specs.Translation.{Held, name, array, hidden, arraySize, cellCount, isName, isArray, firstCell, holds, filled, namesFrom}
 use Rattle.rules_deck.specs.Cells.{namesHeld, arraysHeld}

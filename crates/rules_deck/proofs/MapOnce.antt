@@ -11,13 +11,13 @@ use lib.ListN.{getElem?, take}
 use borrow.Author.Tests.{leb-true, not-true}
 use Rattle.rules_shared.specs.House.{House}
 use Rattle.rules_shared.specs.Lists.{all}
-use Rattle.rules_deck.specs.Trees.{Name, valueOf, Array, Form, assign, goTo, computed, ifs, loop, continue, stop, end, dimension, Statement}
+use Rattle.rules_text.specs.Trees.{Name, valueOf, Array, Form, assign, goTo, computed, ifs, loop, continue, stop, end, dimension, Statement}
 use Rattle.rules_deck.specs.Deck.{sameName, Declared, declare, arraysIn}
 use Rattle.rules_deck.specs.Translation.{Held, name, array, hidden, isName, isArray, holds, appear, formPlain, brings, heldFrom, heldOf}
 use Rattle.rules_deck.specs.Judge.{endsInF, seen, someCells, rightArrays, right15, rightReference, formReferences, right16, Taken, nothingTaken, takes}
 use Rattle.rules_deck.specs.Accepted.{Among, here, there, takenFrom, takenBefore, Accepted}
-use Rattle.rules_deck.proofs.CardsLaws.{cases}
-use Rattle.rules_deck.proofs.Readers.{both-true}
+use Rattle.rules_text.proofs.CardsLaws.{cases}
+use Rattle.rules_text.proofs.Readers.{both-true}
 use Rattle.rules_deck.proofs.Names.{same-name}
 use Rattle.rules_deck.proofs.TestLaws.{or-neither, all-among, among-none, among-append}
 use Rattle.rules_deck.specs.Cells.{namesHeld}

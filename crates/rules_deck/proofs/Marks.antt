@@ -9,7 +9,7 @@ use Rattle.number.specs.Number.{Loss, isLoss, first}
 use Rattle.number.proofs.Laws.{first-yes, first-no}
 use Rattle.rules_shared.specs.Choose.{firstMark, marked}
 use Rattle.rules_shared.proofs.ChooseLaws.{marked-yes, marked-no}
-use Rattle.rules_deck.specs.Trees.{Statement}
+use Rattle.rules_text.specs.Trees.{Statement}
 use Rattle.rules_deck.specs.Translation.{addressAt}
 use Rattle.rules_deck.specs.Cells.{SameMark, unmarked}
 use Rattle.rules_deck.specs.Cells

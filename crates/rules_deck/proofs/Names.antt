@@ -4,10 +4,10 @@ use mathlib.Core.Path.{_≡_, refl, sym, ap, _∙_}
 use mathlib.Core.Bool.{true, false, false≢true}
 use lib.Dec.{eqb}
 use borrow.Author.Tests.{eqb-true, eq-eqb}
-use Rattle.rules_deck.specs.Trees.{Name}
+use Rattle.rules_text.specs.Trees.{Name}
 use Rattle.rules_deck.specs.Deck.{sameName}
 use Rattle.rules_deck.specs.Meaning.{Key, plain, elementAt, sameKey}
-use Rattle.rules_deck.proofs.Readers.{both-true}
+use Rattle.rules_text.proofs.Readers.{both-true}
 use Rattle.rules_deck.proofs.TestLaws.{both}
 pub use Rattle.rules_deck.proofs.TestLaws.{same-name, name-same}
 

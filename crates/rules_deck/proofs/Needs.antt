@@ -9,12 +9,12 @@ use lib.ListN.{length, getElem?, replicate, length-append, length-replicate}
 use lib.Seq.{getD-append-add}
 use Rattle.rules_object.specs.Operations.{Instr, NEG}
 use Rattle.rules_object.specs.Flow.{heightAt}
-use Rattle.rules_deck.specs.Trees.{Name, Expr, con, var, elm, neg, par, bin, levels, Form, assign, goTo, computed, ifs, loop, continue, stop, end, dimension, Statement, formLevels}
+use Rattle.rules_text.specs.Trees.{Name, Expr, con, var, elm, neg, par, bin, levels, Form, assign, goTo, computed, ifs, loop, continue, stop, end, dimension, Statement, formLevels}
 use Rattle.rules_deck.specs.Deck.{Dims, dimsOf, endings}
 use Rattle.rules_deck.specs.Seen.{levelsIn}
 use Rattle.rules_deck.specs.Meaning.{third}
 use Rattle.rules_deck.specs.Translation.{Held, heldOf, exprCode, formCode, words, addressIn, addressAt, addressOf, enterCode, codeFrom, codeOf}
-use Rattle.rules_deck.specs.Accepted.{IsSum, first, minus, plus, less, IsProduct, only, times, over, IsFactor, parens, IsParameter}
+use Rattle.rules_text.specs.Shaped.{IsSum, first, minus, plus, less, IsProduct, only, times, over, IsFactor, parens, IsParameter}
 use Rattle.rules_deck.proofs.Addresses.{At, at-shift, at-front, words-code}
 
 -- ---- how high an expression goes above where it starts

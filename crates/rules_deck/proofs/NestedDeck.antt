@@ -12,12 +12,12 @@ use borrow.Author.Tests.{leb-true, ltb-true, eqb-true, lt-ltb, le-leb, ne-eqb, l
 use Rattle.rules_shared.specs.Limits.{limits}
 use Rattle.rules_shared.specs.House.{House}
 use Rattle.rules_shared.specs.Lists.{all}
-use Rattle.rules_deck.specs.Trees.{Name, Digits, valueOf, Statement, formExits, formLast}
+use Rattle.rules_text.specs.Trees.{Name, Digits, valueOf, Statement, formExits, formLast}
 use Rattle.rules_deck.specs.Deck.{sameName, positionOf, Do, dosOf, endings}
 use Rattle.rules_deck.specs.Judge.{numberWithin}
 use Rattle.rules_deck.specs.Whole.{isEnd, endsWell, isDimension, right21, defined, right22, lastOf, inRange, mayEnd, mayEndAt, crosses, depth, staysOut, right24, formSets, right25}
 use Rattle.rules_deck.specs.Accepted.{Among, Accepted, InRange, Nested}
-use Rattle.rules_deck.proofs.CardsLaws.{and-both}
+use Rattle.rules_text.proofs.CardsLaws.{and-both}
 use Rattle.rules_deck.proofs.Houses.{right13-all}
 use Rattle.rules_deck.proofs.TestLaws.{or-right, implies, not-both, both, all-among, among-left, among-right, at-before}
 use Rattle.rules_deck.proofs.DoLaws.{do-at, do-last, among-endings}

@@ -23,7 +23,7 @@ use Rattle.rules_object.specs.Passed.{Passed}
 use Rattle.rules_object.proofs.Safe.{run-stands, run-halts}
 use Rattle.rules_object.proofs.Lents.{taken-stands}
 use Rattle.rules_object.proofs.Accepts.{Accepts, Answer, refuses, runs, answer}
-use Rattle.rules_deck.specs.Trees.{Statement}
+use Rattle.rules_text.specs.Trees.{Statement}
 use Rattle.rules_deck.specs.Translation.{translate}
 use Rattle.rules_deck.specs.Compile.{read, deckOf}
 use Rattle.rules_deck.specs.Lawful.{Lawful}

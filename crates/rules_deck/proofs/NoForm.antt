@@ -13,16 +13,17 @@ use Rattle.rules_shared.specs.House.{House}
 use Rattle.rules_object.specs.Bytes.{objectBytes}
 use Rattle.rules_shared.specs.Refusals.{Refusal, refusal, noRoom}
 use Rattle.rules_shared.specs.Output.{writtenIf, write}
-use Rattle.rules_deck.specs.Trees.{Form, Statement}
-use Rattle.rules_deck.specs.Cards.{Punched, textOf, Carded, cardsRefused, statements, carded}
-use Rattle.rules_deck.specs.Grammar.{formOf}
+use Rattle.rules_text.specs.Trees.{Form, Statement}
+use Rattle.rules_text.specs.Cards.{Punched, textOf, Carded, cardsRefused, statements, carded}
+use Rattle.rules_text.specs.Grammar.{formOf}
 use Rattle.rules_deck.specs.Judge.{Taken, nothingTaken, takes, judgeForm}
 use Rattle.rules_deck.specs.Translation.{translate}
 use Rattle.rules_deck.specs.Whole.{judgeDeck}
 use Rattle.rules_deck.specs.Compile.{Read, notRead, read, withStatement, afterJudging, afterReading, readText, readFrom, readCarded, orRefuse, judgeRead, deckOf, writeRead, compiling}
-use Rattle.rules_deck.specs.Spelling.{Spells, NoForm}
+use Rattle.rules_text.specs.Spelling.{Spells}
+use Rattle.rules_deck.specs.Unspelled.{NoForm}
 use Rattle.rules_deck.proofs.RefusedDeck.{NumberOther, RefusalOther, CardedOther, carded-other, judge-other, deck-other}
-use Rattle.rules_deck.proofs.Spellings.{none-spelled, none-read}
+use Rattle.rules_text.proofs.Spellings.{none-spelled, none-read}
 
 -- ---- where 10 is given, the text spells none
 

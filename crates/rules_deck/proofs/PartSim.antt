@@ -18,7 +18,7 @@ use Rattle.rules_object.specs.Operations.{STO, STE, BR3, BRC, DOI, DOE}
 use Rattle.rules_object.specs.Machine.{placeOf, elementStored, branched}
 use Rattle.rules_object.proofs.States.{state}
 use Rattle.rules_object.specs.Machine
-use Rattle.rules_deck.specs.Trees.{Name, Digits, valueOf, Subscripts, subscriptsNames, cell, element, Form, Statement, formExits}
+use Rattle.rules_text.specs.Trees.{Name, Digits, valueOf, Subscripts, subscriptsNames, cell, element, Form, Statement, formExits}
 use Rattle.rules_deck.specs.Deck.{positionOf, Do, doOf, dosOf, endings, dimsOf}
 use Rattle.rules_deck.specs.Meaning.{plain, elementAt, Values, Evaluated, val, placeIn, Bounds, stored, assigned, tested, chosen, begun, read}
 use Rattle.rules_deck.specs.Cost.{andOne, storedSteps, assignedSteps, begunSteps, readSteps}
@@ -27,7 +27,7 @@ use Rattle.rules_deck.specs.Whole.{isEnd, endsWell}
 use Rattle.rules_deck.specs.Accepted.{Among, here, there}
 use Rattle.rules_deck.specs.Cells.{key, Has, Holds, SameMark}
 use Rattle.rules_deck.specs.Sound.{Sound}
-use Rattle.rules_deck.proofs.CardsLaws.{and-both}
+use Rattle.rules_text.proofs.CardsLaws.{and-both}
 use Rattle.rules_deck.proofs.CellLaws.{holds-put, holds-hidden, holds-step}
 use Rattle.rules_deck.proofs.DeckCells.{plain-has, hidden-has, variable-has, element-has}
 use Rattle.rules_deck.proofs.Addresses.{At}

@@ -8,7 +8,7 @@ use mathlib.Core.Option.{none, some}
 use lib.Dec.{eqb}
 use lib.ListN.{length, getElem?}
 use Rattle.rules_shared.specs.House.{House}
-use Rattle.rules_deck.specs.Trees.{Statement}
+use Rattle.rules_text.specs.Trees.{Statement}
 use Rattle.rules_deck.specs.Deck.{Do, dosOf}
 use Rattle.rules_deck.specs.Whole.{firstWrong, isEnd, endsWell, refused20, right21, right22, rightDo, firstWrongDo, right24, right25, refusedAt, judgeDeck}
 use Rattle.rules_deck.specs.Accepted.{Among, here, there, Accepted}

@@ -9,7 +9,7 @@ use native.Mathlib.Omega.{arith}
 use mathlib.Core.List.{List, []}
 use mathlib.Core.Option.{some}
 use lib.ListN.{getElem?}
-use Rattle.rules_deck.specs.Trees.{Form, Statement}
+use Rattle.rules_text.specs.Trees.{Form, Statement}
 use Rattle.rules_deck.specs.Deck.{Do, doOf, dosOf}
 use Rattle.rules_deck.specs.Whole.{lastOf}
 use Rattle.rules_deck.specs.Accepted.{Among, InRange, Nested}

@@ -13,14 +13,14 @@ use Rattle.rules_shared.specs.Limits.{limits}
 use Rattle.rules_shared.specs.House.{House}
 use Rattle.rules_object.specs.Check.{blanks}
 use Rattle.rules_shared.specs.Refusals.{Refusal, orElse}
-use Rattle.rules_deck.specs.Trees.{Form, Statement}
-use Rattle.rules_deck.specs.Cards.{Punched, textOf, comment, firstCard, characters, columnsRead, numberColumns, rightNumber, Reading, nothingRead, wrongFirst, wrongContinuation, wrongCharacters, wrongCard, afterCard, Carded, cardsRefused, statements, cardByCard, rightDigits, rightLength, cardsOf, counted, carded}
-use Rattle.rules_deck.specs.Grammar.{formOf}
+use Rattle.rules_text.specs.Trees.{Form, Statement}
+use Rattle.rules_text.specs.Cards.{Punched, textOf, comment, firstCard, characters, columnsRead, numberColumns, rightNumber, Reading, nothingRead, wrongFirst, wrongContinuation, wrongCharacters, wrongCard, afterCard, Carded, cardsRefused, statements, cardByCard, rightDigits, rightLength, cardsOf, counted, carded}
+use Rattle.rules_text.specs.Grammar.{formOf}
 use Rattle.rules_deck.specs.Judge.{Taken, nothingTaken, takes, wrong, right11, right12, right13, right14, right15, right16, right18, judgeForm}
 use Rattle.rules_deck.specs.Whole.{firstWrong, firstWrongDo, refused20, right21, right22, right24, right25, refusedAt, judgeDeck}
 use Rattle.rules_deck.specs.Deck.{dosOf}
 use Rattle.rules_deck.specs.Compile.{Read, notRead, read, withStatement, afterJudging, afterReading, readText, readFrom, readCarded, orRefuse, judgeRead, deckOf}
-use Rattle.rules_deck.proofs.CardsLaws.{cases}
+use Rattle.rules_text.proofs.CardsLaws.{cases}
 
 -- the numbers that are given for anything but a form
 abbrev pub Other : ℕ → Type 0

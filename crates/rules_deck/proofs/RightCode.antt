@@ -12,12 +12,13 @@ use Rattle.rules_object.specs.Object.{SubscriptEntry, Element}
 use Rattle.rules_object.specs.Operations.{Instr, HLT, CON, LOD, STO, LDE, STE, OP, NEG, JMP, BR3, BRC, DOI, DOE}
 use Rattle.rules_shared.specs.Lists.{Each, each-none, each-more}
 use Rattle.rules_shared.proofs.EachLaws.{each-head, each-tail, each-one, each-append, each-left, each-right}
-use Rattle.rules_deck.specs.Trees.{Name, Digits, valueOf, Addend, nothing, plus, minus, constant, linear, Subscripts, one, two, Expr, con, var, elm, neg, par, bin, Target, cell, element, written, Form, assign, goTo, computed, ifs, loop, continue, stop, end, dimension, Statement, addendConstants, optional, subscriptNames, subscriptsNames, subscriptConstants, subscriptsConstants, exprConstants, targetConstants, formConstants, formExits, Range, partsOf}
+use Rattle.rules_text.specs.Trees.{Name, Digits, valueOf, Addend, nothing, plus, minus, constant, linear, Subscripts, one, two, Expr, con, var, elm, neg, par, bin, Target, cell, element, written, Form, assign, goTo, computed, ifs, loop, continue, stop, end, dimension, Statement, addendConstants, optional, subscriptNames, subscriptsNames, subscriptConstants, subscriptsConstants, exprConstants, targetConstants, formConstants, formExits, Range, partsOf}
 use Rattle.rules_deck.specs.Deck.{Dims, dimsOf, Do, endings, width}
 use Rattle.rules_deck.specs.Meaning.{times, addend, third}
 use Rattle.rules_deck.specs.Translation.{Held, heldOf, cellOf, baseOf, exprPlain, targetPlain, formPlain, subscriptEntry, elementEntry, exprCode, storeCode, formCode, addressOf, doInstr, enterCode, codeFrom, codeOf, doiFor}
 use Rattle.rules_deck.specs.Judge.{Reference, exprReferences, targetReferences, formReferences}
-use Rattle.rules_deck.specs.Accepted.{Among, here, there, Shaped}
+use Rattle.rules_deck.specs.Accepted.{Among, here, there}
+use Rattle.rules_text.specs.Shaped.{Shaped}
 
 -- ---- what is right, numbers being below m, code of n words and so many cells
 
@@ -80,7 +81,7 @@ module _ (held : List Held) (dims : Name → Dims) (m n cells : ℕ) where
     addend-small (plus c) h = each-head h
     addend-small (minus c) h = omega (arith, neg-abs (valueOf c), each-head h)
 
-    subscript-right : (s : Rattle.rules_deck.specs.Trees.Subscript) → 0 < cells → Each Small (subscriptConstants s) → Each Celled (subscriptNames s)
+    subscript-right : (s : Rattle.rules_text.specs.Trees.Subscript) → 0 < cells → Each Small (subscriptConstants s) → Each Celled (subscriptNames s)
         → RightSubscript m n cells (subscriptEntry held dims s)
     subscript-right (constant c) z hc hn = (omega arith, each-head hc, z)
     subscript-right (linear o v a) z hc hn =

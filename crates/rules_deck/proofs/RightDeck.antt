@@ -16,16 +16,16 @@ use Rattle.rules_object.specs.Object.{Element, Loop, Line, Named}
 use Rattle.rules_object.specs.Operations.{Instr, HLT, CON, LOD, STO, LDE, STE, OP, NEG, JMP, BR3, BRC, DOI, DOE}
 use Rattle.rules_shared.specs.Lists.{Each, each-none, each-more}
 use Rattle.rules_shared.proofs.EachLaws.{each-one, each-map, each-append}
-use Rattle.rules_deck.specs.Trees.{Name, Digits, valueOf, Statement, formConstants}
+use Rattle.rules_text.specs.Trees.{Name, Digits, valueOf, Statement, formConstants}
 use Rattle.rules_deck.specs.Deck.{positionOf, dosOf, dimsOf, width}
 use Rattle.rules_deck.specs.Meaning.{plain, elementAt}
 use Rattle.rules_deck.specs.Judge.{startsInteger, right11, right12, Reference, formReferences}
 use Rattle.rules_deck.specs.Translation.{heldOf, cellCount, formPlain, addressAt, loopEntry, codeOf, Tables, noTables, pool, tablesAfter, tablesOf, executable, linesFrom, filled, namesFrom}
 use Rattle.rules_deck.specs.Cells.{key, limit, step}
 use Rattle.rules_deck.specs.Accepted.{Among, here, there, Accepted}
-use Rattle.rules_deck.specs.Spelling.{IsName}
-use Rattle.rules_deck.proofs.CardsLaws.{and-both}
-use Rattle.rules_deck.proofs.ReadForms.{read-names, read-constants}
+use Rattle.rules_text.specs.Spelling.{IsName}
+use Rattle.rules_text.proofs.CardsLaws.{and-both}
+use Rattle.rules_text.proofs.ReadForms.{read-names, read-constants}
 use Rattle.rules_deck.proofs.TestLaws.{all-among, at-before}
 use Rattle.rules_deck.proofs.NestedDeck.{targets, last-defined, last-after}
 use Rattle.rules_deck.proofs.DeclaredDeck.{element-rows}
@@ -33,7 +33,7 @@ use Rattle.rules_deck.proofs.CellLaws.{slot-below}
 use Rattle.rules_deck.proofs.DeckCells.{plain-has, hidden-has, variable-has, size-dims}
 use Rattle.rules_deck.proofs.MapNames.{Inside}
 use Rattle.rules_deck.proofs.BodySeven.{each-here, InDeck, entry-name, names-inside}
-use Rattle.rules_deck.proofs.Values.{ten-some, value-within}
+use Rattle.rules_text.proofs.Values.{ten-some, value-within}
 use Rattle.rules_deck.proofs.HeightsCompiled.{below}
 use Rattle.rules_deck.proofs.TableCompiled.{stands}
 use Rattle.rules_deck.proofs.RightCode.{RightElement, Right, Spanned, product-some, width-some, Fine, code-right}

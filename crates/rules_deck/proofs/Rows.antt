@@ -7,7 +7,7 @@ use mathlib.Core.List.{List, [], _∷_, _++_, map}
 use mathlib.Core.Option.{some}
 use lib.ListN.{getElem?}
 use borrow.Author.Tests.{lt-ltb, le-ltb}
-use Rattle.rules_deck.specs.Trees.{Form, assign, goTo, computed, ifs, loop, continue, stop, end, dimension, Statement}
+use Rattle.rules_text.specs.Trees.{Form, assign, goTo, computed, ifs, loop, continue, stop, end, dimension, Statement}
 use Rattle.rules_deck.specs.Deck.{Do, doOf, dosFrom, dosOf}
 use Rattle.rules_deck.specs.Translation.{doNumber, loopEntry}
 use Rattle.rules_deck.specs.Accepted.{Among, here, there}

@@ -12,8 +12,8 @@ use borrow.Author.Tests.{ne-eqb, ltb-true, le-leb, lt-ltb}
 use Rattle.rules_shared.specs.House.{House}
 use Rattle.rules_object.specs.Check.{span}
 use Rattle.rules_shared.specs.Lists.{each-none, each-more}
-use Rattle.rules_deck.specs.Trees.{Name, Statement}
-use Rattle.rules_deck.specs.Cards.{unlessBlank, withoutBlanks}
+use Rattle.rules_text.specs.Trees.{Name, Statement}
+use Rattle.rules_text.specs.Cards.{unlessBlank, withoutBlanks}
 use Rattle.rules_deck.specs.Deck.{sameName, Declared, width}
 use Rattle.rules_deck.specs.Meaning.{Key, plain, elementAt}
 use Rattle.rules_deck.specs.Translation.{Held, name, array, hidden, arraySize, isName, isArray, firstCell, holds, cellOf, baseOf, heldOf, filled, namesFrom}

@@ -14,7 +14,7 @@ use Rattle.rules_shared.specs.House.{House}
 use Rattle.rules_object.specs.Object.{Line}
 use Rattle.rules_object.specs.Operations.{Instr, NEG}
 use Rattle.rules_object.specs.Calls.{lastAt, sequenceOf}
-use Rattle.rules_deck.specs.Trees.{Name, Form, assign, goTo, computed, ifs, loop, continue, stop, end, dimension, Statement}
+use Rattle.rules_text.specs.Trees.{Name, Form, assign, goTo, computed, ifs, loop, continue, stop, end, dimension, Statement}
 use Rattle.rules_deck.specs.Deck.{Dims, dimsOf, endings}
 use Rattle.rules_deck.specs.Translation.{Held, heldOf, formCode, words, addressAt, executable, linesFrom}
 use Rattle.rules_deck.specs.Whole.{isDimension}

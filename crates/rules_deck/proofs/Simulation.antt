@@ -17,7 +17,7 @@ use Rattle.rules_shared.specs.Choose.{positive}
 use Rattle.rules_object.specs.Machine.{State, fresh, step}
 use Rattle.rules_object.proofs.States.{state}
 use Rattle.rules_shared.proofs.RunLaws.{halt-same, Steps, one, last, more, same-halt, onward, steps-more, steps-some, steps-most}
-use Rattle.rules_deck.specs.Trees.{Statement}
+use Rattle.rules_text.specs.Trees.{Statement}
 use Rattle.rules_deck.specs.Deck.{Do, endings}
 use Rattle.rules_deck.specs.Meaning.{Cause, Values, Bounds, notEntered, bounds, Standing, begin, meaningStep, meaning}
 use Rattle.rules_deck.specs.Cost.{meaningSteps}

@@ -2,7 +2,7 @@
 -- Assumes nothing.
 use mathlib.Core.List.{List}
 use Rattle.rules_shared.specs.House.{House}
-use Rattle.rules_deck.specs.Trees.{Statement}
+use Rattle.rules_text.specs.Trees.{Statement}
 use Rattle.rules_deck.specs.Accepted.{Accepted}
 use Rattle.rules_deck.specs.Sound.{Sound}
 use Rattle.rules_deck.proofs.PassedDeck.{ends-well}

@@ -11,7 +11,7 @@ use lib.IntN.{ℤ}
 use borrow.Author.Tests.{eq-eqb, ne-eqb}
 use Rattle.rules_shared.specs.Choose.{positive}
 use Rattle.rules_object.specs.Machine.{cell}
-use Rattle.rules_deck.specs.Trees.{Statement}
+use Rattle.rules_text.specs.Trees.{Statement}
 use Rattle.rules_deck.specs.Deck.{Do, dosOf}
 use Rattle.rules_deck.specs.Meaning.{Key, Values, Bounds, bounds, enter, Standing}
 use Rattle.rules_deck.specs.Translation.{Held, cellCount, limitOf, heldOf}

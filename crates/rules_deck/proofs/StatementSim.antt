@@ -14,7 +14,7 @@ use Rattle.rules_shared.specs.Choose.{exit}
 use Rattle.rules_object.specs.Operations.{DOI, DOE}
 use Rattle.rules_object.specs.Machine.{State}
 use Rattle.rules_object.proofs.States.{state}
-use Rattle.rules_deck.specs.Trees.{valueOf, subscriptsNames, Expr, cell, element, written, Form, assign, goTo, computed, ifs, loop, continue, stop, end, dimension, Statement, formExits}
+use Rattle.rules_text.specs.Trees.{valueOf, subscriptsNames, Expr, cell, element, written, Form, assign, goTo, computed, ifs, loop, continue, stop, end, dimension, Statement, formExits}
 use Rattle.rules_deck.specs.Deck.{Do, endings, dimsOf}
 use Rattle.rules_deck.specs.Meaning.{Cause, plain, Values, Bounds, Standing, third, exec, execAt, meaningStep}
 use Rattle.rules_deck.specs.Cost.{formSteps, stepsAt, statementSteps}

@@ -17,7 +17,7 @@ use Rattle.rules_object.specs.Flow.{Flow, heightAt, Fine, Valid, Reached}
 use Rattle.rules_object.specs.Heights.{heights}
 use Rattle.rules_object.proofs.Fills.{reached}
 use Rattle.rules_object.proofs.HeightsExact.{heights-none}
-use Rattle.rules_deck.specs.Trees.{Form, assign, goTo, computed, ifs, loop, continue, stop, end, dimension, Statement, formLevels}
+use Rattle.rules_text.specs.Trees.{Form, assign, goTo, computed, ifs, loop, continue, stop, end, dimension, Statement, formLevels}
 use Rattle.rules_deck.specs.Deck.{Do, endings}
 use Rattle.rules_deck.specs.Judge.{right14}
 use Rattle.rules_deck.specs.Whole.{isEnd}
@@ -25,7 +25,7 @@ use Rattle.rules_deck.specs.Translation.{codeOf, translate}
 use Rattle.rules_deck.specs.Seen.{levelsIn}
 use Rattle.rules_deck.specs.Accepted.{Among, here, Accepted, Fitting}
 use Rattle.rules_deck.proofs.Addresses.{at-some, address-zero}
-use Rattle.rules_deck.proofs.Shapes.{shaped}
+use Rattle.rules_text.proofs.Shapes.{shaped}
 use Rattle.rules_deck.proofs.TestLaws.{at-before}
 use Rattle.rules_deck.proofs.DoLaws.{among-endings}
 use Rattle.rules_deck.proofs.NestedDeck.{not-empty, last-end, number-on, targets, last-number, last-defined, last-after}

@@ -9,7 +9,7 @@ use lib.ListN.{length, length-append, length-map}
 use Rattle.number.specs.Number.{Op}
 use Rattle.rules_object.specs.Object.{Element, Loop}
 use Rattle.rules_object.specs.Operations.{Instr, HLT, CON, LOD, STO, LDE, STE, OP, NEG, JMP, BR3, BRC, DOI, DOE}
-use Rattle.rules_deck.specs.Trees.{Name, valueOf, Expr, con, var, elm, neg, par, bin, Target, cell, element, written, Form, assign, goTo, computed, ifs, loop, continue, stop, end, dimension, Statement, formLast, Range, partsOf}
+use Rattle.rules_text.specs.Trees.{Name, valueOf, Expr, con, var, elm, neg, par, bin, Target, cell, element, written, Form, assign, goTo, computed, ifs, loop, continue, stop, end, dimension, Statement, formLast, Range, partsOf}
 use Rattle.rules_deck.specs.Deck.{Do, endings, Dims, dimsOf}
 use Rattle.rules_deck.specs.Meaning.{third}
 use Rattle.rules_deck.specs.Translation.{Held, exprCode, storeCode, formCode, doInstr, enterCode, statementCode, heldOf, addressOf, Tables, pool, tablesAfter, tablesOf, doiFor}

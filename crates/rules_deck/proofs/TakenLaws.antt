@@ -8,7 +8,7 @@ use mathlib.Core.List.{List, [], _∷_}
 use mathlib.Core.Option.{Option, none, some}
 use lib.ListN.{length, getElem?, take}
 use lib.Seq.{take-all, take-length}
-use Rattle.rules_deck.specs.Trees.{Statement}
+use Rattle.rules_text.specs.Trees.{Statement}
 use Rattle.rules_deck.specs.Translation.{heldFrom, heldOf}
 use Rattle.rules_deck.specs.Judge.{Taken, nothingTaken, takes}
 use Rattle.rules_deck.specs.Accepted.{takenFrom, takenBefore}

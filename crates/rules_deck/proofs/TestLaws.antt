@@ -13,12 +13,12 @@ use lib.ListN.{length, getElem?}
 use borrow.Author.Tests.{eqb-true, eq-eqb, not-true}
 use Rattle.rules_shared.specs.Refusals.{orElse}
 use Rattle.rules_shared.specs.Lists.{all}
-use Rattle.rules_deck.specs.Trees.{Name, Statement}
+use Rattle.rules_text.specs.Trees.{Name, Statement}
 use Rattle.rules_deck.specs.Deck.{sameName}
 use Rattle.rules_deck.specs.Accepted.{Among, here, there}
 use Rattle.rules_deck.specs.Judge.{wrong}
 use Rattle.rules_deck.specs.Whole.{firstWrong, refusedAt}
-use Rattle.rules_deck.proofs.CardsLaws.{and-both}
+use Rattle.rules_text.proofs.CardsLaws.{and-both}
 
 -- ---- one test
 

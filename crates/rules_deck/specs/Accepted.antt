@@ -4,14 +4,13 @@ use mathlib.Core.Path.{_≡_}
 use Prim.Native.Nat.{ℕ, suc, _+_, _*_, _≤_, _<_}
 use mathlib.Core.Bool.{true}
 use mathlib.Core.List.{List, [], _∷_}
-use mathlib.Core.Option.{Option, none, some}
+use mathlib.Core.Option.{none, some}
 use lib.ListN.{length, getElem?, take}
-use Rattle.number.specs.Number.{add, sub, mul, div}
 use Rattle.rules_shared.specs.Limits.{limits}
 use Rattle.rules_shared.specs.House.{House}
-use Rattle.rules_deck.specs.Trees.{Digits, valueOf, Subscripts, Name, Expr, con, var, elm, neg, par, bin, Form, assign, goTo, computed, ifs, loop, continue, stop, end, dimension, Statement, formExits}
-use Rattle.rules_deck.specs.Cards.{textLength, characters, rightDigits}
-use Rattle.rules_deck.specs.Grammar.{formOf}
+use Rattle.rules_text.specs.Trees.{Digits, valueOf, Statement, formExits}
+use Rattle.rules_text.specs.Cards.{textLength, characters, rightDigits}
+use Rattle.rules_text.specs.Grammar.{formOf}
 use Rattle.rules_deck.specs.Deck.{positionOf, Do, dosOf, endings}
 use Rattle.rules_deck.specs.Translation.{cellCount, heldOf, codeOf, noTables, tablesOf}
 use Rattle.rules_deck.specs.Lawful.{Lawful}
@@ -80,43 +79,3 @@ pub record Nested (deck : List Statement) : Type 0 where
   pub inner : (d outer : Do) → Among d (dosOf deck) → Among outer (dosOf deck) → InRange deck outer (d .position) → lastOf deck d ≤ lastOf deck outer
   pub jumps : (j : ℕ) (s : Statement) → getElem? deck j ≡ some s → (n : Digits) → Among n (formExits (s .form)) → (d : Do) → Among d (dosOf deck) →
       InRange deck d (positionOf deck (valueOf n)) → InRange deck d j
-
--- ---- the shape that the grammar gives an expression: sums of products of factors
-
-mutual
-  pub data IsSum : Expr → Type 0 where
-    first : {e : Expr} → IsProduct e → IsSum e
-    minus : {e : Expr} → IsProduct e → IsSum (neg e)
-    plus : {a b : Expr} → IsSum a → IsProduct b → IsSum (bin add a b)
-    less : {a b : Expr} → IsSum a → IsProduct b → IsSum (bin sub a b)
-
-  pub data IsProduct : Expr → Type 0 where
-    only : {e : Expr} → IsFactor e → IsProduct e
-    times : {a b : Expr} → IsProduct a → IsFactor b → IsProduct (bin mul a b)
-    over : {a b : Expr} → IsProduct a → IsFactor b → IsProduct (bin div a b)
-
-  pub data IsFactor : Expr → Type 0 where
-    constant : {c : Digits} → IsFactor (con c)
-    name : {v : Name} → IsFactor (var v)
-    element : {v : Name} {s : Subscripts} → IsFactor (elm v s)
-    parens : {e : Expr} → IsSum e → IsFactor (par e)
-
--- a DO's parameter is a constant or a name
-pub data IsParameter : Expr → Type 0 where
-  constant : {c : Digits} → IsParameter (con c)
-  name : {v : Name} → IsParameter (var v)
-
-abbrev pub OptionalParameter : Option Expr → Type 0
-OptionalParameter none = Unit {0}
-OptionalParameter (some e) = IsParameter e
-
-abbrev pub Shaped : Form → Type 0
-Shaped (assign t e) = IsSum e
-Shaped (goTo n) = Unit {0}
-Shaped (computed ns v) = (limits .fewestExits ≤ length ns) × (length ns ≤ limits .mostExits)
-Shaped (ifs e a b c) = IsSum e
-Shaped (loop n v p₁ p₂ p₃) = IsParameter p₁ × IsParameter p₂ × OptionalParameter p₃
-Shaped continue = Unit {0}
-Shaped stop = Unit {0}
-Shaped end = Unit {0}
-Shaped (dimension arrays) = Unit {0}

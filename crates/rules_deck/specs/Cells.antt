@@ -7,7 +7,7 @@ use mathlib.Core.List.{List, [], _∷_}
 use lib.ListN.{length}
 use lib.IntN.{ℤ}
 use Rattle.rules_object.specs.Machine.{cell}
-use Rattle.rules_deck.specs.Trees.{Name, Statement}
+use Rattle.rules_text.specs.Trees.{Name, Statement}
 use Rattle.rules_deck.specs.Deck.{sameName, Declared}
 use Rattle.rules_deck.specs.Meaning.{Key, plain, elementAt, Values}
 use Rattle.rules_deck.specs.Translation.{Held, name, array, hidden, arraySize, cellCount, isName, isHidden, holds, cellOf, baseOf, limitOf, addressAt}

@@ -7,9 +7,9 @@ use Rattle.rules_shared.specs.House.{House}
 use Rattle.rules_object.specs.Bytes.{objectBytes}
 use Rattle.rules_shared.specs.Refusals.{Refusal, refusal, noRoom}
 use Rattle.rules_shared.specs.Output.{Written, notWritten, write}
-use Rattle.rules_deck.specs.Trees.{Form, Statement}
-use Rattle.rules_deck.specs.Cards.{Punched, textOf, Carded, cardsRefused, statements, carded}
-use Rattle.rules_deck.specs.Grammar.{formOf}
+use Rattle.rules_text.specs.Trees.{Form, Statement}
+use Rattle.rules_text.specs.Cards.{Punched, textOf, Carded, cardsRefused, statements, carded}
+use Rattle.rules_text.specs.Grammar.{formOf}
 use Rattle.rules_deck.specs.Judge.{Taken, nothingTaken, takes, judgeForm}
 use Rattle.rules_deck.specs.Whole.{judgeDeck}
 use Rattle.rules_deck.specs.Translation.{translate}

@@ -9,7 +9,7 @@ use lib.IntN.{ℤ}
 use Rattle.number.specs.Number.{Rule}
 use Rattle.rules_shared.specs.Runs.{stepsFrom}
 use Rattle.rules_shared.specs.Choose.{allPositive, Turn, again, over, turn}
-use Rattle.rules_deck.specs.Trees.{Name, Expr, con, var, elm, neg, par, bin, Target, cell, element, Form, assign, goTo, computed, ifs, loop, continue, stop, end, dimension, Statement}
+use Rattle.rules_text.specs.Trees.{Name, Expr, con, var, elm, neg, par, bin, Target, cell, element, Form, assign, goTo, computed, ifs, loop, continue, stop, end, dimension, Statement}
 use Rattle.rules_deck.specs.Deck.{Do, endings, dimsOf}
 use Rattle.rules_deck.specs.Meaning.{plain, elementAt, Values, put, Evaluated, val, bad, placeIn, eval, Bounds, notEntered, bounds, Standing, enter, third, meaningStep}
 

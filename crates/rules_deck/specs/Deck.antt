@@ -5,7 +5,7 @@ use mathlib.Core.Bool.{Bool, true, false, _&&_, cond}
 use mathlib.Core.List.{List, [], _∷_, _++_, map, reverse}
 use mathlib.Core.Option.{Option, none, some}
 use lib.Dec.{eqb}
-use Rattle.rules_deck.specs.Trees.{Name, Digits, valueOf, Array, array, Form, Statement, Phrase, sets, chooses, computes, steps, declares, Range, partsOf, gathered}
+use Rattle.rules_text.specs.Trees.{Name, Digits, valueOf, Array, array, Form, Statement, Phrase, sets, chooses, computes, steps, declares, Range, partsOf, gathered}
 
 abbrev pub sameName : Name → Name → Bool
 sameName [] [] = true

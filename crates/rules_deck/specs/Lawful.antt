@@ -6,7 +6,7 @@ use mathlib.Core.Bool.{true, false}
 use Rattle.rules_shared.specs.Limits.{limits}
 use Rattle.rules_shared.specs.House.{House}
 use Rattle.rules_object.specs.Object.{Object, ruleOf}
-use Rattle.rules_deck.specs.Cards.{rightDigits}
+use Rattle.rules_text.specs.Cards.{rightDigits}
 
 pub record Lawful (house : House) : Type 0 where
   -- an object with its digits has its rule

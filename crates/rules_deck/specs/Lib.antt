@@ -1,8 +1,4 @@
-pub mod Trees
-pub mod Cards
 pub mod Lawful
-pub mod Tokens
-pub mod Grammar
 pub mod Deck
 pub mod Meaning
 pub mod Translation
@@ -10,11 +6,10 @@ pub mod Judge
 pub mod Whole
 pub mod Compile
 pub mod Accepted
-pub mod Spelling
+pub mod Unspelled
 pub mod Cells
 pub mod Sound
 pub mod Cost
 pub mod Seen
 pub mod Answers
-pub mod Punch
 pub mod Worked

@@ -10,7 +10,7 @@ use lib.IntN.{ℤ, pos, negℤ}
 use Rattle.number.specs.Number.{Rule, Op, Result, value, byZero, apply, Loss, nothingLost, first, Trouble, trouble}
 use Rattle.rules_shared.specs.Runs.{Outcome, go, halt, run}
 use Rattle.rules_shared.specs.Choose.{sign3, exit, SubscriptParts, constantParts, place, allPositive, Turn, again, over, turn, marked}
-use Rattle.rules_deck.specs.Trees.{Name, Digits, valueOf, Addend, nothing, plus, minus, Subscript, constant, linear, Subscripts, one, two, Expr, con, var, elm, neg, par, bin, Target, cell, element, Form, assign, goTo, computed, ifs, loop, continue, stop, end, dimension, Statement}
+use Rattle.rules_text.specs.Trees.{Name, Digits, valueOf, Addend, nothing, plus, minus, Subscript, constant, linear, Subscripts, one, two, Expr, con, var, elm, neg, par, bin, Target, cell, element, Form, assign, goTo, computed, ifs, loop, continue, stop, end, dimension, Statement}
 use Rattle.rules_deck.specs.Deck.{sameName, positionOf, Do, endings, Dims, dimsOf, width}
 
 -- ---- halts

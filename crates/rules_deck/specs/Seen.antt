@@ -18,8 +18,8 @@ use Rattle.rules_object.specs.Bytes.{readObject}
 use Rattle.rules_shared.specs.Output.{Written}
 use Rattle.rules_object.specs.Calls.{Lent, sequenceOf, Ran, running}
 use Rattle.rules_object.specs.Safe.{afterSteps}
-use Rattle.rules_deck.specs.Trees.{Name, Statement, formNames, formLevels}
-use Rattle.rules_deck.specs.Cards.{withoutBlanks}
+use Rattle.rules_text.specs.Trees.{Name, Statement, formNames, formLevels}
+use Rattle.rules_text.specs.Cards.{withoutBlanks}
 use Rattle.rules_deck.specs.Deck.{sameName, Dims, dimsOf}
 use Rattle.rules_deck.specs.Meaning.{Cause, stopReached, endReached, zeroDivisor, wrongSubscript, wrongExit, wrongParameter, Key, plain, elementAt, Values, Standing, begin, meaning}
 use Rattle.rules_deck.specs.Cost.{meaningSteps}

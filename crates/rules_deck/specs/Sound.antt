@@ -6,7 +6,7 @@ use mathlib.Core.Bool.{true}
 use mathlib.Core.List.{List}
 use mathlib.Core.Option.{some}
 use lib.ListN.{length, getElem?}
-use Rattle.rules_deck.specs.Trees.{Digits, valueOf, Statement, formExits}
+use Rattle.rules_text.specs.Trees.{Digits, valueOf, Statement, formExits}
 use Rattle.rules_deck.specs.Deck.{positionOf}
 use Rattle.rules_deck.specs.Whole.{endsWell}
 use Rattle.rules_deck.specs.Accepted.{Among, Fitting, Nested}

@@ -9,7 +9,7 @@ use lib.ListN.{length, getElem?}
 use Rattle.rules_shared.specs.Limits.{limits}
 use Rattle.rules_shared.specs.Refusals.{Refusal, refusal, orElse}
 use Rattle.rules_shared.specs.Lists.{all}
-use Rattle.rules_deck.specs.Trees.{Name, Digits, valueOf, Target, cell, element, Form, Statement, formExits, formNumbers, Phrase, sets, chooses, computes, steps, declares, partsOf, gathered}
+use Rattle.rules_text.specs.Trees.{Name, Digits, valueOf, Target, cell, element, Form, Statement, formExits, formNumbers, Phrase, sets, chooses, computes, steps, declares, partsOf, gathered}
 use Rattle.rules_deck.specs.Deck.{sameName, positionOf, Do, dosOf}
 
 -- the first position, counted from q, whose statement fails the test; its sequence number

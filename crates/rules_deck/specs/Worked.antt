@@ -7,7 +7,7 @@ use mathlib.Core.List.{List, [], _∷_}
 use lib.IntN.{ℤ, pos, negsuc}
 use Rattle.rules_shared.specs.House.{house1401}
 use Rattle.rules_deck.specs.Meaning.{Key, plain}
-use Rattle.rules_deck.specs.Punch.{bytes, deck}
+use Rattle.rules_text.specs.Punch.{bytes, deck}
 use Rattle.rules_deck.specs.Answers.{ran, answered, meant}
 
 pub record Worked : Type 0 where

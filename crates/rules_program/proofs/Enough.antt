@@ -14,7 +14,7 @@ use Rattle.rules_shared.specs.Refusals.{accepted, noRoom}
 use Rattle.rules_shared.specs.Output.{writtenIf, write}
 use Rattle.rules_object.proofs.Limited.{tables-within}
 use Rattle.rules_object.proofs.RoundTrip.{all-eight, object-most}
-use Rattle.rules_deck.specs.Trees.{Statement}
+use Rattle.rules_text.specs.Trees.{Statement}
 use Rattle.rules_deck.specs.Translation.{translate}
 use Rattle.rules_deck.specs.Compile.{Read, read, deckOf, writeRead, compiling}
 use Rattle.rules_deck.specs.Lawful.{Lawful}

@@ -10,8 +10,8 @@ use lib.ListN.{length, length-append}
 use lib.IntN.{ℤ, pos, negsuc, natAbs}
 use Rattle.rules_object.specs.Object.{Named}
 use Rattle.rules_object.specs.Machine.{cell}
-use Rattle.rules_deck.specs.Cards.{withoutBlanks}
-use Rattle.rules_deck.specs.Punch.{bytes}
+use Rattle.rules_text.specs.Cards.{withoutBlanks}
+use Rattle.rules_text.specs.Punch.{bytes}
 use Rattle.rules_program.specs.Text.{numeral, signed, lineEnd, stated, haltLine, refusedLine, subscripts, valueLine}
 use Rattle.rules_program.proofs.Numerals.{numeral-length}
 

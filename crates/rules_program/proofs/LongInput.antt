@@ -12,7 +12,7 @@ use lib.Seq.{take-take, length-take-le}
 use borrow.Author.Tests.{lt-leb}
 use Rattle.rules_shared.specs.Limits.{limits}
 use Rattle.rules_shared.specs.House.{House, house1401}
-use Rattle.rules_deck.specs.Cards.{Carded, cardsRefused, rightDigits, rightLength, cardLength, carded}
+use Rattle.rules_text.specs.Cards.{Carded, cardsRefused, rightDigits, rightLength, cardLength, carded}
 use Rattle.rules_deck.specs.Compile.{judgeRead, readCarded, deckOf, writeRead, compiling}
 use Rattle.rules_program.specs.Program.{controlOf, controlDigits, mostBytes, compiledLines, deckLines, printed}
 

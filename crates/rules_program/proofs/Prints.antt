@@ -29,8 +29,8 @@ use Rattle.rules_object.proofs.Limited.{limited}
 use Rattle.rules_object.proofs.Lents.{and-true, fresh-stands, stands-52}
 use Rattle.rules_object.proofs.Accepts.{Accepts, accepts-run}
 use Rattle.rules_object.proofs.Refusals.{from-accepts}
-use Rattle.rules_deck.specs.Trees.{Statement}
-use Rattle.rules_deck.specs.Cards.{cardLength}
+use Rattle.rules_text.specs.Trees.{Statement}
+use Rattle.rules_text.specs.Cards.{cardLength}
 use Rattle.rules_deck.specs.Translation.{translate}
 use Rattle.rules_deck.specs.Compile.{Read, notRead, read, deckOf, writeRead, compiling}
 use Rattle.rules_deck.specs.Seen.{objectIn}

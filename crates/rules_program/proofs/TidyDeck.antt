@@ -9,7 +9,7 @@ use Rattle.rules_shared.specs.House.{House}
 use Rattle.rules_object.specs.Object.{Object}
 use Rattle.rules_object.specs.Check.{span}
 use Rattle.rules_object.specs.Bytes.{objectBytes}
-use Rattle.rules_deck.specs.Trees.{Statement}
+use Rattle.rules_text.specs.Trees.{Statement}
 use Rattle.rules_deck.specs.Deck.{width}
 use Rattle.rules_deck.specs.Translation.{Held, name, array, hidden, arraySize, cellCount, heldOf, namesFrom, translate}
 use Rattle.rules_deck.specs.Compile.{read, deckOf}

@@ -16,7 +16,7 @@ use Rattle.rules_shared.specs.Lists.{all}
 use Rattle.rules_shared.specs.Output.{Written}
 use Rattle.rules_object.specs.Calls.{Ran, running}
 use Rattle.rules_object.specs.Safe.{freshLent}
-use Rattle.rules_deck.specs.Cards.{cardLength}
+use Rattle.rules_text.specs.Cards.{cardLength}
 use Rattle.rules_deck.specs.Compile.{compiling}
 use Rattle.rules_deck.specs.Seen.{objectIn}
 use Rattle.rules_program.specs.Text.{haltLine, refusedLine, nameLines}

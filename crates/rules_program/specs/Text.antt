@@ -6,8 +6,8 @@ use lib.IntN.{ℤ, pos, negsuc}
 use Rattle.rules_object.specs.Object.{Named}
 use Rattle.rules_object.specs.Check.{span}
 use Rattle.rules_object.specs.Machine.{cell}
-use Rattle.rules_deck.specs.Cards.{withoutBlanks}
-use Rattle.rules_deck.specs.Punch.{bytes}
+use Rattle.rules_text.specs.Cards.{withoutBlanks}
+use Rattle.rules_text.specs.Punch.{bytes}
 
 -- ---- numerals
 

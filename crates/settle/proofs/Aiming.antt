@@ -9,7 +9,7 @@ use mathlib.Core.Option.{some}
 use lib.ListN.{length, take, drop, getD, getElem?, length-append, length-map}
 use borrow.Author.Tests.{ltb-true}
 use Rattle.rules_shared.specs.House.{House}
-use Rattle.rules_deck.specs.Trees.{Digits, valueOf, Statement, formExits, formLast}
+use Rattle.rules_text.specs.Trees.{Digits, valueOf, Statement, formExits, formLast}
 use Rattle.rules_deck.specs.Deck.{positionOf}
 use Rattle.rules_deck.specs.Whole.{defined, right22}
 use Rattle.rules_deck.specs.Translation.{addressAt, addressOf}

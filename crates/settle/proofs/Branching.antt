@@ -12,7 +12,7 @@ use lib.ListN.{length, take, drop, getD, getElem?, length-append, length-map}
 use lib.Seq.{take-length}
 use Rattle.rules_shared.specs.House.{House}
 use Rattle.rules_object.specs.Operations.{Instr, DOE}
-use Rattle.rules_deck.specs.Trees.{Name, valueOf, Expr, con, var, elm, neg, par, bin, Target, cell, element, Form, assign, goTo, computed, ifs, loop, continue, stop, end, dimension, Statement, formExits, formLast}
+use Rattle.rules_text.specs.Trees.{Name, valueOf, Expr, con, var, elm, neg, par, bin, Target, cell, element, Form, assign, goTo, computed, ifs, loop, continue, stop, end, dimension, Statement, formExits, formLast}
 use Rattle.rules_deck.specs.Deck.{Dims, Do, dimsOf, endings}
 use Rattle.rules_deck.specs.Meaning.{third}
 use Rattle.rules_deck.specs.Translation.{Held, heldOf, exprCode, storeCode, formCode, addressOf, doInstr, enterCode, statementCode, codeFrom, codeOf, Tables, noTables, tablesOf, translate}
@@ -64,7 +64,7 @@ ends-add : (deck : List Statement) (ds : List Do) → Adds (map (doInstr deck DO
 ends-add deck [] = adds-none
 ends-add deck (d ∷ ds) = record { exits = λ T. ends-add deck ds .exits T }
 
-map-twice : (f : ℕ → ℕ) (ns : List Rattle.rules_deck.specs.Trees.Digits) → map f (map valueOf (ns ++ [])) ≡ map (λ n. f (valueOf n)) ns
+map-twice : (f : ℕ → ℕ) (ns : List Rattle.rules_text.specs.Trees.Digits) → map f (map valueOf (ns ++ [])) ≡ map (λ n. f (valueOf n)) ns
 map-twice f [] = refl
 map-twice f (n ∷ ns) = ap (λ (l : List ℕ). f (valueOf n) ∷ l) (map-twice f ns)
 

@@ -12,7 +12,7 @@ use lib.ListN.{length, take, drop, getD, getElem?, length-append, length-map}
 use borrow.Author.Tests.{eq-eqb, ne-eqb}
 use Rattle.rules_shared.specs.House.{House}
 use Rattle.rules_object.specs.Operations.{Instr, DOI, DOE}
-use Rattle.rules_deck.specs.Trees.{Digits, valueOf, Form, assign, goTo, computed, ifs, loop, continue, stop, end, dimension, Statement, formExits, formLast}
+use Rattle.rules_text.specs.Trees.{Digits, valueOf, Form, assign, goTo, computed, ifs, loop, continue, stop, end, dimension, Statement, formExits, formLast}
 use Rattle.rules_deck.specs.Deck.{Do, dosOf, dimsOf, endings}
 use Rattle.rules_deck.specs.Translation.{heldOf, formCode, doNumber, addressOf, doInstr, enterCode, statementCode, codeFrom, Tables, noTables, wordOf, emit, tablesOf}
 use Rattle.rules_deck.proofs.TestLaws.{at-before}

@@ -10,7 +10,7 @@ use mathlib.Core.Bool.{Bool, true, false, cond}
 use borrow.Author.Tests.{eqb-true}
 use lib.Seq.{take-length}
 use Rattle.rules_shared.specs.House.{House}
-use Rattle.rules_deck.specs.Trees.{Statement}
+use Rattle.rules_text.specs.Trees.{Statement}
 use Rattle.rules_deck.specs.Translation.{codeFrom, codeOf, noTables, emit, translate}
 use Rattle.rules_deck.proofs.Addresses.{at-some}
 use Rattle.rules_deck.proofs.Tables.{emit-length}

@@ -10,7 +10,7 @@ use lib.ListN.{length, take, drop, getElem?}
 use lib.Seq.{length-take-le}
 use borrow.Author.Tests.{lt-ltb, le-ltb}
 use Rattle.rules_object.specs.Operations.{Instr, DOI}
-use Rattle.rules_deck.specs.Trees.{Name, valueOf, Form, assign, goTo, computed, ifs, loop, continue, stop, end, dimension, Statement, formLast}
+use Rattle.rules_text.specs.Trees.{Name, valueOf, Form, assign, goTo, computed, ifs, loop, continue, stop, end, dimension, Statement, formLast}
 use Rattle.rules_deck.specs.Deck.{Dims, Do, doOf, dosFrom, dosOf, dimsOf}
 use Rattle.rules_deck.specs.Translation.{Held, heldOf, formCode, doNumber, statementCode, codeFrom, codeOf}
 use Rattle.rules_deck.proofs.TestLaws.{clash, at-before}

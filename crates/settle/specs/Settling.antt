@@ -5,7 +5,7 @@ use Prim.Native.Nat.{ℕ}
 use mathlib.Core.List.{List, map}
 use lib.ListN.{length, take}
 use Rattle.rules_shared.specs.House.{House}
-use Rattle.rules_deck.specs.Trees.{Statement}
+use Rattle.rules_text.specs.Trees.{Statement}
 use Rattle.rules_deck.specs.Translation.{noTables, emit}
 use Rattle.draft.specs.Sketch.{deckJumps, plainCode}
 use Rattle.addresses.specs.Given.{Rows, Judged, Starts}

@@ -3,7 +3,7 @@ ghost use mathlib.Core.List.{List};
 ghost use Prim.Native.Nat.{_+_, _<_, _≤_};
 ghost use lib.ListN.{length};
 ghost use Rattle.rules_shared.specs.House.{House};
-ghost use Rattle.rules_deck.specs.Trees.{Statement};
+ghost use Rattle.rules_text.specs.Trees.{Statement};
 ghost use Rattle.rules_deck.specs.Translation.{translate};
 ghost use Rattle.addresses.specs.Given.{Holds};
 ghost use Rattle.settle.specs.Settling.{Settling, Ready, Leading, Led};

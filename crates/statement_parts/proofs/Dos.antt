@@ -11,7 +11,7 @@ use Rattle.rules_shared.specs.Limits.{limits}
 use Rattle.rules_object.specs.Bytes.{concat}
 use Rattle.rules_object.specs.Bytes as object
 use Rattle.rules_shared.proofs.EachLaws.{each-head}
-use Rattle.rules_deck.specs.Trees.{Name, Digits, Expr, Form, assign, goTo, computed, ifs, loop, continue, stop, end, dimension}
+use Rattle.rules_text.specs.Trees.{Name, Digits, Expr, Form, assign, goTo, computed, ifs, loop, continue, stop, end, dimension}
 use Rattle.rules_deck.specs.Translation.{Held, hidden, cellCount, isName, isHidden, holds, cellOf, limitOf, appear, formPlain, brings}
 use Rattle.tokens.specs.Words.{nameWord}
 use Rattle.items.specs.Parsed.{Put}

@@ -8,7 +8,7 @@ use mathlib.Core.List.{List, [], _∷_, _++_, map}
 use lib.Dec.{eqb}
 use lib.ListN.{length}
 use borrow.Author.Tests.{eq-eqb, ne-eqb}
-use Rattle.rules_deck.specs.Trees.{Name, Form, assign, goTo, computed, ifs, loop, continue, stop, end, dimension, Statement, Array}
+use Rattle.rules_text.specs.Trees.{Name, Form, assign, goTo, computed, ifs, loop, continue, stop, end, dimension, Statement, Array}
 use Rattle.rules_deck.specs.Deck.{declare, arraysIn}
 use Rattle.rules_deck.specs.Translation.{Held, name, array, hidden, size, cellCount, isName, isHidden, firstCell, limitOf, holds, appear, formPlain, hiddenIn}
 use Rattle.draft.specs.Draft.{Draft, drafts, noDraft, draftFrom, draftOf}

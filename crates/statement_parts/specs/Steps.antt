@@ -8,13 +8,13 @@ use mathlib.Core.List.{List, [], _∷_, _++_, map}
 use lib.ListN.{length, take}
 use Rattle.rules_shared.specs.Limits.{limits}
 use Rattle.rules_shared.specs.House.{house1401}
-use Rattle.rules_deck.specs.Trees.{Form, formNames, formLast}
+use Rattle.rules_text.specs.Trees.{Form, formNames, formLast}
 use Rattle.rules_deck.specs.Translation.{Held, Tables, isHidden, holds, brings, emit, tablesOf}
 use Rattle.rules_object.specs.Bytes.{concat}
 use Rattle.rules_object.specs.Bytes as object
 use Rattle.rules_shared.specs.Lists.{Each}
-use Rattle.rules_deck.specs.Cards.{rightDigits}
-use Rattle.rules_deck.specs.Grammar.{formOf}
+use Rattle.rules_text.specs.Cards.{rightDigits}
+use Rattle.rules_text.specs.Grammar.{formOf}
 use Rattle.rules_deck.specs.Judge.{right11, right12, right13, right14, right15}
 use Rattle.draft.specs.declared.Counts.{Counts}
 use Rattle.draft.specs.Counts.{withDo, withMarks}

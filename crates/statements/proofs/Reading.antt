@@ -11,10 +11,10 @@ use lib.ListN.{length, take, drop}
 use borrow.Author.Tests.{le-leb}
 use Rattle.rules_shared.specs.House.{house1401}
 use Rattle.rules_shared.specs.Refusals.{orElse}
-use Rattle.rules_deck.specs.Trees.{Form}
-use Rattle.rules_deck.specs.Cards.{rightDigits}
+use Rattle.rules_text.specs.Trees.{Form}
+use Rattle.rules_text.specs.Cards.{rightDigits}
 use Rattle.rules_deck.specs.Judge.{Taken, wrong, right11, right12, right13, right14, judgeForm}
-use Rattle.rules_deck.proofs.Shapes.{shaped}
+use Rattle.rules_text.proofs.Shapes.{shaped}
 use Rattle.items.specs.Items.{targetWords}
 use Rattle.items.specs.Parsed.{Put}
 use Rattle.forms.specs.declared.Statement.{Statement}

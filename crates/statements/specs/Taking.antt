@@ -5,8 +5,8 @@ use mathlib.Core.List.{List}
 use mathlib.Core.Option.{some}
 use Prim.Native.Nat.{ℕ, _≤_, _<_}
 use lib.ListN.{length, take}
-use Rattle.rules_deck.specs.Trees.{Form}
-use Rattle.rules_deck.specs.Grammar.{formOf}
+use Rattle.rules_text.specs.Trees.{Form}
+use Rattle.rules_text.specs.Grammar.{formOf}
 use Rattle.rules_deck.specs.Judge.{Taken}
 use Rattle.forms.specs.declared.Statement.{Statement}
 use Rattle.forms.specs.Statements.{formWords, statementOf}

@@ -5,7 +5,6 @@ ghost use Rattle.statements.specs.Taking.{Ready, Comes};
 use cards::Number;
 use draft::Counts;
 use forms::Statement;
-use kinds::DO;
 use planned::Outcome;
 
 // `items` is the reader's table: 2,640 words that it may fill; a DO's parameters are put there.

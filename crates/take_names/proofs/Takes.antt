@@ -8,7 +8,7 @@ use mathlib.Core.List.{List, [], _∷_, _++_}
 use lib.ListN.{getD, take}
 use Rattle.rules_shared.specs.Lists.{Each, each-none, each-more}
 use Rattle.rules_shared.proofs.EachLaws.{each-one, each-both}
-use Rattle.rules_deck.specs.Trees.{Name, Subscript, constant, linear, Subscripts, one, two, subscriptNames, subscriptsNames}
+use Rattle.rules_text.specs.Trees.{Name, Subscript, constant, linear, Subscripts, one, two, subscriptNames, subscriptsNames}
 use Rattle.rules_deck.specs.Translation.{Held, name, appear}
 use Rattle.tokens.specs.Words.{nameWord}
 use Rattle.elements.specs.Values.{subscriptValue, subscriptsValue}

@@ -11,9 +11,9 @@ use lib.Seq.{drop-drop, length-sets}
 use Rattle.rules_shared.specs.House.{house1401}
 use Rattle.rules_shared.specs.Lists.{Each}
 use Rattle.rules_shared.proofs.EachLaws.{each-head}
-use Rattle.rules_deck.specs.Cards.{cardsOf, textColumns, textOf, Punched, numberOf, following, grouped}
-use Rattle.rules_deck.proofs.CardsLaws.{RightStatement}
-use Rattle.rules_deck.proofs.CardsGroups.{statements-grouped}
+use Rattle.rules_text.specs.Cards.{cardsOf, textColumns, textOf, Punched, numberOf, following, grouped}
+use Rattle.rules_text.proofs.CardsLaws.{RightStatement}
+use Rattle.rules_text.proofs.CardsGroups.{statements-grouped}
 use Rattle.cards.specs.declared.Number.{Number}
 use Rattle.texts.specs.declared.Taken.{Taken}
 use Rattle.texts.specs.declared.Taken.the-variants.{Statement, End}

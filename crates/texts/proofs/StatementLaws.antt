@@ -13,9 +13,9 @@ use Rattle.rules_shared.specs.Limits.{limits}
 use Rattle.rules_shared.specs.House.{House, house1401}
 use Rattle.rules_shared.specs.Lists.{Each}
 use Rattle.rules_shared.proofs.EachLaws.{each-head, each-tail}
-use Rattle.rules_deck.specs.Cards.{cardsOf, textColumns, comment, firstCard, Punched, numberOf, rightNumber, Reading, nothingRead, wrongCard, afterCard, Carded, cardsRefused, statements, cardByCard, rightDigits, rightLength, counted, carded, following, grouped}
-use Rattle.rules_deck.proofs.CardsLaws.{RightStatement, Stands, as-comment, as-first, as-continuation, stands, statements-right}
-use Rattle.rules_deck.proofs.CardsGroups.{statements-grouped}
+use Rattle.rules_text.specs.Cards.{cardsOf, textColumns, comment, firstCard, Punched, numberOf, rightNumber, Reading, nothingRead, wrongCard, afterCard, Carded, cardsRefused, statements, cardByCard, rightDigits, rightLength, counted, carded, following, grouped}
+use Rattle.rules_text.proofs.CardsLaws.{RightStatement, Stands, as-comment, as-first, as-continuation, stands, statements-right}
+use Rattle.rules_text.proofs.CardsGroups.{statements-grouped}
 use Rattle.texts.specs.declared.Reached.{Reached}
 use Rattle.texts.specs.declared.Taken.the-variants.{Statement, End}
 use Rattle.cards.specs.declared.Number.{Number}

@@ -6,7 +6,7 @@ use mathlib.Core.Bool.{Bool, true, false, cond}
 use mathlib.Core.List.{List, [], _++_}
 use native.Mathlib.Omega.{arith}
 use lib.ListN.{length, drop, length-append}
-use Rattle.rules_deck.specs.Cards.{cardsOf, textColumns, comment, firstCard, following}
+use Rattle.rules_text.specs.Cards.{cardsOf, textColumns, comment, firstCard, following}
 use Rattle.cards.specs.Columns.{CardAt}
 use Rattle.texts.specs.Taking.{over, begins, skipped, added, Follows}
 use Rattle.cards.proofs.DeckLaws.{cards-end}

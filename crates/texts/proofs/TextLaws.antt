@@ -8,8 +8,8 @@ use native.Mathlib.Numerals.{add-one}
 use lib.ListN.{length, getD, set, take, drop, drop-of-length-le}
 use lib.Seq.{sets, sets-eq, take-at, drop-cons}
 use borrow.Author.Tests.{ne-eqb}
-use Rattle.rules_deck.specs.Cards.{textColumns, readAs, textOf}
-use Rattle.rules_deck.proofs.CardsLaws.{text-length}
+use Rattle.rules_text.specs.Cards.{textColumns, readAs, textOf}
+use Rattle.rules_text.proofs.CardsLaws.{text-length}
 use Rattle.texts.specs.Taking.{over, Written}
 use Rattle.cards.proofs.CardLaws.{column, columns-end, text-from}
 

@@ -7,7 +7,7 @@ use mathlib.Core.List.{List, [], _∷_}
 use lib.ListN.{length, drop}
 use lib.Seq.{sets}
 use Rattle.rules_shared.specs.House.{house1401}
-use Rattle.rules_deck.specs.Cards.{cardsOf, textColumns, comment, firstCard, textOf, Punched, statements, carded, following, grouped}
+use Rattle.rules_text.specs.Cards.{cardsOf, textColumns, comment, firstCard, textOf, Punched, statements, carded, following, grouped}
 use Rattle.texts.specs.declared.Reached.{Reached}
 use Rattle.texts.specs.declared.Taken.{Taken}
 use Rattle.texts.specs.declared.Taken.the-variants.{Statement, End}

@@ -3,7 +3,7 @@
 ghost use mathlib.Core.Path.{_≡_};
 ghost use Prim.Native.Nat.{_+_, _≤_};
 ghost use lib.ListN.{length, drop};
-ghost use Rattle.rules_deck.specs.Cards.{cardsOf, textColumns, readAs, following};
+ghost use Rattle.rules_text.specs.Cards.{cardsOf, textColumns, readAs, following};
 ghost use Rattle.texts.specs.Taking.{Accepted, over, begins, skipped, added, punchedRaw, punchedText, Follows, Takes, Written};
 use cards::Number;
 

@@ -9,10 +9,10 @@ use native.Mathlib.Omega.{arith}
 use lib.ListN.{length, take, drop, getD, length-drop}
 use lib.Seq.{drop-drop}
 use borrow.Author.Tests.{eq-eqb, ne-eqb}
-use Rattle.rules_deck.specs.Tokens.{Found, found, bad, Reader, give, ahead, follow, andThen, after, afterWord, allOf, choose, starts, digitRun, nameRun, number, name}
+use Rattle.rules_text.specs.Tokens.{Found, found, bad, Reader, give, ahead, follow, andThen, after, afterWord, allOf, choose, starts, digitRun, nameRun, number, name}
 use Rattle.tokens.specs.declared.Sizes.{Sizes}
 use Rattle.tokens.specs.declared.Token.the-variants.{Read, Bad}
-use Rattle.rules_deck.proofs.Found.{ahead-ahead}
+use Rattle.rules_text.proofs.Found.{ahead-ahead}
 use Rattle.tokens.specs.Words.{capped, nameWord, startsWord}
 use Rattle.tokens.specs.Sizes.{constantSizes, nameSizes}
 use Rattle.tokens.specs.Reading.{endOf, weightOf, answer, Reads, constantSize, nameSize, two, ReadsNumber, ReadsName}

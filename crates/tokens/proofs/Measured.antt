@@ -7,7 +7,7 @@ use Prim.Native.Nat.{ℕ, max}
 use native.Mathlib.Omega.{arith}
 use lib.Dec.{leb}
 use lib.ListN.{length, getD}
-use Rattle.rules_deck.specs.Trees.{Name, Digits}
+use Rattle.rules_text.specs.Trees.{Name, Digits}
 use Rattle.tokens.specs.declared.Sizes.{Sizes}
 use Rattle.tokens.specs.Sizes.{largest, otherLetter, sizesOf, constantSizes, nameSizes, both}
 

@@ -11,8 +11,8 @@ use lib.Seq.{drop-cons}
 use lib.Dec.{leb, eqb}
 use borrow.Author.Tests.{le-leb, lt-leb, eq-eqb, ne-eqb}
 use Rattle.rules_object.specs.Check.{isLetter, isDigit}
-use Rattle.rules_deck.specs.Tokens.{isLetterOrDigit, run, nameRun}
-use Rattle.rules_deck.proofs.Readers.{run-le}
+use Rattle.rules_text.specs.Tokens.{isLetterOrDigit, run, nameRun}
+use Rattle.rules_text.proofs.Readers.{run-le}
 use Rattle.tokens.specs.Words.{startsWord}
 
 -- ---- bytes

@@ -11,9 +11,9 @@ use lib.ListN.{length, take, drop, getD, drop-of-length-le, List·getD-eq-defaul
 use lib.Seq.{drop-cons, getD-take, getD-drop, length-take-le}
 use borrow.Author.Tests.{eq-eqb, ne-eqb, ltb-true, ltb-false}
 use Rattle.rules_object.specs.Check.{isLetter, isDigit}
-use Rattle.rules_deck.specs.Tokens.{isLetterOrDigit, Found, found, bad, Reader, ahead, after, afterWord, starts, startsDigit, run, digitRun, nameRun, taken, number, name}
-use Rattle.rules_deck.proofs.Readers.{run-le}
-use Rattle.rules_deck.proofs.Found.{ahead-none, ahead-ahead}
+use Rattle.rules_text.specs.Tokens.{isLetterOrDigit, Found, found, bad, Reader, ahead, after, afterWord, starts, startsDigit, run, digitRun, nameRun, taken, number, name}
+use Rattle.rules_text.proofs.Readers.{run-le}
+use Rattle.rules_text.proofs.Found.{ahead-none, ahead-ahead}
 use Rattle.tokens.specs.Words.{startsWord}
 
 -- ---- runs

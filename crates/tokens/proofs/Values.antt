@@ -11,7 +11,7 @@ use lib.Dec.{leb}
 use lib.ListN.{length, drop, getD, replicate, length-append, length-replicate, getD-replicate, drop-of-length-le}
 use lib.Seq.{drop-cons, getD-take, length-take-le}
 use borrow.Author.Tests.{leb-true, leb-false}
-use Rattle.rules_deck.specs.Trees.{valueFrom}
+use Rattle.rules_text.specs.Trees.{valueFrom}
 use Rattle.rules_deck.specs.Translation.{filled}
 use Rattle.tokens.specs.Words.{most, bytesFrom}
 

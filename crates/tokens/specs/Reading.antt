@@ -4,8 +4,8 @@ use mathlib.Core.Path.{_≡_}
 use mathlib.Core.List.{List, [], _∷_}
 use Prim.Native.Nat.{ℕ, _+_, _*_, _≤_}
 use lib.ListN.{length}
-use Rattle.rules_deck.specs.Trees.{Name, Digits}
-use Rattle.rules_deck.specs.Tokens.{Found, found, bad}
+use Rattle.rules_text.specs.Trees.{Name, Digits}
+use Rattle.rules_text.specs.Tokens.{Found, found, bad}
 use Rattle.tokens.specs.declared.Sizes.{Sizes}
 use Rattle.tokens.specs.declared.Token.{Token}
 use Rattle.tokens.specs.declared.Token.the-variants.{Read, Bad}

@@ -5,7 +5,7 @@ use mathlib.Core.Bool.{_&&_, cond}
 use mathlib.Core.List.{List, [], _∷_}
 use lib.Dec.{leb}
 use lib.ListN.{length}
-use Rattle.rules_deck.specs.Trees.{Name, Digits}
+use Rattle.rules_text.specs.Trees.{Name, Digits}
 use Rattle.rules_deck.specs.Judge.{startsInteger}
 use Rattle.tokens.specs.declared.Sizes.{Sizes}
 

@@ -4,7 +4,7 @@ use Prim.Native.Nat.{ℕ, _+_, _*_, min}
 use mathlib.Core.Bool.{Bool, true, false, _&&_}
 use mathlib.Core.List.{List, [], _∷_}
 use lib.Dec.{eqb}
-use Rattle.rules_deck.specs.Trees.{Name, Digits, valueOf}
+use Rattle.rules_text.specs.Trees.{Name, Digits, valueOf}
 use Rattle.rules_deck.specs.Translation.{filled}
 
 -- above every constant of nine digits and every statement number; larger values are not told apart

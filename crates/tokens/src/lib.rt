@@ -6,7 +6,7 @@ ghost use mathlib.Core.Bool.{_&&_, cond};
 ghost use lib.Dec.{leb};
 ghost use lib.ListN.{length, take, drop, getD};
 ghost use Rattle.rules_object.specs.Check.{isLetter, isDigit};
-ghost use Rattle.rules_deck.specs.Tokens.{isLetterOrDigit, run, digitRun, nameRun, number, name};
+ghost use Rattle.rules_text.specs.Tokens.{isLetterOrDigit, run, digitRun, nameRun, number, name};
 ghost use Rattle.tokens.specs.Words.{most, capped, nameWord, startsWord};
 ghost use Rattle.tokens.specs.Sizes.{sizesOf, both, constantSizes, nameSizes};
 ghost use Rattle.tokens.specs.Reading.{ReadsNumber, ReadsName};

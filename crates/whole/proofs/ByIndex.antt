@@ -10,7 +10,7 @@ use lib.Dec.{eqb, ltb, leb·suc-suc}
 use lib.ListN.{length, getD}
 use borrow.Author.Tests.{lt-ltb}
 use Rattle.rules_shared.specs.Lists.{all}
-use Rattle.rules_deck.specs.Trees.{stop, Statement}
+use Rattle.rules_text.specs.Trees.{stop, Statement}
 use Rattle.rules_deck.specs.Deck.{positionOf, Do}
 use Rattle.rules_deck.specs.Whole.{firstWrong, inRange, depth, rightDo, firstWrongDo}
 use Rattle.numbers.specs.Numbers.{allFrom, firstFrom, countFrom}

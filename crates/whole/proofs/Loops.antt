@@ -7,7 +7,7 @@ use mathlib.Core.List.{List, [], _∷_, _++_}
 use lib.ListN.{length, getD, length-append}
 use lib.Seq.{getD-append-add}
 use Rattle.rules_shared.specs.Lists.{Each, each-more}
-use Rattle.rules_deck.specs.Trees.{Name, Digits, valueOf, Form, assign, goTo, computed, ifs, loop, continue, stop, end, dimension, Statement, formExits, formLast}
+use Rattle.rules_text.specs.Trees.{Name, Digits, valueOf, Form, assign, goTo, computed, ifs, loop, continue, stop, end, dimension, Statement, formExits, formLast}
 use Rattle.rules_deck.specs.Deck.{Do, doOf, dosFrom}
 use Rattle.rules_deck.specs.Whole.{formSets}
 use Rattle.tokens.specs.Words.{nameWord}

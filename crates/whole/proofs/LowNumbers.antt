@@ -7,12 +7,12 @@ use mathlib.Core.Option.{Option, none, some}
 use Rattle.rules_shared.specs.Limits.{limits}
 use Rattle.rules_shared.specs.House.{House}
 use Rattle.rules_shared.specs.Refusals.{Refusal}
-use Rattle.rules_deck.specs.Trees.{Form, Statement}
-use Rattle.rules_deck.specs.Cards.{Punched, textOf, Carded, cardsRefused, statements, carded}
-use Rattle.rules_deck.specs.Grammar.{formOf}
+use Rattle.rules_text.specs.Trees.{Form, Statement}
+use Rattle.rules_text.specs.Cards.{Punched, textOf, Carded, cardsRefused, statements, carded}
+use Rattle.rules_text.specs.Grammar.{formOf}
 use Rattle.rules_deck.specs.Judge.{Taken, nothingTaken, takes, judgeForm}
 use Rattle.rules_deck.specs.Compile.{Read, notRead, read, withStatement, afterJudging, afterReading, readText, readFrom, readCarded}
-use Rattle.rules_deck.proofs.CardsLaws.{RightStatement, statements-right}
+use Rattle.rules_text.proofs.CardsLaws.{RightStatement, statements-right}
 use Rattle.rules_shared.specs.Lists.{Each, each-none, each-more}
 use Rattle.whole.specs.Whole.{LowNumber}
 

@@ -11,7 +11,7 @@ use lib.Dec.{eqb, ltb, eqb·suc-suc}
 use lib.ListN.{length, getD, take}
 use borrow.Author.Tests.{ltb-false, ne-eqb}
 use Rattle.rules_shared.specs.Refusals.{orElse}
-use Rattle.rules_deck.specs.Trees.{valueOf, Form, assign, goTo, computed, ifs, loop, continue, stop, end, dimension, Statement, formExits, formLast}
+use Rattle.rules_text.specs.Trees.{valueOf, Form, assign, goTo, computed, ifs, loop, continue, stop, end, dimension, Statement, formExits, formLast}
 use Rattle.rules_deck.specs.Deck.{positionOf}
 use Rattle.rules_deck.specs.Whole.{firstWrong, isEnd, endsWell, refused20, isDimension, right21, right22}
 use Rattle.draft.specs.Draft.{kindOf}

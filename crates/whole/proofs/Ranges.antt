@@ -11,7 +11,7 @@ use lib.ListN.{length, getD, take, getElem?}
 use lib.Seq.{getD-take, length-take-le}
 use borrow.Author.Tests.{ne-eqb}
 use Rattle.rules_shared.specs.Lists.{all, Each, each-more}
-use Rattle.rules_deck.specs.Trees.{Name, Digits, valueOf, cell, element, Form, assign, goTo, computed, ifs, loop, continue, stop, end, dimension, Statement, formExits, formLast}
+use Rattle.rules_text.specs.Trees.{Name, Digits, valueOf, cell, element, Form, assign, goTo, computed, ifs, loop, continue, stop, end, dimension, Statement, formExits, formLast}
 use Rattle.rules_deck.specs.Deck.{sameName, positionOf, Do, dosOf}
 use Rattle.rules_deck.specs.Whole.{firstWrong, lastOf, inRange, mayEnd, mayEndAt, crosses, depth, rightDo, firstWrongDo, right24, formSets, right25}
 use Rattle.tokens.specs.Words.{nameWord}

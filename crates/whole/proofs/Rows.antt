@@ -6,7 +6,7 @@ use native.Mathlib.Omega.{arith}
 use mathlib.Core.List.{List, [], _∷_, _++_}
 use lib.ListN.{length, getD, take, length-append, List·getD-append}
 use lib.Seq.{getD-take, getD-append-add}
-use Rattle.rules_deck.specs.Trees.{Statement}
+use Rattle.rules_text.specs.Trees.{Statement}
 use Rattle.draft.specs.Draft.{kindOf, setWord, jumpWords, rowWords}
 use Rattle.draft.specs.Sketch.{deckRows, deckJumps}
 use Rattle.tables.specs.Rows.{numberAt, kindAt, setAt, jumpsAt, startOf}

@@ -12,7 +12,7 @@ use lib.Seq.{getD-take, length-take-le}
 use borrow.Author.Tests.{ltb-true}
 use Rattle.rules_shared.specs.Limits.{limits}
 use Rattle.rules_shared.specs.Refusals.{Refusal, orElse}
-use Rattle.rules_deck.specs.Trees.{Statement}
+use Rattle.rules_text.specs.Trees.{Statement}
 use Rattle.rules_deck.specs.Deck.{positionOf, dosOf}
 use Rattle.rules_deck.specs.Whole.{firstWrong, refused20, right21, right22, lastOf, firstWrongDo, right24, right25, refusedAt, judgeDeck}
 use Rattle.rules_shared.specs.Lists.{Each, each-more}

@@ -4,7 +4,7 @@ ghost use mathlib.Core.List.{List};
 ghost use Prim.Native.Nat.{_≤_};
 ghost use lib.ListN.{length};
 ghost use Rattle.rules_shared.specs.Refusals.{orElse};
-ghost use Rattle.rules_deck.specs.Trees.{Statement};
+ghost use Rattle.rules_text.specs.Trees.{Statement};
 ghost use Rattle.rules_deck.specs.Whole.{refusedAt};
 ghost use Rattle.tables.specs.Rows.{startOf};
 ghost use Rattle.tables.specs.Tables.{RowsFit};

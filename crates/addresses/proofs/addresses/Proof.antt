@@ -5,7 +5,7 @@ use Prim.Native.Nat.{_≤_, _-_, _+_, _*_}
 use mathlib.Core.List.{List}
 use lib.ListN.{length, length-set}
 use Rattle.rules_shared.specs.House.{House}
-use Rattle.rules_deck.specs.Trees.{Statement}
+use Rattle.rules_text.specs.Trees.{Statement}
 use Rattle.addresses.specs.Given.{Judged}
 use Rattle.addresses.specs.Ends.{endsAt}
 use Rattle.addresses.proofs.Told.{rows-long}

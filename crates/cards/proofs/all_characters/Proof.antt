@@ -3,7 +3,7 @@ use mathlib.Core.Path.{_≡_, refl, sym, _∙_}
 use Prim.Native.Nat.{_≤_, _-_}
 use lib.ListN.{take, drop}
 use borrow.Author.Tests.{not-true, not-false}
-use Rattle.rules_deck.specs.Cards.{characters}
+use Rattle.rules_text.specs.Cards.{characters}
 use Rattle.cards.proofs.CardLaws.{characters-no, characters-more, characters-end}
 use borrow.Author.Needs.{needs}
 use Rattle.cards.proofs.all_characters.Statement.{statement}

@@ -3,7 +3,7 @@ use mathlib.Core.Path.{_∙_}
 use Prim.Native.Nat.{_-_}
 use native.Mathlib.Omega.{arith}
 use lib.ListN.{length}
-use Rattle.rules_deck.specs.Cards.{cardsOf}
+use Rattle.rules_text.specs.Cards.{cardsOf}
 use Rattle.draft.specs.Kept.{asWords}
 use Rattle.drafting.proofs.Round.{Round, round-start, round-ahead, turn-ended, turn-refused, turn-further, turn-on}
 use borrow.Author.Needs.{needs}

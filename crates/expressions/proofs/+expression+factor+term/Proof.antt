@@ -4,8 +4,8 @@ use mathlib.Core.Path.{_≡_, sym, ap, subst, _∙_}
 use native.Mathlib.Omega.{arith}
 use borrow.Author.Needs.{needs}
 use lib.ListN.{length, drop, getD, length-drop}
-use Rattle.rules_deck.specs.Tokens.{bad}
-use Rattle.rules_deck.specs.Grammar.{anExpression, aTerm, aFactor, moreTerms, moreFactors, parse, sumOp, productOp}
+use Rattle.rules_text.specs.Tokens.{bad}
+use Rattle.rules_text.specs.Grammar.{anExpression, aTerm, aFactor, moreTerms, moreFactors, parse, sumOp, productOp}
 use Rattle.tokens.proofs.Tokens.{inside}
 use Rattle.items.proofs.Given.{took, refused, front, refuse, accept, parsed-as}
 use Rattle.operators.specs.Signs.{signLen}

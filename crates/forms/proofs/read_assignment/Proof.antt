@@ -1,7 +1,7 @@
 -- `forms::read_assignment` meets its contract. Assumes nothing.
 use mathlib.Core.Path.{sym, _∙_}
 use native.Mathlib.Omega.{arith}
-use Rattle.rules_deck.specs.Grammar.{anExpression}
+use Rattle.rules_text.specs.Grammar.{anExpression}
 use Rattle.tokens.proofs.Chains.{took, refused}
 use Rattle.elements.proofs.Parts.{place-shape}
 use Rattle.items.proofs.Given as given

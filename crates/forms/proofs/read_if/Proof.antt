@@ -2,7 +2,7 @@
 use mathlib.Core.Path.{sym, _∙_}
 use native.Mathlib.Omega.{arith}
 use borrow.Author.Tests.{not-true, not-false}
-use Rattle.rules_deck.specs.Grammar.{anExpression}
+use Rattle.rules_text.specs.Grammar.{anExpression}
 use Rattle.items.proofs.Given as given
 use Rattle.expressions.proofs.Going.{on-rest}
 use Rattle.forms.proofs.Forms.{if-no-word, if-not-opened, if-inside, if-no-expr, if-within, if-not-closed, if-closed, if-read}

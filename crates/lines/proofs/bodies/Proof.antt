@@ -6,7 +6,7 @@ use mathlib.Core.List.{List, map}
 use lib.ListN.{length, take, getD, length-set}
 use Rattle.rules_shared.specs.House.{House}
 use Rattle.rules_object.specs.Bytes.{concat, loopWords}
-use Rattle.rules_deck.specs.Trees.{Statement}
+use Rattle.rules_text.specs.Trees.{Statement}
 use Rattle.rules_deck.specs.Deck.{dosOf}
 use Rattle.addresses.specs.Given.{Loops, Starts}
 use Rattle.addresses.proofs.DeckEnds.{loops-long}

@@ -6,7 +6,7 @@ use mathlib.Core.List.{List, map}
 use lib.ListN.{length, take}
 use Rattle.rules_shared.specs.House.{House}
 use Rattle.rules_object.specs.Bytes.{concat, nameWords}
-use Rattle.rules_deck.specs.Trees.{Statement}
+use Rattle.rules_text.specs.Trees.{Statement}
 use Rattle.rules_deck.specs.Translation.{heldOf, namesFrom}
 use Rattle.lines.specs.Names.{Names}
 use Rattle.lines.proofs.Naming.{table-long, small-words, names-more, names-all}

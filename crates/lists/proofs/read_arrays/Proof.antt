@@ -3,7 +3,7 @@ use mathlib.Core.Path.{refl, sym, _∙_}
 use Prim.Native.Nat.{_+_, _-_}
 use native.Mathlib.Omega.{arith}
 use lib.ListN.{length}
-use Rattle.rules_deck.specs.Grammar.{arrayShape}
+use Rattle.rules_text.specs.Grammar.{arrayShape}
 use Rattle.tokens.proofs.Tokens.{inside}
 use Rattle.tokens.proofs.Chains.{took, refused}
 use Rattle.forms.specs.Statements.{allWords}

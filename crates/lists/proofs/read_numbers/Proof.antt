@@ -4,7 +4,7 @@ use mathlib.Core.List.{[], _∷_}
 use Prim.Native.Nat.{_+_, _-_}
 use native.Mathlib.Omega.{arith}
 use lib.ListN.{length, length-set}
-use Rattle.rules_deck.specs.Tokens.{number}
+use Rattle.rules_text.specs.Tokens.{number}
 use Rattle.tokens.specs.Sizes.{sizesOf}
 use Rattle.tokens.proofs.Tokens.{inside}
 use Rattle.tokens.proofs.Chains.{took, refused, token-shape}

@@ -2,7 +2,7 @@
 use mathlib.Core.Path.{sym, _∙_}
 use native.Mathlib.Omega.{arith}
 use lib.ListN.{length-drop}
-use Rattle.rules_deck.specs.Grammar.{anExpression}
+use Rattle.rules_text.specs.Grammar.{anExpression}
 use Rattle.items.proofs.Given as given
 use Rattle.expressions.proofs.Going.{on-rest}
 use Rattle.loops.proofs.Loops.{parameter-plus, parameter-none, parameter-within, parameter-long, parameter-deep, parameter-read}

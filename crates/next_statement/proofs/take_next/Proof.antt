@@ -3,7 +3,7 @@ use mathlib.Core.Path.{refl, sym, ap, _∙_}
 use native.Mathlib.Omega.{arith}
 use lib.ListN.{length, take}
 use borrow.Author.Tests.{not-true, not-false}
-use Rattle.rules_deck.specs.Cards.{Punched}
+use Rattle.rules_text.specs.Cards.{Punched}
 use Rattle.texts.proofs.Onward.{onward, ended as none-left}
 use Rattle.next_statement.specs.Steps.{ended}
 use Rattle.next_statement.proofs.Next.{reading, next-empty, next-unread, comes-refused, comes-kept, small-number, text-long, part-short}

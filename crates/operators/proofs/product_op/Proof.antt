@@ -1,6 +1,6 @@
 -- `expressions::product_op` meets its contract. Assumes nothing.
 use borrow.Author.Tests.{eq-eqb, ne-eqb}
-use Rattle.rules_deck.specs.Grammar.{productOp}
+use Rattle.rules_text.specs.Grammar.{productOp}
 use Rattle.operators.specs.Signs.{opNumber}
 use Rattle.operators.proofs.product_op.Statement.{statement}
 use Rattle.operators.proofs.product_op.Tie as tie

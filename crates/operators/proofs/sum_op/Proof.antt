@@ -1,6 +1,6 @@
 -- `expressions::sum_op` meets its contract. Assumes nothing.
 use borrow.Author.Tests.{eq-eqb, ne-eqb}
-use Rattle.rules_deck.specs.Grammar.{sumOp}
+use Rattle.rules_text.specs.Grammar.{sumOp}
 use Rattle.operators.specs.Signs.{opNumber}
 use Rattle.operators.proofs.sum_op.Statement.{statement}
 use Rattle.operators.proofs.sum_op.Tie as tie

@@ -7,7 +7,7 @@ use lib.IntN.{pos, natAbs}
 use mir.Facts.{toZ-ofZ}
 use lib.Signed.{ltZ}
 use Rattle.number.proofs.Whole.{read}
-use Rattle.rules_deck.specs.Punch.{bytes}
+use Rattle.rules_text.specs.Punch.{bytes}
 use Rattle.rules_program.specs.Text.{numeral, signed}
 use Rattle.print_numbers.specs.Puts.{Room}
 use Rattle.print_numbers.proofs.PutLaws.{room-first, room-then, puts-both, puts-as, room-as}

@@ -3,7 +3,7 @@ use Prim.Native.Nat.{ℕ, _+_, _%_, _/_}
 use mathlib.Core.Path.{_≡_, sym}
 use mathlib.Core.List.{List, _++_}
 use native.Mathlib.Omega.{arith}
-use Rattle.rules_deck.specs.Punch.{bytes}
+use Rattle.rules_text.specs.Punch.{bytes}
 use Rattle.rules_program.specs.Text.{stated, subscripts}
 use Rattle.print_numbers.specs.Puts.{Room}
 use Rattle.print_numbers.proofs.PutLaws.{room-first, room-then, puts-none, puts-both, puts-as, room-as}

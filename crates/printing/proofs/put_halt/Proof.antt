@@ -1,7 +1,7 @@
 -- `printing::put_halt` meets its contract. Assumes nothing.
 use Prim.Native.Nat.{ℕ}
 use mathlib.Core.List.{List, _++_}
-use Rattle.rules_deck.specs.Punch.{bytes}
+use Rattle.rules_text.specs.Punch.{bytes}
 use Rattle.rules_program.specs.Text.{stated, lineEnd, haltLine}
 use Rattle.print_numbers.proofs.PutLaws.{room-first, room-then, puts-both}
 use borrow.Author.Needs.{needs}

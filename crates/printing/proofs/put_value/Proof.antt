@@ -7,8 +7,8 @@ use mathlib.Core.List.{List, _++_}
 use native.Mathlib.Omega.{arith}
 use lib.ListN.{take, drop}
 use Rattle.rules_object.specs.Machine.{cell}
-use Rattle.rules_deck.specs.Cards.{withoutBlanks}
-use Rattle.rules_deck.specs.Punch.{bytes}
+use Rattle.rules_text.specs.Cards.{withoutBlanks}
+use Rattle.rules_text.specs.Punch.{bytes}
 use Rattle.rules_program.specs.Text.{signed, lineEnd, subscripts, valueLine}
 use Rattle.printing.specs.Entries.{namedIn}
 use Rattle.print_numbers.specs.Puts.{Room}

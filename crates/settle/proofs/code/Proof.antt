@@ -5,7 +5,7 @@ use Prim.Native.Nat.{_≤_, _-_}
 use mathlib.Core.List.{List}
 use lib.ListN.{length}
 use Rattle.rules_shared.specs.House.{House}
-use Rattle.rules_deck.specs.Trees.{Statement}
+use Rattle.rules_text.specs.Trees.{Statement}
 use Rattle.addresses.proofs.Told.{rows-long}
 use Rattle.addresses.proofs.DeckEnds.{lasts-inside, dos-few}
 use Rattle.settle.specs.Settling.{Settling}

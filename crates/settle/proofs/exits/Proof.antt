@@ -5,7 +5,7 @@ use Prim.Native.Nat.{_≤_, _-_}
 use mathlib.Core.List.{List}
 use lib.ListN.{length, take}
 use Rattle.rules_shared.specs.House.{House}
-use Rattle.rules_deck.specs.Trees.{Statement}
+use Rattle.rules_text.specs.Trees.{Statement}
 use Rattle.draft.specs.Sketch.{deckJumps}
 use Rattle.addresses.specs.Given.{Holds}
 use Rattle.addresses.proofs.Told.{rows-long}

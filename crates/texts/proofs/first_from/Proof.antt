@@ -3,7 +3,7 @@ use mathlib.Core.Path.{_≡_, refl, sym, _∙_}
 use Prim.Native.Nat.{_+_, _-_, _/_}
 use native.Mathlib.Omega.{arith}
 use lib.ListN.{length, drop}
-use Rattle.rules_deck.specs.Cards.{cardsOf}
+use Rattle.rules_text.specs.Cards.{cardsOf}
 use Rattle.texts.specs.Taking.{skipped}
 use Rattle.texts.proofs.TakeLaws.{skip-end, skip-none, skip-one}
 use borrow.Author.Needs.{needs}

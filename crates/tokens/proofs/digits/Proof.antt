@@ -5,7 +5,7 @@ use native.Mathlib.Omega.{arith}
 use lib.ListN.{length, drop}
 use borrow.Author.Tests.{not-true, not-false}
 use Rattle.rules_object.specs.Check.{isDigit}
-use Rattle.rules_deck.specs.Tokens.{run, digitRun}
+use Rattle.rules_text.specs.Tokens.{run, digitRun}
 use Rattle.tokens.proofs.Runs.{run-end, run-stop, run-more, counted, counted-more}
 use borrow.Author.Needs.{needs}
 use Rattle.tokens.proofs.digits.Statement.{statement}

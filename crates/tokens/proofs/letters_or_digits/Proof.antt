@@ -4,7 +4,7 @@ use Prim.Native.Nat.{_+_, _-_, _≤_}
 use native.Mathlib.Omega.{arith}
 use lib.ListN.{length, drop}
 use borrow.Author.Tests.{not-true, not-false}
-use Rattle.rules_deck.specs.Tokens.{isLetterOrDigit, run, digitRun}
+use Rattle.rules_text.specs.Tokens.{isLetterOrDigit, run, digitRun}
 use Rattle.tokens.proofs.Runs.{run-end, run-stop, run-more, counted, counted-more}
 use borrow.Author.Needs.{needs}
 use Rattle.tokens.proofs.letters_or_digits.Statement.{statement}

@@ -3,8 +3,8 @@ use mathlib.Core.Path.{sym, ap, _∙_}
 use Prim.Native.Nat.{ℕ, _+_}
 use native.Mathlib.Omega.{arith}
 use lib.ListN.{drop, length-drop}
-use Rattle.rules_deck.specs.Tokens.{isLetterOrDigit}
-use Rattle.rules_deck.proofs.Readers.{run-le}
+use Rattle.rules_text.specs.Tokens.{isLetterOrDigit}
+use Rattle.rules_text.proofs.Readers.{run-le}
 use Rattle.tokens.proofs.Runs.{name-end, name-other, name-more}
 use borrow.Author.Needs.{needs}
 use Rattle.tokens.proofs.name.Statement.{statement}

@@ -6,9 +6,9 @@ use native.Mathlib.Omega.{arith}
 use lib.ListN.{length, take, drop, getD}
 use lib.Seq.{getD-take, getD-drop, length-take-le}
 use Rattle.rules_object.specs.Check.{isDigit}
-use Rattle.rules_deck.specs.Trees.{valueFrom, valueOf}
-use Rattle.rules_deck.specs.Tokens.{run, digitRun}
-use Rattle.rules_deck.proofs.Readers.{digit-bounds, run-le}
+use Rattle.rules_text.specs.Trees.{valueFrom, valueOf}
+use Rattle.rules_text.specs.Tokens.{run, digitRun}
+use Rattle.rules_text.proofs.Readers.{digit-bounds, run-le}
 use Rattle.tokens.specs.Words.{most, capped}
 use Rattle.tokens.proofs.Runs.{in-run, run-inside}
 use Rattle.tokens.proofs.Values.{cap-more, cap-end}

@@ -11,11 +11,11 @@ use borrow.Author.Tests.{eqb-true}
 use Rattle.number.specs.Number.{Op}
 use Rattle.rules_shared.specs.Lists.{Each, each-none, each-more}
 use Rattle.rules_shared.proofs.EachLaws.{each-one, each-append}
-use Rattle.rules_deck.specs.Trees.{Name, Digits, Addend, Subscript, Subscripts, Expr, neg, par, bin, Target, cell, element, subscriptNames, subscriptsNames, exprNames, targetNames, addendConstants, optional, subscriptConstants, subscriptsConstants, exprConstants, targetConstants}
-use Rattle.rules_deck.specs.Tokens.{leftParen, rightParen, star, plusSign, comma, minusSign, slash, Reader}
-use Rattle.rules_deck.specs.Grammar.{addend, linearOf, subscript, subscripts, place, operandOf, operand, sign, signed, sumOp, productOp, Mode, anExpression, aTerm, aFactor, moreTerms, moreFactors, joined, more, step, parseIn, enough, parse, expression}
-use Rattle.rules_deck.specs.Spelling.{IsDigits, IsName}
-use Rattle.rules_deck.proofs.Readers.{NotEquals, Sound, sound, sound-bad, sound-ahead, Good, good-then, good-give, good-after, good-choose, good-number, good-name}
+use Rattle.rules_text.specs.Trees.{Name, Digits, Addend, Subscript, Subscripts, Expr, neg, par, bin, Target, cell, element, subscriptNames, subscriptsNames, exprNames, targetNames, addendConstants, optional, subscriptConstants, subscriptsConstants, exprConstants, targetConstants}
+use Rattle.rules_text.specs.Tokens.{leftParen, rightParen, star, plusSign, comma, minusSign, slash, Reader}
+use Rattle.rules_text.specs.Grammar.{addend, linearOf, subscript, subscripts, place, operandOf, operand, sign, signed, sumOp, productOp, Mode, anExpression, aTerm, aFactor, moreTerms, moreFactors, joined, more, step, parseIn, enough, parse, expression}
+use Rattle.rules_text.specs.Spelling.{IsDigits, IsName}
+use Rattle.rules_text.proofs.Readers.{NotEquals, Sound, sound, sound-bad, sound-ahead, Good, good-then, good-give, good-after, good-choose, good-number, good-name}
 
 -- these names and these runs of digits are right
 abbrev pub Right : List Name → List Digits → Type 0

@@ -14,13 +14,13 @@ use Rattle.rules_shared.specs.Limits.{limits}
 use Rattle.rules_object.specs.Check.{isDigit}
 use Rattle.rules_shared.specs.Lists.{Each, each-none, each-more}
 use Rattle.rules_shared.proofs.EachLaws.{each-head, each-tail, each-left, each-right}
-use Rattle.rules_deck.specs.Trees.{Name, Digits, Addend, nothing, plus, minus, Subscript, constant, linear, Subscripts, one, two, Expr, con, var, elm, neg, par, bin, Target, cell, element, Array, array, Form, assign, goTo, computed, ifs, loop, continue, stop, end, dimension, addendConstants, subscriptNames, subscriptConstants, subscriptsNames, subscriptsConstants}
-use Rattle.rules_deck.specs.Tokens.{leftParen, rightParen, star, plusSign, comma, minusSign, slash, equals, wordGoTo, wordIf, wordDo, wordContinue, wordStop, wordEnd, wordDimension, isLetterOrDigit, found, Reader, give, ahead, andThen, after, choose, starts, startsDigit, number, listed, whole}
-use Rattle.rules_deck.specs.Grammar.{addend, linearOf, subscript, subscripts, place, operandOf, operand, sign, signed, sumOp, productOp, anExpression, aTerm, aFactor, moreTerms, moreFactors, joined, more, step, parse, expression, assignment, plainGoTo, rightExits, computedGoTo, arithmeticIf, parameter, doLoop, arrayShape, dimensions, readAssignment, readGoTo, readComputed, readIf, readDo, readContinue, readStop, readEnd, readDimension, formOf}
-use Rattle.rules_deck.specs.Spelling.{spellAddend, spellSubscript, spellSubscripts, spellTarget, spellExpr, spellList, spellNumber, spellArray, spellBy, spellForm, IsDigits, IsName, is-name, Words, IsTarget, IsArray, IsNumberOrName, IsBy, Part, aSum, aProduct, aFactor, SpellsPart, first, after-plus, after-minus, added, less, only, times, over, a-number, a-name, an-element, parens, Spells, an-assignment, a-go-to, a-computed, an-if, a-loop, a-continue, a-stop, an-end, a-dimension}
-use Rattle.rules_deck.proofs.Parse.{parse-step}
-use Rattle.rules_deck.proofs.OneForm.{form-is}
-use Rattle.rules_deck.proofs.Takes.{Takes, takes-as, takes-give, takes-give-if, takes-then, takes-both, takes-after, takes-word, takes-yes, takes-no, takes-whole, Clear, clear-none, clear-byte, takes-number, takes-name, no-digit, starts-digit, letter-no-digit, starts-no-digit, number-not, name-not, takes-list}
+use Rattle.rules_text.specs.Trees.{Name, Digits, Addend, nothing, plus, minus, Subscript, constant, linear, Subscripts, one, two, Expr, con, var, elm, neg, par, bin, Target, cell, element, Array, array, Form, assign, goTo, computed, ifs, loop, continue, stop, end, dimension, addendConstants, subscriptNames, subscriptConstants, subscriptsNames, subscriptsConstants}
+use Rattle.rules_text.specs.Tokens.{leftParen, rightParen, star, plusSign, comma, minusSign, slash, equals, wordGoTo, wordIf, wordDo, wordContinue, wordStop, wordEnd, wordDimension, isLetterOrDigit, found, Reader, give, ahead, andThen, after, choose, starts, startsDigit, number, listed, whole}
+use Rattle.rules_text.specs.Grammar.{addend, linearOf, subscript, subscripts, place, operandOf, operand, sign, signed, sumOp, productOp, anExpression, aTerm, aFactor, moreTerms, moreFactors, joined, more, step, parse, expression, assignment, plainGoTo, rightExits, computedGoTo, arithmeticIf, parameter, doLoop, arrayShape, dimensions, readAssignment, readGoTo, readComputed, readIf, readDo, readContinue, readStop, readEnd, readDimension, formOf}
+use Rattle.rules_text.specs.Spelling.{spellAddend, spellSubscript, spellSubscripts, spellTarget, spellExpr, spellList, spellNumber, spellArray, spellBy, spellForm, IsDigits, IsName, is-name, Words, IsTarget, IsArray, IsNumberOrName, IsBy, Part, aSum, aProduct, aFactor, SpellsPart, first, after-plus, after-minus, added, less, only, times, over, a-number, a-name, an-element, parens, Spells, an-assignment, a-go-to, a-computed, an-if, a-loop, a-continue, a-stop, an-end, a-dimension}
+use Rattle.rules_text.proofs.Parse.{parse-step}
+use Rattle.rules_text.proofs.OneForm.{form-is}
+use Rattle.rules_text.proofs.Takes.{Takes, takes-as, takes-give, takes-give-if, takes-then, takes-both, takes-after, takes-word, takes-yes, takes-no, takes-whole, Clear, clear-none, clear-byte, takes-number, takes-name, no-digit, starts-digit, letter-no-digit, starts-no-digit, number-not, name-not, takes-list}
 
 -- ---- what may follow
 

@@ -13,10 +13,10 @@ use Rattle.rules_shared.specs.Limits.{limits}
 use Rattle.rules_object.specs.Check.{isLetter, isDigit}
 use Rattle.rules_shared.specs.Lists.{Each, each-none, each-more}
 use Rattle.rules_shared.proofs.EachLaws.{each-head, each-tail, each-left, each-right}
-use Rattle.rules_deck.specs.Trees.{Name, Digits, Addend, nothing, plus, minus, Subscript, constant, linear, Subscripts, one, two, addendConstants, subscriptNames, subscriptConstants, subscriptsNames, subscriptsConstants, Expr, con, var, elm, neg, par, bin, Target, cell, element, Array, array, Form}
-use Rattle.rules_deck.specs.Tokens.{leftParen, rightParen, star, plusSign, comma, minusSign, slash, equals, wordGoTo, wordIf, wordDo, wordContinue, wordStop, wordEnd, wordDimension, isLetterOrDigit}
-use Rattle.rules_deck.specs.Spelling.{spellAddend, spellSubscript, spellSubscripts, spellTarget, spellExpr, spellMore, spellList, spellNumber, spellArray, spellBy, spellForm, Passes, IsDigits, is-digits, IsName, is-name, Words, IsTarget, IsArray, IsNumberOrName, IsBy, Part, aSum, aProduct, aFactor, SpellsPart, first, after-plus, after-minus, added, less, only, times, over, a-number, a-name, an-element, parens, Spells, an-assignment, a-go-to, a-computed, an-if, a-loop, a-continue, a-stop, an-end, a-dimension, opens, withoutAfter, withoutPluses}
-use Rattle.rules_deck.proofs.Readers.{digit-bounds, letter-bounds}
+use Rattle.rules_text.specs.Trees.{Name, Digits, Addend, nothing, plus, minus, Subscript, constant, linear, Subscripts, one, two, addendConstants, subscriptNames, subscriptConstants, subscriptsNames, subscriptsConstants, Expr, con, var, elm, neg, par, bin, Target, cell, element, Array, array, Form}
+use Rattle.rules_text.specs.Tokens.{leftParen, rightParen, star, plusSign, comma, minusSign, slash, equals, wordGoTo, wordIf, wordDo, wordContinue, wordStop, wordEnd, wordDimension, isLetterOrDigit}
+use Rattle.rules_text.specs.Spelling.{spellAddend, spellSubscript, spellSubscripts, spellTarget, spellExpr, spellMore, spellList, spellNumber, spellArray, spellBy, spellForm, Passes, IsDigits, is-digits, IsName, is-name, Words, IsTarget, IsArray, IsNumberOrName, IsBy, Part, aSum, aProduct, aFactor, SpellsPart, first, after-plus, after-minus, added, less, only, times, over, a-number, a-name, an-element, parens, Spells, an-assignment, a-go-to, a-computed, an-if, a-loop, a-continue, a-stop, an-end, a-dimension, opens, withoutAfter, withoutPluses}
+use Rattle.rules_text.proofs.Readers.{digit-bounds, letter-bounds}
 
 -- after b, the text t comes to u, and what follows t starts after no = or (
 record Comes (b : ℕ) (t u : List ℕ) : Type 0 where

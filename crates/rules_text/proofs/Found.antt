@@ -10,7 +10,7 @@ use lib.ListN.{drop}
 use lib.Dec.{eqb}
 use borrow.Author.Tests.{eqb-true}
 use Rattle.rules_object.specs.Check.{isLetter, isDigit}
-use Rattle.rules_deck.specs.Tokens.{isLetterOrDigit, Found, found, bad, Reader, ahead, follow, andThen, after, afterWord, run, digitRun, nameRun, taken, number, name}
+use Rattle.rules_text.specs.Tokens.{isLetterOrDigit, Found, found, bad, Reader, ahead, follow, andThen, after, afterWord, run, digitRun, nameRun, taken, number, name}
 
 pub not-found : {A : Type 0} {a : A} {k : ℕ} → bad ≡ found a k → ⊥
 not-found e =

@@ -10,8 +10,8 @@ use lib.Seq.{append-snoc}
 use borrow.Author.Tests.{eqb-true}
 use Rattle.rules_shared.specs.Limits.{limits}
 use Rattle.rules_shared.specs.House.{House}
-use Rattle.rules_deck.specs.Cards.{cardsOf, textColumns, Punched, numberOf, Reading, nothingRead, wrongCard, started, extended, afterCard, Carded, cardsRefused, statements, cardByCard, rightDigits, rightLength, counted, carded, following, grouped}
-use Rattle.rules_deck.proofs.CardsLaws.{Stands, as-comment, as-first, as-continuation, stands, cases}
+use Rattle.rules_text.specs.Cards.{cardsOf, textColumns, Punched, numberOf, Reading, nothingRead, wrongCard, started, extended, afterCard, Carded, cardsRefused, statements, cardByCard, rightDigits, rightLength, counted, carded, following, grouped}
+use Rattle.rules_text.proofs.CardsLaws.{Stands, as-comment, as-first, as-continuation, stands, cases}
 
 -- ---- putting text after the last statement
 

@@ -13,13 +13,13 @@ use Rattle.number.specs.Number.{Op, add, sub, mul, div}
 use Rattle.rules_shared.specs.Limits.{limits}
 use Rattle.rules_shared.specs.Lists.{Each, each-none, each-more}
 use Rattle.rules_shared.proofs.EachLaws.{each-head, each-tail, each-one, each-append}
-use Rattle.rules_deck.specs.Trees.{Name, Digits, Addend, Subscript, linear, Subscripts, Expr, con, var, elm, neg, par, bin, Target, cell, element, Array, Form, assign, goTo, computed, ifs, loop, dimension, addendConstants, subscriptNames, subscriptConstants, subscriptsNames, subscriptsConstants}
-use Rattle.rules_deck.specs.Tokens.{leftParen, rightParen, star, plusSign, comma, minusSign, slash, equals, wordGoTo, wordIf, wordDo, wordContinue, wordStop, wordEnd, wordDimension, Found, found, bad, Reader, giveIf, ahead, follow, andThen, choose, starts}
-use Rattle.rules_deck.specs.Grammar.{addend, linearOf, subscript, subscripts, place, operandOf, operand, sign, signed, sumOp, productOp, Mode, anExpression, aTerm, aFactor, moreTerms, moreFactors, joined, more, step, parseIn, enough, parse, expression, assignment, plainGoTo, rightExits, computedGoTo, arithmeticIf, isParameter, parameter, doLoop, arrayShape, dimensions, readAssignment, readGoTo, readComputed, readIf, readDo, readContinue, readStop, readEnd, readDimension, present, readings, firstOf, formOf}
-use Rattle.rules_deck.specs.Spelling.{spellAddend, spellSubscript, spellSubscripts, spellTarget, spellExpr, spellNumber, spellArray, spellBy, spellForm, IsDigits, IsName, Words, IsTarget, IsArray, IsNumberOrName, IsBy, aSum, aProduct, aFactor, SpellsPart, first, after-plus, after-minus, added, less, only, times, over, a-number, a-name, an-element, parens, Spells, an-assignment, a-go-to, a-computed, an-if, a-loop, a-continue, a-stop, an-end, a-dimension}
-use Rattle.rules_deck.proofs.Readers.{both-true}
-use Rattle.rules_deck.proofs.ReadForms.{clash}
-use Rattle.rules_deck.proofs.Tells.{Told, told, told-bad, Tells, told-ahead, tells-map, tells-then, tells-give, tells-give-if, tells-last, tells-after, tells-word, tells-choose, tells-whole, tells-number, tells-name, SpelledList, tells-listed}
+use Rattle.rules_text.specs.Trees.{Name, Digits, Addend, Subscript, linear, Subscripts, Expr, con, var, elm, neg, par, bin, Target, cell, element, Array, Form, assign, goTo, computed, ifs, loop, dimension, addendConstants, subscriptNames, subscriptConstants, subscriptsNames, subscriptsConstants}
+use Rattle.rules_text.specs.Tokens.{leftParen, rightParen, star, plusSign, comma, minusSign, slash, equals, wordGoTo, wordIf, wordDo, wordContinue, wordStop, wordEnd, wordDimension, Found, found, bad, Reader, giveIf, ahead, follow, andThen, choose, starts}
+use Rattle.rules_text.specs.Grammar.{addend, linearOf, subscript, subscripts, place, operandOf, operand, sign, signed, sumOp, productOp, Mode, anExpression, aTerm, aFactor, moreTerms, moreFactors, joined, more, step, parseIn, enough, parse, expression, assignment, plainGoTo, rightExits, computedGoTo, arithmeticIf, isParameter, parameter, doLoop, arrayShape, dimensions, readAssignment, readGoTo, readComputed, readIf, readDo, readContinue, readStop, readEnd, readDimension, present, readings, firstOf, formOf}
+use Rattle.rules_text.specs.Spelling.{spellAddend, spellSubscript, spellSubscripts, spellTarget, spellExpr, spellNumber, spellArray, spellBy, spellForm, IsDigits, IsName, Words, IsTarget, IsArray, IsNumberOrName, IsBy, aSum, aProduct, aFactor, SpellsPart, first, after-plus, after-minus, added, less, only, times, over, a-number, a-name, an-element, parens, Spells, an-assignment, a-go-to, a-computed, an-if, a-loop, a-continue, a-stop, an-end, a-dimension}
+use Rattle.rules_text.proofs.Readers.{both-true}
+use Rattle.rules_text.proofs.ReadForms.{clash}
+use Rattle.rules_text.proofs.Tells.{Told, told, told-bad, Tells, told-ahead, tells-map, tells-then, tells-give, tells-give-if, tells-last, tells-after, tells-word, tells-choose, tells-whole, tells-number, tells-name, SpelledList, tells-listed}
 
 -- ---- subscripts and targets
 

@@ -8,7 +8,7 @@ use mathlib.Core.Option.{Option, none, some}
 use lib.Dec.{eqb}
 use lib.ListN.{length, take, drop}
 use Rattle.rules_object.specs.Check.{isLetter, isDigit}
-use Rattle.rules_deck.specs.Trees.{Name, Digits}
+use Rattle.rules_text.specs.Trees.{Name, Digits}
 
 -- ---- bytes: ( ) * + , - / =
 

@@ -12,13 +12,13 @@ use borrow.Author.Tests.{leb-true, eqb-true}
 use Rattle.rules_shared.specs.Limits.{limits}
 use Rattle.rules_shared.specs.Lists.{Each, each-none, each-more}
 use Rattle.rules_shared.proofs.EachLaws.{each-one, each-append}
-use Rattle.rules_deck.specs.Trees.{Expr, con, var, elm, neg, par, bin, optional, Array, array, arrayNames, arrayConstants, Form, assign, goTo, computed, ifs, loop, continue, stop, end, dimension, formNames, formConstants, formExits, formLast}
-use Rattle.rules_deck.specs.Tokens.{leftParen, rightParen, comma, equals, wordContinue, wordStop, wordEnd, Found, found, bad, Reader, give, afterWord, allOf, whole}
-use Rattle.rules_deck.specs.Grammar.{assignment, plainGoTo, rightExits, computedGoTo, arithmeticIf, isParameter, parameter, doLoop, arrayShape, dimensions, readAssignment, readGoTo, readComputed, readIf, readDo, readContinue, readStop, readEnd, readDimension, present, readings, firstOf, formOf}
-use Rattle.rules_deck.specs.Accepted.{IsParameter}
-use Rattle.rules_deck.specs.Spelling.{IsDigits, IsName}
-use Rattle.rules_deck.proofs.Readers.{NotEquals, Any, both-true, Sound, sound, sound-bad, Good, good-then, good-give, good-give-if, good-after, good-word, good-choose, good-listed, good-any, good-number, good-name}
-use Rattle.rules_deck.proofs.ReadTrees.{Right, right-join, RightExpr, good-place, good-expression}
+use Rattle.rules_text.specs.Trees.{Expr, con, var, elm, neg, par, bin, optional, Array, array, arrayNames, arrayConstants, Form, assign, goTo, computed, ifs, loop, continue, stop, end, dimension, formNames, formConstants, formExits, formLast}
+use Rattle.rules_text.specs.Tokens.{leftParen, rightParen, comma, equals, wordContinue, wordStop, wordEnd, Found, found, bad, Reader, give, afterWord, allOf, whole}
+use Rattle.rules_text.specs.Grammar.{assignment, plainGoTo, rightExits, computedGoTo, arithmeticIf, isParameter, parameter, doLoop, arrayShape, dimensions, readAssignment, readGoTo, readComputed, readIf, readDo, readContinue, readStop, readEnd, readDimension, present, readings, firstOf, formOf}
+use Rattle.rules_text.specs.Shaped.{IsParameter}
+use Rattle.rules_text.specs.Spelling.{IsDigits, IsName}
+use Rattle.rules_text.proofs.Readers.{NotEquals, Any, both-true, Sound, sound, sound-bad, Good, good-then, good-give, good-give-if, good-after, good-word, good-choose, good-listed, good-any, good-number, good-name}
+use Rattle.rules_text.proofs.ReadTrees.{Right, right-join, RightExpr, good-place, good-expression}
 
 pub data MaybeParameter : Option Expr → Type 0 where
   not-written : MaybeParameter none

@@ -12,8 +12,8 @@ use borrow.Author.Tests.{leb-true, eqb-true, ne-eqb}
 use Rattle.rules_object.specs.Check.{isLetter, isDigit}
 use Rattle.rules_shared.specs.Lists.{Each, each-none, each-more}
 use Rattle.rules_shared.proofs.EachLaws.{each-one, each-map, each-append}
-use Rattle.rules_deck.specs.Tokens.{equals, comma, isLetterOrDigit, Found, found, bad, Reader, give, giveIf, ahead, follow, andThen, after, afterWord, choose, run, digitRun, nameRun, taken, number, name, listedUpTo, listed}
-use Rattle.rules_deck.specs.Spelling.{Passes, IsDigits, is-digits, IsName, is-name}
+use Rattle.rules_text.specs.Tokens.{equals, comma, isLetterOrDigit, Found, found, bad, Reader, give, giveIf, ahead, follow, andThen, after, afterWord, choose, run, digitRun, nameRun, taken, number, name, listedUpTo, listed}
+use Rattle.rules_text.specs.Spelling.{Passes, IsDigits, is-digits, IsName, is-name}
 
 -- ---- bytes
 

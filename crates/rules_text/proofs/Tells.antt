@@ -13,12 +13,12 @@ use borrow.Author.Tests.{eqb-true}
 use Rattle.rules_object.specs.Check.{isLetter, isDigit}
 use Rattle.rules_shared.specs.Lists.{Each, each-more}
 use Rattle.rules_shared.proofs.EachLaws.{each-one}
-use Rattle.rules_deck.specs.Tokens.{comma, isLetterOrDigit, Found, found, bad, Reader, give, giveIf, ahead, follow, andThen, after, afterWord, choose, whole, run, digitRun, nameRun, taken, number, name, listedUpTo, listed}
-use Rattle.rules_deck.specs.Spelling.{Passes, IsDigits, is-digits, IsName, is-name, spellMore, spellList}
-use Rattle.rules_deck.proofs.Parse.{listStep}
-use Rattle.rules_deck.proofs.Readers.{run-all, run-le}
-use Rattle.rules_deck.proofs.ReadForms.{whole-found}
-use Rattle.rules_deck.proofs.Found.{not-found}
+use Rattle.rules_text.specs.Tokens.{comma, isLetterOrDigit, Found, found, bad, Reader, give, giveIf, ahead, follow, andThen, after, afterWord, choose, whole, run, digitRun, nameRun, taken, number, name, listedUpTo, listed}
+use Rattle.rules_text.specs.Spelling.{Passes, IsDigits, is-digits, IsName, is-name, spellMore, spellList}
+use Rattle.rules_text.proofs.Parse.{listStep}
+use Rattle.rules_text.proofs.Readers.{run-all, run-le}
+use Rattle.rules_text.proofs.ReadForms.{whole-found}
+use Rattle.rules_text.proofs.Found.{not-found}
 
 -- s starts with a text t, and Q holds of t and what was found
 pub data Told {A : Type 0} (Q : List ℕ → A → Type 0) (s : List ℕ) : Found A → Type 0 where

@@ -12,13 +12,13 @@ use lib.Seq.{drop-length}
 use lib.Dec.{eqb}
 use borrow.Author.Tests.{ne-eqb}
 use Rattle.rules_shared.specs.Lists.{Each, each-more}
-use Rattle.rules_deck.specs.Trees.{Name, Expr, Form, goTo, continue, stop, end}
-use Rattle.rules_deck.specs.Tokens.{leftParen, plusSign, comma, equals, wordGoTo, wordIf, wordDo, wordContinue, wordStop, wordEnd, wordDimension, found, bad, Reader, give, giveIf, andThen, after, afterWord, choose, starts, whole, number, name}
-use Rattle.rules_deck.specs.Grammar.{place, more, expression, assignment, plainGoTo, computedGoTo, arithmeticIf, isParameter, parameter, doLoop, dimensions, readAssignment, readGoTo, readComputed, readIf, readDo, readContinue, readStop, readEnd, readDimension, present, readings, firstOf, formOf}
-use Rattle.rules_deck.proofs.Readers.{NotEquals, digit-bounds, Good, good-number, good-name}
-use Rattle.rules_deck.proofs.ReadTrees.{good-place}
-use Rattle.rules_deck.proofs.ReadForms.{whole-found, whole-good, sound-is, good-go-to, good-computed, good-if, good-continue, good-stop, good-end, good-dimension}
-use Rattle.rules_deck.proofs.Found.{not-found, then-found, after-found, word-found, number-starts}
+use Rattle.rules_text.specs.Trees.{Name, Expr, Form, goTo, continue, stop, end}
+use Rattle.rules_text.specs.Tokens.{leftParen, plusSign, comma, equals, wordGoTo, wordIf, wordDo, wordContinue, wordStop, wordEnd, wordDimension, found, bad, Reader, give, giveIf, andThen, after, afterWord, choose, starts, whole, number, name}
+use Rattle.rules_text.specs.Grammar.{place, more, expression, assignment, plainGoTo, computedGoTo, arithmeticIf, isParameter, parameter, doLoop, dimensions, readAssignment, readGoTo, readComputed, readIf, readDo, readContinue, readStop, readEnd, readDimension, present, readings, firstOf, formOf}
+use Rattle.rules_text.proofs.Readers.{NotEquals, digit-bounds, Good, good-number, good-name}
+use Rattle.rules_text.proofs.ReadTrees.{good-place}
+use Rattle.rules_text.proofs.ReadForms.{whole-found, whole-good, sound-is, good-go-to, good-computed, good-if, good-continue, good-stop, good-end, good-dimension}
+use Rattle.rules_text.proofs.Found.{not-found, then-found, after-found, word-found, number-starts}
 
 -- ---- what follows the first =
 

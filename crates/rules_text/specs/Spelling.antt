@@ -11,15 +11,11 @@ use lib.Dec.{eqb}
 use lib.ListN.{length}
 use Rattle.number.specs.Number.{Op, add, sub, mul, div}
 use Rattle.rules_shared.specs.Limits.{limits}
-use Rattle.rules_shared.specs.House.{House}
 use Rattle.rules_object.specs.Check.{isLetter, isDigit}
 use Rattle.rules_shared.specs.Lists.{Each}
-use Rattle.rules_deck.specs.Trees.{Name, Digits, Addend, nothing, plus, minus, Subscript, constant, linear, Subscripts, one, two, Expr, con, var, elm, neg, par, bin, Target, cell, element, Array, array, Form, assign, goTo, computed, ifs, loop, continue, stop, end, dimension, Statement, targetNames, targetConstants, optional, formNames, formConstants, formExits, formLast}
-use Rattle.rules_deck.specs.Tokens.{leftParen, rightParen, star, plusSign, comma, minusSign, slash, equals, wordGoTo, wordIf, wordDo, wordContinue, wordStop, wordEnd, wordDimension, isLetterOrDigit}
-use Rattle.rules_deck.specs.Cards.{Punched, textOf, statements, carded}
-use Rattle.rules_deck.specs.Judge.{nothingTaken}
-use Rattle.rules_deck.specs.Compile.{read, readFrom}
-use Rattle.rules_deck.specs.Accepted.{Shaped}
+use Rattle.rules_text.specs.Trees.{Name, Digits, Addend, nothing, plus, minus, Subscript, constant, linear, Subscripts, one, two, Expr, con, var, elm, neg, par, bin, Target, cell, element, Array, array, Form, assign, goTo, computed, ifs, loop, continue, stop, end, dimension, targetNames, targetConstants, optional, formNames, formConstants, formExits, formLast}
+use Rattle.rules_text.specs.Tokens.{leftParen, rightParen, star, plusSign, comma, minusSign, slash, equals, wordGoTo, wordIf, wordDo, wordContinue, wordStop, wordEnd, wordDimension, isLetterOrDigit}
+use Rattle.rules_text.specs.Shaped.{Shaped}
 
 -- ---- the text of a tree
 
@@ -196,17 +192,3 @@ withoutAfter b (c ∷ t) = cond (opens b && eqb c plusSign) (withoutAfter c t) (
 -- no byte is before a statement's text
 unfoldable pub withoutPluses : List ℕ → List ℕ
 withoutPluses t = withoutAfter 0 t
-
--- ---- a statement that no form spells
-
--- of a deck whose cards are right in the house, the statement at position q: those before it pass, it has a text, and the text spells no form
-pub record NoForm (house : House) (deck : List ℕ) (q : ℕ) : Type 0 where
-  pub before : List Punched
-  pub statement : Punched
-  pub after : List Punched
-  pub cards : carded house deck ≡ statements (before ++ statement ∷ after)
-  pub position : length before ≡ q
-  pub passed : List Statement
-  pub passes : readFrom house 0 nothingTaken before ≡ read passed
-  pub written : textOf (statement .raw) ≡ [] → ⊥
-  pub spelled : (f : Form) → Spells (textOf (statement .raw)) f → ⊥

@@ -8,9 +8,9 @@ use Prim.Native.String
 use mathlib.Core.List.{List, [], _∷_}
 use mathlib.Core.Option.{Option, none, some}
 use Rattle.number.specs.Number.{sub, mul, div}
-use Rattle.rules_deck.specs.Trees.{nothing, plus, minus, constant, linear, one, two, con, var, elm, neg, par, bin, cell, element, array, Form, assign, goTo, computed, ifs, loop, continue, stop, end, dimension}
-use Rattle.rules_deck.specs.Tokens.{wordGoTo, wordIf, wordDo, wordContinue, wordStop, wordEnd, wordDimension, isLetterOrDigit, give, giveIf, ahead, follow, andThen, after, afterWord, choose, starts, startsDigit, allOf, whole, run, digitRun, nameRun, taken, number, name, listedUpTo, listed}
-use Rattle.rules_deck.specs.Grammar.{addend, linearOf, subscript, subscripts, place, operandOf, operand, sign, signed, sumOp, productOp, joined, more, step, parseIn, enough, parse, expression, assignment, plainGoTo, rightExits, computedGoTo, arithmeticIf, parameter, doLoop, arrayShape, dimensions, readAssignment, readGoTo, readComputed, readIf, readDo, readContinue, readStop, readEnd, readDimension, present, readings, firstOf, formOf}
+use Rattle.rules_text.specs.Trees.{nothing, plus, minus, constant, linear, one, two, con, var, elm, neg, par, bin, cell, element, array, Form, assign, goTo, computed, ifs, loop, continue, stop, end, dimension}
+use Rattle.rules_text.specs.Tokens.{wordGoTo, wordIf, wordDo, wordContinue, wordStop, wordEnd, wordDimension, isLetterOrDigit, give, giveIf, ahead, follow, andThen, after, afterWord, choose, starts, startsDigit, allOf, whole, run, digitRun, nameRun, taken, number, name, listedUpTo, listed}
+use Rattle.rules_text.specs.Grammar.{addend, linearOf, subscript, subscripts, place, operandOf, operand, sign, signed, sumOp, productOp, joined, more, step, parseIn, enough, parse, expression, assignment, plainGoTo, rightExits, computedGoTo, arithmeticIf, parameter, doLoop, arrayShape, dimensions, readAssignment, readGoTo, readComputed, readIf, readDo, readContinue, readStop, readEnd, readDimension, present, readings, firstOf, formOf}
 
 abbrev ascii : String → List ℕ
 ascii String.[] = []

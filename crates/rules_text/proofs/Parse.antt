@@ -9,9 +9,9 @@ use native.Mathlib.Omega.{arith}
 use lib.ListN.{length, drop, length-drop}
 use lib.Dec.{eqb}
 use Rattle.number.specs.Number.{Op}
-use Rattle.rules_deck.specs.Trees.{Expr, bin}
-use Rattle.rules_deck.specs.Tokens.{leftParen, comma, Found, found, bad, Reader, give, ahead, follow, andThen, after, choose, starts, listedUpTo, listed}
-use Rattle.rules_deck.specs.Grammar.{operand, sign, signed, sumOp, productOp, Mode, anExpression, aTerm, aFactor, moreTerms, moreFactors, joined, more, step, parseIn, enough, parse}
+use Rattle.rules_text.specs.Trees.{Expr, bin}
+use Rattle.rules_text.specs.Tokens.{leftParen, comma, Found, found, bad, Reader, give, ahead, follow, andThen, after, choose, starts, listedUpTo, listed}
+use Rattle.rules_text.specs.Grammar.{operand, sign, signed, sumOp, productOp, Mode, anExpression, aTerm, aFactor, moreTerms, moreFactors, joined, more, step, parseIn, enough, parse}
 
 -- ---- readers that agree on the rests of a text give the same on the text
 

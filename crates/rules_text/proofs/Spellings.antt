@@ -10,15 +10,15 @@ use native.Mathlib.Omega.{arith}
 use Rattle.number.specs.Number.{Op, add, sub, mul, div}
 use Rattle.rules_shared.specs.Lists.{Each, each-none, each-more}
 use Rattle.rules_shared.proofs.EachLaws.{each-head, each-tail, each-left, each-right}
-use Rattle.rules_deck.specs.Trees.{Expr, con, var, bin, exprNames, exprConstants, optional, written, element, targetNames, targetConstants, Array, array, arrayNames, arrayConstants, Form, assign, goTo, computed, ifs, loop, continue, stop, end, dimension, formNames, formConstants, formExits, formLast}
-use Rattle.rules_deck.specs.Grammar.{formOf}
-use Rattle.rules_deck.specs.Accepted.{IsSum, IsProduct, IsFactor, IsParameter, OptionalParameter}
-use Rattle.rules_deck.specs.Spelling.{spellExpr, spellForm, Words, IsArray, IsNumberOrName, IsBy, aSum, aProduct, aFactor, SpellsPart, first, after-minus, added, less, only, times, over, a-number, a-name, an-element, parens, Spells, an-assignment, a-go-to, a-computed, an-if, a-loop, a-continue, a-stop, an-end, a-dimension, SomeArray, Spellable, withoutPluses}
-use Rattle.rules_deck.proofs.ReadForms.{read-names, read-constants, read-exits, read-last}
-use Rattle.rules_deck.proofs.Shapes.{shaped}
-use Rattle.rules_deck.proofs.ReadBack.{read-back}
-use Rattle.rules_deck.proofs.SpelledText.{read-spells}
-use Rattle.rules_deck.proofs.Pluses.{only-pluses}
+use Rattle.rules_text.specs.Trees.{Expr, con, var, bin, exprNames, exprConstants, optional, written, element, targetNames, targetConstants, Array, array, arrayNames, arrayConstants, Form, assign, goTo, computed, ifs, loop, continue, stop, end, dimension, formNames, formConstants, formExits, formLast}
+use Rattle.rules_text.specs.Grammar.{formOf}
+use Rattle.rules_text.specs.Shaped.{IsSum, IsProduct, IsFactor, IsParameter, OptionalParameter}
+use Rattle.rules_text.specs.Spelling.{spellExpr, spellForm, Words, IsArray, IsNumberOrName, IsBy, aSum, aProduct, aFactor, SpellsPart, first, after-minus, added, less, only, times, over, a-number, a-name, an-element, parens, Spells, an-assignment, a-go-to, a-computed, an-if, a-loop, a-continue, a-stop, an-end, a-dimension, SomeArray, Spellable, withoutPluses}
+use Rattle.rules_text.proofs.ReadForms.{read-names, read-constants, read-exits, read-last}
+use Rattle.rules_text.proofs.Shapes.{shaped}
+use Rattle.rules_text.proofs.ReadBack.{read-back}
+use Rattle.rules_text.proofs.SpelledText.{read-spells}
+use Rattle.rules_text.proofs.Pluses.{only-pluses}
 
 -- ---- a form that can be spelled is spelled by its text
 

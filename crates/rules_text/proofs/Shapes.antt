@@ -13,13 +13,13 @@ use Rattle.number.specs.Number.{Op, add, sub, mul, div}
 use Rattle.rules_shared.specs.Limits.{limits}
 use Rattle.rules_shared.specs.Lists.{Each, each-none, each-more}
 use Rattle.rules_shared.proofs.EachLaws.{each-one}
-use Rattle.rules_deck.specs.Trees.{Expr, bin, Target, Array, Form, continue, stop, end}
-use Rattle.rules_deck.specs.Tokens.{leftParen, rightParen, plusSign, comma, minusSign, equals, wordContinue, wordStop, wordEnd, Reader, give, afterWord, name}
-use Rattle.rules_deck.specs.Grammar.{operandOf, operand, sign, signed, sumOp, productOp, Mode, anExpression, aTerm, aFactor, moreTerms, moreFactors, joined, more, step, parseIn, enough, parse, expression, assignment, plainGoTo, rightExits, computedGoTo, arithmeticIf, parameter, doLoop, arrayShape, dimensions, readAssignment, readGoTo, readComputed, readIf, readDo, readContinue, readStop, readEnd, readDimension, present, readings, firstOf, formOf}
-use Rattle.rules_deck.specs.Accepted.{IsSum, first, minus, plus, less, IsProduct, only, times, over, IsFactor, parens, IsParameter, Shaped}
-use Rattle.rules_deck.proofs.Readers.{Any, both-true, Sound, sound, sound-bad, sound-ahead, Good, good-then, good-give, good-give-if, good-after, good-word, good-choose, good-listed, good-any, good-number, good-name}
-use Rattle.rules_deck.proofs.ReadTrees.{good-place}
-use Rattle.rules_deck.proofs.ReadForms.{is-parameter, whole-good}
+use Rattle.rules_text.specs.Trees.{Expr, bin, Target, Array, Form, continue, stop, end}
+use Rattle.rules_text.specs.Tokens.{leftParen, rightParen, plusSign, comma, minusSign, equals, wordContinue, wordStop, wordEnd, Reader, give, afterWord, name}
+use Rattle.rules_text.specs.Grammar.{operandOf, operand, sign, signed, sumOp, productOp, Mode, anExpression, aTerm, aFactor, moreTerms, moreFactors, joined, more, step, parseIn, enough, parse, expression, assignment, plainGoTo, rightExits, computedGoTo, arithmeticIf, parameter, doLoop, arrayShape, dimensions, readAssignment, readGoTo, readComputed, readIf, readDo, readContinue, readStop, readEnd, readDimension, present, readings, firstOf, formOf}
+use Rattle.rules_text.specs.Shaped.{IsSum, first, minus, plus, less, IsProduct, only, times, over, IsFactor, parens, IsParameter, Shaped}
+use Rattle.rules_text.proofs.Readers.{Any, both-true, Sound, sound, sound-bad, sound-ahead, Good, good-then, good-give, good-give-if, good-after, good-word, good-choose, good-listed, good-any, good-number, good-name}
+use Rattle.rules_text.proofs.ReadTrees.{good-place}
+use Rattle.rules_text.proofs.ReadForms.{is-parameter, whole-good}
 
 abbrev Anything : (A : Type 0) → A → Type 0
 Anything A a = Unit {0}

@@ -8,9 +8,9 @@ use mathlib.Core.List.{List, [], _∷_}
 use lib.ListN.{length}
 use Rattle.rules_object.specs.Check.{isDigit}
 use Rattle.rules_shared.specs.Lists.{Each, each-none, each-more}
-use Rattle.rules_deck.specs.Trees.{Digits, valueFrom, valueOf}
-use Rattle.rules_deck.specs.Spelling.{Passes, IsDigits, is-digits}
-use Rattle.rules_deck.proofs.Readers.{digit-bounds}
+use Rattle.rules_text.specs.Trees.{Digits, valueFrom, valueOf}
+use Rattle.rules_text.specs.Spelling.{Passes, IsDigits, is-digits}
+use Rattle.rules_text.proofs.Readers.{digit-bounds}
 
 value-below : (v : ℕ) (s : List ℕ) → Each (Passes isDigit) s → valueFrom v s + 1 ≤ (v + 1) * 10 ^ length s
 value-below v [] each-none = omega arith

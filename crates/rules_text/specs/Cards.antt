@@ -8,7 +8,7 @@ use lib.ListN.{length, getD, take, drop}
 use Rattle.rules_shared.specs.Limits.{limits}
 use Rattle.rules_shared.specs.House.{House}
 use Rattle.rules_object.specs.Check.{isLetter, isDigit, blanks}
-use Rattle.rules_deck.specs.Trees.{valueOf}
+use Rattle.rules_text.specs.Trees.{valueOf}
 
 -- ---- a card and its columns
 

@@ -12,10 +12,10 @@ use lib.Dec.{leb}
 use borrow.Author.Tests.{eq-eqb, ne-eqb, lt-leb}
 use Rattle.rules_object.specs.Check.{isLetter, isDigit}
 use Rattle.rules_shared.specs.Lists.{Each, each-none, each-more}
-use Rattle.rules_deck.specs.Tokens.{comma, isLetterOrDigit, Found, found, bad, Reader, give, giveIf, ahead, follow, andThen, after, afterWord, choose, starts, startsDigit, allOf, whole, run, digitRun, nameRun, taken, number, name, listed}
-use Rattle.rules_deck.specs.Spelling.{Passes, IsDigits, is-digits, IsName, is-name, spellMore, spellList}
-use Rattle.rules_deck.proofs.Parse.{listStep, listed-step}
-use Rattle.rules_deck.proofs.Readers.{digit-bounds, letter-bounds}
+use Rattle.rules_text.specs.Tokens.{comma, isLetterOrDigit, Found, found, bad, Reader, give, giveIf, ahead, follow, andThen, after, afterWord, choose, starts, startsDigit, allOf, whole, run, digitRun, nameRun, taken, number, name, listed}
+use Rattle.rules_text.specs.Spelling.{Passes, IsDigits, is-digits, IsName, is-name, spellMore, spellList}
+use Rattle.rules_text.proofs.Parse.{listStep, listed-step}
+use Rattle.rules_text.proofs.Readers.{digit-bounds, letter-bounds}
 
 -- of s, r reads a, and rest is left
 pub record Takes {A : Type 0} (r : Reader A) (s : List ℕ) (a : A) (rest : List ℕ) : Type 0 where

@@ -1,0 +1,7 @@
+pub mod Trees
+pub mod Cards
+pub mod Tokens
+pub mod Grammar
+pub mod Shaped
+pub mod Spelling
+pub mod Punch
