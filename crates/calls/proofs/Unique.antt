@@ -7,11 +7,11 @@ use lib.IntN.{ℤ}
 use Rattle.rules_object.specs.Calls as book
 use Rattle.rules_shared.specs.Refusals as refusals
 use Rattle.rules_shared.specs.Output as output
-use Rattle.verdicts.specs.declared.Refusal.{Refusal}
-use Rattle.verdicts.specs.declared.Written.{Written}
-use Rattle.verdicts.specs.Outcomes.{Checks, Maps}
-use Rattle.runs.specs.declared.Ran.{Ran}
-use Rattle.runs.specs.Outcomes.{Ends}
+use Rattle.check_verdicts.specs.declared.Refusal.{Refusal}
+use Rattle.check_verdicts.specs.declared.Written.{Written}
+use Rattle.check_verdicts.specs.Outcomes.{Checks, Maps}
+use Rattle.run_object.specs.declared.Ran.{Ran}
+use Rattle.run_object.specs.Outcomes.{Ends}
 use Rattle.calls.specs.Outcomes.{Compiles}
 
 pub check-unique : {s : List ℕ} {r q : Refusal} → Checks s r → Checks s q → r ≡ q

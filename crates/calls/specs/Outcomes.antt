@@ -5,8 +5,8 @@ use mathlib.Core.List.{List}
 use Prim.Native.Nat.{ℕ}
 use Rattle.rules_shared.specs.House.{house1401}
 use Rattle.rules_deck.specs.Compile.{compiling}
-use Rattle.verdicts.specs.declared.Written.{Written}
-use Rattle.verdicts.specs.Outcomes.{writtenOf}
+use Rattle.check_verdicts.specs.declared.Written.{Written}
+use Rattle.check_verdicts.specs.Outcomes.{writtenOf}
 
 pub record Compiles (k : ℕ) (deck output output′ : List ℕ) (r : Written) : Type 0 where
   pub is : compiling (house1401 k) deck output ≡ writtenOf r output′

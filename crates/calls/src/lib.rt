@@ -1,13 +1,13 @@
 // The calls that C and Rust make: compile, check, map, run and bench. Whatever is lent gets one outcome, the book's.
 ghost use Rattle.rules_object.specs.Calls.{running, benching};
-ghost use Rattle.lent.specs.Lending.{lent};
-ghost use Rattle.verdicts.specs.Outcomes.{Checks, Maps};
-ghost use Rattle.runs.specs.Outcomes.{Ends};
+ghost use Rattle.run_lent.specs.Lending.{lent};
+ghost use Rattle.check_verdicts.specs.Outcomes.{Checks, Maps};
+ghost use Rattle.run_object.specs.Outcomes.{Ends};
 ghost use Rattle.calls.specs.Outcomes.{Compiles};
+use check_verdicts::Refusal;
+use check_verdicts::Written;
 use compiler::Compiled;
-use runs::Ran;
-use verdicts::Refusal;
-use verdicts::Written;
+use run_object::Ran;
 
 // The deck's object at the start of the output; bytes past it stay, and on a refusal all of them.
 #[no_mangle]
@@ -40,7 +40,7 @@ pub extern "C" fn luvinqata_compile(k: u32, deck: &[u8], output: &mut [u8]) -> W
 pub extern "C" fn luvinqata_check(object: &[u8]) -> Refusal
     ensures { λ r. ⌜ Checks (now (object .entry)) r ⌝ }
 {
-    verdicts::check(object)
+    check_verdicts::check(object)
 }
 
 // Body 7, an entry of twenty bytes for each name; bytes past it stay.
@@ -48,7 +48,7 @@ pub extern "C" fn luvinqata_check(object: &[u8]) -> Refusal
 pub extern "C" fn luvinqata_map(object: &[u8], table: &mut [u8]) -> Written
     ensures { λ r. ⌜ Maps (now (object .entry)) (now (table .entry)) (now (table .exit)) r ⌝ }
 {
-    verdicts::map(object, table)
+    check_verdicts::map(object, table)
 }
 
 // From the state that is lent; what it leaves is a state to go on from.
@@ -64,7 +64,7 @@ pub extern "C" fn luvinqata_run(
 ) -> Ran
     ensures { λ r. ⌜ Ends (running (now (object .entry)) (now (store .entry)) (lent (now (index .entry)) (now (height .entry)) (now (mark .entry)) (now (places .entry))) allowance) r (lent (now (index .exit)) (now (height .exit)) (now (mark .exit)) (now (places .exit))) (now (store .exit)) ⌝ }
 {
-    runs::run(object, store, index, height, mark, places, allowance)
+    run_object::run(object, store, index, height, mark, places, allowance)
 }
 
 // Starts fresh, and tests each instruction before it is done: 42 to 44 are not asked.
@@ -80,5 +80,5 @@ pub extern "C" fn luvinqata_bench(
 ) -> Ran
     ensures { λ r. ⌜ Ends (benching (now (object .entry)) (now (store .entry)) (lent (now (index .entry)) (now (height .entry)) (now (mark .entry)) (now (places .entry))) allowance) r (lent (now (index .exit)) (now (height .exit)) (now (mark .exit)) (now (places .exit))) (now (store .exit)) ⌝ }
 {
-    runs::bench(object, store, index, height, mark, places, allowance)
+    run_object::bench(object, store, index, height, mark, places, allowance)
 }

@@ -25,33 +25,33 @@ use Rattle.rules_deck.specs.Cells.{namesHeld}
 use Rattle.rules_deck.proofs.MapNames.{name-among}
 use Rattle.rules_deck.proofs.BodySeven.{each-here}
 use Rattle.rules_deck.proofs.RightDeck.{each-among}
-use Rattle.judge_cards.specs.declared.Judged.{Judged}
-use Rattle.cards.specs.declared.Sequence.{Sequence}
-use Rattle.judge_cards.specs.Judging.{judgedOf}
-use Rattle.draft.specs.declared.Counts.{Counts}
-use Rattle.draft.specs.Names.{Told}
-use Rattle.draft.specs.Draft.{draftOf}
-use Rattle.draft.specs.Kept.{Words, Room, Fit, Kept}
-use Rattle.draft.specs.Sketch.{deckJumps}
-use Rattle.draft.proofs.DraftDeck.{draft-held, draft-jumps}
-use Rattle.draft.proofs.DeckKept.{kept-deck}
-use Rattle.drafting.specs.declared.Drafted.{Drafted}
-use Rattle.drafting.specs.Drafted.{Drafts, refused, kept}
-use Rattle.whole.specs.declared.Placed.{Placed}
-use Rattle.whole.specs.Whole.{SetsTold, refusalOf, LowNumber}
-use Rattle.whole.specs.Parts.{Inside, Positioned}
-use Rattle.whole.proofs.LowNumbers.{numbered}
-use Rattle.whole.proofs.Positions.{inside, positions}
-use Rattle.writer.specs.declared.Wrote.{Wrote}
-use Rattle.finish.specs.Finishing.{Finished}
+use Rattle.read_deck_cards.specs.declared.Judged.{Judged}
+use Rattle.read_cards.specs.declared.Sequence.{Sequence}
+use Rattle.read_deck_cards.specs.Judging.{judgedOf}
+use Rattle.take_draft.specs.declared.Counts.{Counts}
+use Rattle.take_draft.specs.Names.{Told}
+use Rattle.take_draft.specs.Draft.{draftOf}
+use Rattle.take_draft.specs.Kept.{Words, Room, Fit, Kept}
+use Rattle.take_draft.specs.Sketch.{deckJumps}
+use Rattle.take_draft.proofs.DraftDeck.{draft-held, draft-jumps}
+use Rattle.take_draft.proofs.DeckKept.{kept-deck}
+use Rattle.take_deck.specs.declared.Drafted.{Drafted}
+use Rattle.take_deck.specs.Drafted.{Drafts, refused, kept}
+use Rattle.whole_deck.specs.declared.Placed.{Placed}
+use Rattle.whole_deck.specs.Whole.{SetsTold, refusalOf, LowNumber}
+use Rattle.whole_deck.specs.Parts.{Inside, Positioned}
+use Rattle.whole_deck.proofs.LowNumbers.{numbered}
+use Rattle.whole_deck.proofs.Positions.{inside, positions}
+use Rattle.final_writer.specs.declared.Wrote.{Wrote}
+use Rattle.final_object.specs.Finishing.{Finished}
 use Rattle.compiler.specs.declared.Compiled.the-variants.{Refused, Object, Short}
 use Rattle.compiler.specs.Compiled.{answer, Punches, Holds}
-use Rattle.judge_cards.specs.declared.Judged.the-variants as judged
-use Rattle.drafting.specs.declared.Drafted.the-variants as drafted
-use Rattle.whole.specs.declared.Verdict.the-variants as verdict
-use Rattle.whole.specs.Whole as whole
-use Rattle.writer.specs.declared.Wrote.the-variants as wrote
-use Rattle.writer.specs.Answer as written
+use Rattle.read_deck_cards.specs.declared.Judged.the-variants as judged
+use Rattle.take_deck.specs.declared.Drafted.the-variants as drafted
+use Rattle.whole_deck.specs.declared.Verdict.the-variants as verdict
+use Rattle.whole_deck.specs.Whole as whole
+use Rattle.final_writer.specs.declared.Wrote.the-variants as wrote
+use Rattle.final_writer.specs.Answer as written
 
 -- ---- the names that a deck sets are told by their words: they have cells
 

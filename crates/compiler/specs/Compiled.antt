@@ -10,9 +10,9 @@ use Rattle.rules_shared.specs.Output.{Written, notWritten}
 use Rattle.rules_text.specs.Trees.{Statement}
 use Rattle.rules_text.specs.Cards.{Punched, statements, carded}
 use Rattle.rules_deck.specs.Compile.{read, readCarded}
-use Rattle.draft.specs.declared.Counts.{Counts}
-use Rattle.draft.specs.Draft.{draftOf}
-use Rattle.draft.specs.Kept.{Words, Room, Fit, Kept}
+use Rattle.take_draft.specs.declared.Counts.{Counts}
+use Rattle.take_draft.specs.Draft.{draftOf}
+use Rattle.take_draft.specs.Kept.{Words, Room, Fit, Kept}
 use Rattle.compiler.specs.declared.Compiled.{Compiled}
 use Rattle.compiler.specs.declared.Compiled.the-variants.{Refused, Object, Short}
 

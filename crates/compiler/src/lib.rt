@@ -5,13 +5,13 @@ ghost use mathlib.Core.List.{List};
 ghost use Rattle.rules_shared.specs.House.{house1401};
 ghost use Rattle.rules_text.specs.Trees.{Statement};
 ghost use Rattle.rules_deck.specs.Compile.{read, judgeRead, writeRead, compiling};
-ghost use Rattle.draft.specs.Kept.{asWords};
+ghost use Rattle.take_draft.specs.Kept.{asWords};
 ghost use Rattle.compiler.specs.Compiled.{answer, Punches, Holds, HoldsOne};
-use draft::Counts;
-use drafting::Drafted;
-use judge_cards::Judged;
-use whole::Verdict;
-use writer::Wrote;
+use final_writer::Wrote;
+use read_deck_cards::Judged;
+use take_deck::Drafted;
+use take_draft::Counts;
+use whole_deck::Verdict;
 
 pub enum Compiled {
     Refused { number: u32, place: u32 },
@@ -38,7 +38,7 @@ fn judge_whole(
     requires { ⌜ HoldsOne k n (asWords (now names) (now constants) (now elements) (now dos) (now loops) (now code) (now rows) (now jumps)) ⌝ }
     ensures { λ r. ⌜ ((deck : List Statement) → Holds k deck n (asWords (now (names .entry)) (now (constants .entry)) (now (elements .entry)) (now (dos .entry)) (now (loops .entry)) (now (code .entry)) (now (rows .entry)) (now (jumps .entry))) → answer r (now (output .exit)) ≡ writeRead (house1401 k) (now (output .entry)) (judgeRead (read deck))) ⌝ }
 {
-    let judged = whole::judge(rows, n.statements, loops, n.dos, jumps, n.jumps);
+    let judged = whole_deck::judge(rows, n.statements, loops, n.dos, jumps, n.jumps);
     let verdict = judged.verdict;
     match verdict {
         Verdict::Refused { number, place } => Compiled::Refused {
@@ -48,8 +48,8 @@ fn judge_whole(
         Verdict::Right => {
             let places = judged.places;
             let mut positions = [0u32; 1424];
-            whole::put_positions(places, n.jumps, &mut positions);
-            match finish::finish(
+            whole_deck::put_positions(places, n.jumps, &mut positions);
+            match final_object::finish(
                 k,
                 n,
                 names,
@@ -83,7 +83,7 @@ fn compile_statements(k: u32, deck: &[u8], output: &mut [u8]) -> Compiled
     let mut code = [0u32; 4096];
     let mut rows = [0u64; 2000];
     let mut jumps = [0u32; 1424];
-    match drafting::draft(
+    match take_deck::draft(
         k,
         deck,
         &mut items,
@@ -119,7 +119,7 @@ fn compile_statements(k: u32, deck: &[u8], output: &mut [u8]) -> Compiled
 pub fn compile(k: u32, deck: &[u8], output: &mut [u8]) -> Compiled
     ensures { λ r. ⌜ answer r (now (output .exit)) ≡ compiling (house1401 k) (now (deck .entry)) (now (output .entry)) ⌝ }
 {
-    match judge_cards::judge(k, deck) {
+    match read_deck_cards::judge(k, deck) {
         Judged::Refused { number, place } => Compiled::Refused { number, place },
         Judged::Statements(_) => compile_statements(k, deck, output),
     }

@@ -7,8 +7,8 @@ use native.Mathlib.Omega.{arith}
 use native.Mathlib.Numerals.{add-one}
 use lib.ListN.{length, getD, set, drop, length-append, length-set, length-drop}
 use lib.Seq.{length-sets, drop-cons}
-use Rattle.texts.specs.Taking.{over}
-use Rattle.texts.proofs.TextLaws.{over-none, over-more, over-append}
+use Rattle.read_texts.specs.Taking.{over}
+use Rattle.read_texts.proofs.TextLaws.{over-none, over-more, over-append}
 use Rattle.rules_program.specs.Text.{numeral}
 use Rattle.rules_program.proofs.Numerals.{numeral-one, numeral-more, numeral-more-length}
 use Rattle.print_numbers.specs.Puts.{Room, Puts}

@@ -4,7 +4,7 @@ use mathlib.Core.Path.{_≡_}
 use mathlib.Core.List.{List}
 use Prim.Native.Nat.{ℕ, _+_, _≤_}
 use lib.ListN.{length}
-use Rattle.texts.specs.Taking.{over}
+use Rattle.read_texts.specs.Taking.{over}
 
 -- there is room for a text from a place on
 pub record Room (text : List ℕ) (at : ℕ) (out : List ℕ) : Type 0 where

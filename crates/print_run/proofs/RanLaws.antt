@@ -15,13 +15,13 @@ use Rattle.rules_object.specs.Safe.{freshLent}
 use Rattle.rules_program.specs.Text.{haltLine, refusedLine, nameLines}
 use Rattle.rules_program.specs.Program.{zeroStore, namesOf, ranLines, runLines, allowance, printedObject}
 use Rattle.rules_program.specs.Tidy.{values, TidyObject}
-use Rattle.object.specs.declared.Layout.{Layout}
-use Rattle.object.specs.Layout.{listFrom, namedAt, objectAt}
-use Rattle.object.specs.Opened.{OpenedAt}
-use Rattle.printing.specs.Entries.{AllInside}
-use Rattle.runs.specs.declared.Ran.{Ran}
-use Rattle.lent.specs.Lending.{lent}
-use Rattle.runs.specs.Outcomes.{ranOf, Ends}
+use Rattle.object_contents.specs.declared.Layout.{Layout}
+use Rattle.object_contents.specs.Layout.{listFrom, namedAt, objectAt}
+use Rattle.object_contents.specs.Opened.{OpenedAt}
+use Rattle.print_lines.specs.Entries.{AllInside}
+use Rattle.run_object.specs.declared.Ran.{Ran}
+use Rattle.run_lent.specs.Lending.{lent}
+use Rattle.run_object.specs.Outcomes.{ranOf, Ends}
 use Rattle.print_run.specs.Printing.{ranText, Zero}
 
 -- ---- a run

@@ -9,8 +9,8 @@ use Rattle.rules_shared.specs.Limits.{limits}
 use Rattle.rules_object.specs.Bytes.{readObject}
 use Rattle.rules_object.specs.Safe.{freshLent}
 use Rattle.rules_program.specs.Program.{zeroStore, namesOf, runLines}
-use Rattle.runs.specs.declared.Ran.{Ran}
-use Rattle.runs.specs.Outcomes.{ranOf}
+use Rattle.run_object.specs.declared.Ran.{Ran}
+use Rattle.run_object.specs.Outcomes.{ranOf}
 
 -- bytes of output that are enough for any deck: a line for each cell, of at most 41 bytes, and the halt's line
 abbrev pub mostPrinted : ℕ

@@ -8,8 +8,8 @@ ghost use Rattle.rules_program.specs.Program.{namesOf, printedObject};
 ghost use Rattle.rules_program.specs.Tidy.{TidyObject};
 ghost use Rattle.print_numbers.specs.Puts.{Puts};
 ghost use Rattle.print_run.specs.Printing.{mostPrinted, ranText, Zero};
-use object::Contents;
-use runs::Ran;
+use object_contents::Contents;
+use run_object::Ran;
 
 const ALLOWANCE: u32 = 1_000_000;
 
@@ -17,9 +17,9 @@ fn print_names(object: &[u8], store: &[i64], out: &mut [u8], at: usize) -> usize
     requires { ⌜ TidyObject (now object) × (length (now store) ≡ 4096) × (at ≤ 49) × (mostPrinted ≤ length (now out)) ⌝ }
     ensures { λ r. ⌜ Puts (nameLines (namesOf (readObject (now (object .entry)))) (now (store .entry))) at (now (out .entry)) (now (out .exit)) r × (r ≤ mostPrinted) ⌝ }
 {
-    let contents = object::contents_of(object);
+    let contents = object_contents::contents_of(object);
     match contents {
-        Contents::Read(e) => printing::put_names(out, at, object, e, store),
+        Contents::Read(e) => print_lines::put_names(out, at, object, e, store),
         Contents::Wrong => at,
     }
 }
@@ -29,9 +29,9 @@ fn print_ran(object: &[u8], ran: Ran, store: &[i64], out: &mut [u8]) -> usize
     ensures { λ r. ⌜ Puts (ranText (now (object .entry)) ran (now (store .entry))) 0 (now (out .entry)) (now (out .exit)) r × (r ≤ mostPrinted) ⌝ }
 {
     if ran.number != 0 {
-        return printing::put_refused(out, 0, ran.number, ran.place);
+        return print_lines::put_refused(out, 0, ran.number, ran.place);
     }
-    let at = printing::put_halt(out, 0, ran.halt, ran.steps, ran.sequence);
+    let at = print_lines::put_halt(out, 0, ran.halt, ran.steps, ran.sequence);
     print_names(object, store, out, at)
 }
 
@@ -42,7 +42,7 @@ fn run_and_print(object: &[u8], store: &mut [i64], places: &mut [i64; 40], out: 
     let mut index = 0;
     let mut height = 0;
     let mut mark = 0;
-    let ran = runs::run(
+    let ran = run_object::run(
         object,
         store,
         &mut index,

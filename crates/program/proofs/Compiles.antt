@@ -25,7 +25,7 @@ use Rattle.rules_program.specs.Tidy.{TidyObject}
 use Rattle.rules_program.proofs.TidyDeck.{compiled-tidy}
 use Rattle.compiler.specs.declared.Compiled.{Compiled}
 use Rattle.compiler.specs.Compiled.{answer}
-use Rattle.control_card.specs.Digits.{digitsOf}
+use Rattle.print_control_card.specs.Digits.{digitsOf}
 use Rattle.program.specs.Compiling.{writtenAs, Object}
 
 pub compiled-refused : (number place n : ℕ) (object : List ℕ) → (number ≡ 0 → ⊥) → compiledLines (writtenAs number place n object) ≡ refusedLine number place

@@ -9,7 +9,7 @@ ghost use Rattle.print_numbers.specs.Puts.{Puts};
 ghost use Rattle.print_run.specs.Printing.{mostPrinted};
 ghost use Rattle.program.specs.Compiling.{writtenAs, Object, Unwritten};
 use compiler::Compiled;
-use control_card::CARD;
+use print_control_card::CARD;
 
 // The greatest object: every table at its limit.
 const MOST_BYTES: usize = 38644;
@@ -20,7 +20,7 @@ pub fn print_compiled(number: u32, place: u32, n: usize, object: &[u8], out: &mu
     ensures { λ r. ⌜ Puts (compiledLines (writtenAs number place n (now (object .entry)))) 0 (now (out .entry)) (now (out .exit)) r × (r ≤ mostPrinted) ⌝ }
 {
     if number != 0 {
-        return printing::put_refused(out, 0, number, place);
+        return print_lines::put_refused(out, 0, number, place);
     }
     print_run::print_object(&object[..n], out)
 }
@@ -42,9 +42,9 @@ pub fn answer(input: &[u8], out: &mut [u8]) -> usize
     requires { ⌜ mostPrinted ≤ length (now out) ⌝ }
     ensures { λ r. ⌜ Puts (printed (now (input .entry))) 0 (now (out .entry)) (now (out .exit)) r × (r ≤ mostPrinted) ⌝ }
 {
-    let k = control_card::control(input);
+    let k = print_control_card::control(input);
     if k == 0 {
-        return printing::put_refused(out, 0, 1, 0);
+        return print_lines::put_refused(out, 0, 1, 0);
     }
     let mut object = [0u8; MOST_BYTES];
     print_deck(k, &input[CARD..], &mut object, out)

@@ -9,14 +9,14 @@ use lib.ListN.{length, getD, take, drop, length-drop}
 use Rattle.rules_shared.specs.Lists.{Each}
 use Rattle.rules_shared.proofs.EachLaws.{each-both}
 use Rattle.rules_deck.specs.Translation.{Held, appear}
-use Rattle.draft.specs.Parts.{Item, itemsWords, itemNames, itemsNames, itemPlain, itemsPlain, Worded}
-use Rattle.draft.specs.Names.{Told, Lists, namesFit}
-use Rattle.names.specs.declared.Grown.{Grown}
-use Rattle.names.specs.declared.Grown.the-variants.{Names, Full}
-use Rattle.names.specs.Find.{itemLength}
+use Rattle.take_draft.specs.Parts.{Item, itemsWords, itemNames, itemsNames, itemPlain, itemsPlain, Worded}
+use Rattle.take_draft.specs.Names.{Told, Lists, namesFit}
+use Rattle.take_name_table.specs.declared.Grown.{Grown}
+use Rattle.take_name_table.specs.declared.Grown.the-variants.{Names, Full}
+use Rattle.take_name_table.specs.Find.{itemLength}
 use Rattle.take_names.specs.Takes.{TakesItem, Appears}
-use Rattle.names.proofs.Fronts.{front, none-left, Ahead, step-on, lent}
-use Rattle.names.proofs.Growth.{over-appear, appear-append}
+use Rattle.take_name_table.proofs.Fronts.{front, none-left, Ahead, step-on, lent}
+use Rattle.take_name_table.proofs.Growth.{over-appear, appear-append}
 
 -- the items that are left at a place, and what is held there
 pub record Rest (held : List Held) (items t : List ℕ) (at n cells : ℕ) (is : List Item) : Type 0 where

@@ -10,19 +10,19 @@ use Rattle.rules_shared.specs.Lists.{Each, each-none, each-more}
 use Rattle.rules_shared.proofs.EachLaws.{each-one, each-both}
 use Rattle.rules_text.specs.Trees.{Name, Subscript, constant, linear, Subscripts, one, two, subscriptNames, subscriptsNames}
 use Rattle.rules_deck.specs.Translation.{Held, name, appear}
-use Rattle.tokens.specs.Words.{nameWord}
-use Rattle.elements.specs.Values.{subscriptValue, subscriptsValue}
-use Rattle.items.specs.Parsed.{Put}
-use Rattle.draft.specs.Parts.{Item, value, plain, place, negate, apply, itemWords, itemNames, itemPlain}
-use Rattle.draft.specs.Names.{heldWords, Told, Lists, namesFit}
-use Rattle.names.specs.declared.Grown.{Grown}
-use Rattle.names.specs.declared.Grown.the-variants.{Names, Full}
-use Rattle.names.specs.Lookups.{Holds}
-use Rattle.names.specs.Appears.{Appeared, Within}
+use Rattle.read_tokens.specs.Words.{nameWord}
+use Rattle.read_elements.specs.Values.{subscriptValue, subscriptsValue}
+use Rattle.read_items.specs.Parsed.{Put}
+use Rattle.take_draft.specs.Parts.{Item, value, plain, place, negate, apply, itemWords, itemNames, itemPlain}
+use Rattle.take_draft.specs.Names.{heldWords, Told, Lists, namesFit}
+use Rattle.take_name_table.specs.declared.Grown.{Grown}
+use Rattle.take_name_table.specs.declared.Grown.the-variants.{Names, Full}
+use Rattle.take_name_table.specs.Lookups.{Holds}
+use Rattle.take_name_table.specs.Appears.{Appeared, Within}
 use Rattle.take_names.specs.Takes.{TakesName, TakesAny, TakesItem}
-use Rattle.draft.proofs.NameWords.{some-word}
-use Rattle.names.proofs.Fronts.{no-operand, kind-is}
-use Rattle.names.proofs.Growth.{count-append, cells-append, lists-more, over-names, over-cells, over-appear, appear-append}
+use Rattle.take_draft.proofs.NameWords.{some-word}
+use Rattle.take_name_table.proofs.Fronts.{no-operand, kind-is}
+use Rattle.take_name_table.proofs.Growth.{count-append, cells-append, lists-more, over-names, over-cells, over-appear, appear-append}
 
 pub within-names : {r : Grown} {a b : ℕ} → Within r → r ≡ Names a b → (a ≤ 100) × (b ≤ 4096)
 within-names w e = subst (λ (x : Grown). Within x) e w

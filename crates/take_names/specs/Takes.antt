@@ -6,11 +6,11 @@ use mathlib.Core.List.{List, [], _∷_, _++_}
 use Rattle.rules_text.specs.Trees.{Name}
 use Rattle.rules_deck.specs.Translation.{Held, appear}
 use Rattle.rules_shared.specs.Lists.{Each}
-use Rattle.tokens.specs.Words.{nameWord}
-use Rattle.draft.specs.Parts.{Item, itemWords, itemsWords, itemNames, itemsNames, itemPlain, itemsPlain}
-use Rattle.draft.specs.Names.{Lists, Told}
-use Rattle.names.specs.declared.Grown.{Grown}
-use Rattle.names.specs.Appears.{Appeared, Within}
+use Rattle.read_tokens.specs.Words.{nameWord}
+use Rattle.take_draft.specs.Parts.{Item, itemWords, itemsWords, itemNames, itemsNames, itemPlain, itemsPlain}
+use Rattle.take_draft.specs.Names.{Lists, Told}
+use Rattle.take_name_table.specs.declared.Grown.{Grown}
+use Rattle.take_name_table.specs.Appears.{Appeared, Within}
 
 -- a plain name has its cell
 pub record TakesName (before after : List ℕ) (n cells word : ℕ) (r : Grown) : Type 0 where

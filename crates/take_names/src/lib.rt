@@ -2,15 +2,15 @@
 ghost use mathlib.Core.Path.{_≡_};
 ghost use Prim.Native.Nat.{_≤_, _<_};
 ghost use lib.ListN.{length};
-ghost use Rattle.draft.specs.Parts.{Worded};
+ghost use Rattle.take_draft.specs.Parts.{Worded};
 ghost use Rattle.take_names.specs.Takes.{TakesName, TakesAny, TakesItem, Appears};
-use names::Grown;
+use take_name_table::Grown;
 
 fn take_name(table: &mut [u64], n: usize, cells: usize, name: u64) -> Grown
     requires { ⌜ (length (now table) ≡ 400) × ((n ≤ 100) × (cells ≤ 4096)) ⌝ }
     ensures { λ r. ⌜ TakesName (now (table .entry)) (now (table .exit)) n cells name r ⌝ }
 {
-    if names::holds(table, n, name, false) {
+    if take_name_table::holds(table, n, name, false) {
         return Grown::Names { names: n, cells };
     }
     if n == 100 {
@@ -19,7 +19,7 @@ fn take_name(table: &mut [u64], n: usize, cells: usize, name: u64) -> Grown
     if cells == 4096 {
         return Grown::Full;
     }
-    names::put_entry(table, n, name, cells as u64, 0, 0);
+    take_name_table::put_entry(table, n, name, cells as u64, 0, 0);
     Grown::Names {
         names: n + 1,
         cells: cells + 1,
@@ -68,7 +68,7 @@ pub fn appear(items: &[u64], table: &mut [u64], n: usize, cells: usize) -> Grown
         };
         names = a;
         taken = b;
-        at += names::item_length(items[at]);
+        at += take_name_table::item_length(items[at]);
     }
     Grown::Names {
         names,

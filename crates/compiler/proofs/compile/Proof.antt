@@ -5,7 +5,7 @@ use Rattle.compiler.proofs.compile.Statement.{statement}
 use Rattle.compiler.proofs.compile.Tie as tie
 use Rattle.compiler.proofs.compile.Reads as reads
 use Rattle.compiler.proofs.compile.Lts as lts
-use Rattle.judge_cards.proofs.judge.Reads as judge-reads
+use Rattle.read_deck_cards.proofs.judge.Reads as judge-reads
 use Rattle.compiler.proofs.compile_statements.Reads as compile-statements-reads
 
 judge-requires : tie.Need-judge-requires

@@ -8,7 +8,7 @@ use Rattle.compiler.proofs.compile_statements.Tie as tie
 use Rattle.compiler.proofs.compile_statements.Reads as reads
 use Rattle.compiler.proofs.compile_statements.Lts as lts
 use Rattle.compiler.proofs.judge_whole.Reads as judge-whole-reads
-use Rattle.drafting.proofs.draft.Reads as draft-reads
+use Rattle.take_deck.proofs.draft.Reads as draft-reads
 
 slice-aggregate-draft : tie.Need-slice-aggregate-draft
 slice-aggregate-draft c = search needs

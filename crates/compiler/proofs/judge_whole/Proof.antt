@@ -2,7 +2,7 @@
 use Prim.Native.Nat.{ℕ}
 use native.Mathlib.Omega.{arith}
 use lib.ListN.{length-replicate}
-use Rattle.whole.proofs.Drafted.{sketched, whole}
+use Rattle.whole_deck.proofs.Drafted.{sketched, whole}
 use Rattle.compiler.proofs.Stages.{told, low, whole-refused, placed, finished, whole-object, whole-short, low-word}
 use borrow.Author.Needs.{needs}
 use Rattle.compiler.proofs.judge_whole.Statement.{statement}

@@ -1,6 +1,6 @@
 -- `print_run::print_names` meets its contract. Assumes nothing.
 use native.Mathlib.Omega.{arith}
-use Rattle.object.proofs.Opens.{read-of, wrong-of}
+use Rattle.object_contents.proofs.Opens.{read-of, wrong-of}
 use Rattle.print_numbers.proofs.PutLaws.{puts-none, puts-as}
 use Rattle.print_run.proofs.RanLaws.{names-inside, names-few, read-names, no-names}
 use borrow.Author.Needs.{needs}
@@ -8,8 +8,8 @@ use Rattle.print_run.proofs.print_names.Statement.{statement}
 use Rattle.print_run.proofs.print_names.Tie as tie
 use Rattle.print_run.proofs.print_names.Reads as reads
 use Rattle.print_run.proofs.print_names.Lts as lts
-use Rattle.object.proofs.contents_of.Reads as contents-of-reads
-use Rattle.printing.proofs.put_names.Reads as put-names-reads
+use Rattle.object_contents.proofs.contents_of.Reads as contents-of-reads
+use Rattle.print_lines.proofs.put_names.Reads as put-names-reads
 
 contents-of-requires : tie.Need-contents-of-requires
 contents-of-requires c κs = search needs

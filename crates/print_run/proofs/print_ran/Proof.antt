@@ -14,8 +14,8 @@ use Rattle.print_run.proofs.print_ran.Statement.{statement}
 use Rattle.print_run.proofs.print_ran.Tie as tie
 use Rattle.print_run.proofs.print_ran.Reads as reads
 use Rattle.print_run.proofs.print_ran.Lts as lts
-use Rattle.printing.proofs.put_halt.Reads as put-halt-reads
-use Rattle.printing.proofs.put_refused.Reads as put-refused-reads
+use Rattle.print_lines.proofs.put_halt.Reads as put-halt-reads
+use Rattle.print_lines.proofs.put_refused.Reads as put-refused-reads
 use Rattle.print_run.proofs.print_names.Reads as print-names-reads
 
 put-refused-requires : tie.Need-put-refused-requires

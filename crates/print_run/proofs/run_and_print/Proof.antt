@@ -8,7 +8,7 @@ use Rattle.print_run.proofs.run_and_print.Statement.{statement}
 use Rattle.print_run.proofs.run_and_print.Tie as tie
 use Rattle.print_run.proofs.run_and_print.Reads as reads
 use Rattle.print_run.proofs.run_and_print.Lts as lts
-use Rattle.runs.proofs.run.Reads as run-reads
+use Rattle.run_object.proofs.run.Reads as run-reads
 use Rattle.print_run.proofs.print_ran.Reads as print-ran-reads
 
 run-requires : tie.Need-run-requires

@@ -15,8 +15,8 @@ use Rattle.program.proofs.answer.Statement.{statement}
 use Rattle.program.proofs.answer.Tie as tie
 use Rattle.program.proofs.answer.Reads as reads
 use Rattle.program.proofs.answer.Lts as lts
-use Rattle.printing.proofs.put_refused.Reads as put-refused-reads
-use Rattle.control_card.proofs.control.Reads as control-reads
+use Rattle.print_lines.proofs.put_refused.Reads as put-refused-reads
+use Rattle.print_control_card.proofs.control.Reads as control-reads
 use Rattle.program.proofs.print_deck.Reads as print-deck-reads
 
 control-requires : tie.Need-control-requires

@@ -10,7 +10,7 @@ use Rattle.program.proofs.print_compiled.Statement.{statement}
 use Rattle.program.proofs.print_compiled.Tie as tie
 use Rattle.program.proofs.print_compiled.Reads as reads
 use Rattle.program.proofs.print_compiled.Lts as lts
-use Rattle.printing.proofs.put_refused.Reads as put-refused-reads
+use Rattle.print_lines.proofs.put_refused.Reads as put-refused-reads
 use Rattle.print_run.proofs.print_object.Reads as print-object-reads
 
 put-refused-requires : tie.Need-put-refused-requires

@@ -3,7 +3,7 @@ use mathlib.Core.Path.{_∙_}
 use Prim.Native.Nat.{_-_}
 use native.Mathlib.Omega.{arith}
 use lib.ListN.{length}
-use Rattle.names.proofs.Fronts.{ahead, rest-worded}
+use Rattle.take_name_table.proofs.Fronts.{ahead, rest-worded}
 use Rattle.take_names.proofs.Growing.{Taking, taking-start, taking-full, taking-on, taking-end}
 use borrow.Author.Needs.{needs}
 use Rattle.take_names.proofs.appear.Statement.{statement}

@@ -1,8 +1,8 @@
 -- `take_names::take_item` meets its contract. Assumes nothing.
 use mathlib.Core.Path.{ap, _∙_}
 use native.Mathlib.Omega.{arith}
-use Rattle.names.specs.Find.{itemLength}
-use Rattle.names.proofs.Fronts.{front, front-long}
+use Rattle.take_name_table.specs.Find.{itemLength}
+use Rattle.take_name_table.proofs.Fronts.{front, front-long}
 use Rattle.take_names.proofs.Takes.{within-names, takes-plain, takes-none, takes-full, takes-both}
 use borrow.Author.Needs.{needs}
 use Rattle.take_names.proofs.take_item.Statement.{statement}

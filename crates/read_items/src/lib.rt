@@ -1,0 +1,91 @@
+// Operands, read from the start of a text and written as items.
+ghost use mathlib.Core.List.{[], _∷_};
+ghost use Prim.Native.Nat.{_+_, _*_, _<_, _≤_};
+ghost use lib.ListN.{length};
+ghost use Rattle.rules_text.specs.Tokens as book;
+ghost use Rattle.rules_text.specs.Grammar as grammar;
+ghost use Rattle.read_items.specs.Items.{subscriptWords, targetWords};
+ghost use Rattle.read_items.specs.Parsed.{Put, Parsed};
+use read_elements::Element;
+use read_elements::GotPlace;
+use read_elements::Subscript;
+use read_elements::Target;
+use read_tokens::Sizes;
+use read_tokens::Token;
+
+// How many bytes were taken, how many words the table has then, and the sizes; or that the text is not of the form.
+pub enum Got {
+    Read { at: usize, n: usize, sizes: Sizes },
+    Bad,
+}
+
+pub fn put_two(items: &mut [u64], n: usize, kind: u64, word: u64) -> usize
+    requires { ⌜ n + 2 ≤ length (now items) ⌝ }
+    ensures { λ r. ⌜ Put (now (items .entry)) (now (items .exit)) n (kind ∷ word ∷ []) r ⌝ }
+{
+    items[n] = kind;
+    items[n + 1] = word;
+    n + 2
+}
+
+fn put_subscript(items: &mut [u64], n: usize, subscript: Subscript) -> usize
+    requires { ⌜ n + 4 ≤ length (now items) ⌝ }
+    ensures { λ r. ⌜ Put (now (items .entry)) (now (items .exit)) n (subscriptWords subscript) r ⌝ }
+{
+    let b = put_two(items, n, subscript.times, subscript.name);
+    put_two(items, b, subscript.minus, subscript.addend)
+}
+
+fn put_count(items: &mut [u64], n: usize, count: u64) -> usize
+    requires { ⌜ n < length (now items) ⌝ }
+    ensures { λ r. ⌜ Put (now (items .entry)) (now (items .exit)) n (count ∷ []) r ⌝ }
+{
+    items[n] = count;
+    n + 1
+}
+
+fn put_element(items: &mut [u64], n: usize, element: Element) -> usize
+    requires { ⌜ n + 11 ≤ length (now items) ⌝ }
+    ensures { λ r. ⌜ Put (now (items .entry)) (now (items .exit)) n (targetWords (Target.Element element)) r ⌝ }
+{
+    let a = put_two(items, n, 4, element.name);
+    let subscripts = element.subscripts;
+    let b = put_count(items, a, subscripts.count);
+    let first = subscripts.first;
+    let c = put_subscript(items, b, first);
+    let second = subscripts.second;
+    put_subscript(items, c, second)
+}
+
+pub fn put_target(items: &mut [u64], n: usize, target: Target) -> usize
+    requires { ⌜ n + length (targetWords target) ≤ length (now items) ⌝ }
+    ensures { λ r. ⌜ Put (now (items .entry)) (now (items .exit)) n (targetWords target) r ⌝ }
+{
+    match target {
+        Target::Cell(word) => put_two(items, n, 2, word),
+        Target::Element(element) => put_element(items, n, element),
+    }
+}
+
+fn place(s: &[u8], items: &mut [u64], n: usize) -> Got
+    requires { ⌜ n + 4 * length (now s) ≤ length (now items) ⌝ }
+    ensures { λ r. ⌜ Parsed (now (s .entry)) (now (items .entry)) (now (items .exit)) n (book.andThen grammar.place (λ t. book.give (grammar.operandOf t)) (now (s .entry))) r ⌝ }
+{
+    let GotPlace::Read { at, target, sizes } = read_elements::read_place(s, 0) else {
+        return Got::Bad;
+    };
+    let top = put_target(items, n, target);
+    Got::Read { at, n: top, sizes }
+}
+
+// A constant, a name or an element.
+pub fn operand(s: &[u8], items: &mut [u64], n: usize) -> Got
+    requires { ⌜ n + 4 * length (now s) ≤ length (now items) ⌝ }
+    ensures { λ r. ⌜ Parsed (now (s .entry)) (now (items .entry)) (now (items .exit)) n (grammar.operand (now (s .entry))) r ⌝ }
+{
+    let Token::Read { at, word, sizes } = read_tokens::read_number(s, 0) else {
+        return place(s, items, n);
+    };
+    let top = put_two(items, n, 1, word);
+    Got::Read { at, n: top, sizes }
+}

@@ -1,0 +1,144 @@
+// The run of an object: a step, and the one loop of a run and a bench run.
+ghost use mathlib.Core.Path.{_≡_};
+ghost use mathlib.Core.Bool.{false};
+ghost use Rattle.rules_object.specs.Object.{ruleOf};
+ghost use Rattle.rules_object.specs.Operations.{instruction};
+ghost use Rattle.rules_object.specs.Machine.{benchStep};
+ghost use Rattle.rules_object.specs.Machine as book;
+ghost use Rattle.rules_object.specs.Calls.{runFrom, sequenceOf};
+ghost use Rattle.rules_object.specs.Safe.{Faultless};
+ghost use Rattle.object_contents.specs.Layout.{objectAt, Placed};
+ghost use Rattle.run_registers.specs.Registers.{stateOf};
+ghost use Rattle.run_arithmetic.specs.Performed.{after, performed};
+ghost use Rattle.run_operations.specs.Ready.{Held};
+ghost use Rattle.run_guards.specs.Guarding.{guardOf, Sees};
+ghost use Rattle.run_machine.specs.Running.{answer};
+use number::Rule;
+use object_contents::Layout;
+use run_guards::Seen;
+use run_registers::Regs;
+use run_registers::Turn;
+
+pub struct Ran {
+    pub halt: u32,
+    pub steps: u32,
+    pub regs: Regs,
+}
+
+// One instruction, where the guard finds nothing wrong.
+fn step(o: &[u8], e: Layout, rule: Rule, r: Regs, stack: &mut [i64; 40], store: &mut [i64]) -> Turn
+    requires { ⌜ Held e (now o) rule r (now stack) (now store) ⌝ }
+    requires { ⌜ guardOf (objectAt e (now o)) (r .index) (r .height) ≡ 0 ⌝ }
+    ensures { λ t. ⌜ after t (now (stack .exit)) (now (store .exit)) ≡ performed (ruleOf (objectAt e (now (o .entry)))) (instruction (objectAt e (now (o .entry))) (r .index)) r (now (stack .entry)) (now (store .entry)) ⌝ }
+{
+    let index = r.index;
+    let w = object_words::load(o, e.code + 4 * index);
+    let x = object_words::index(object_words::operand(w));
+    run_operations::perform(object_words::operation(w), x, o, e, rule, r, stack, store)
+}
+
+// The one loop. Only one call of `step` keeps it inlined.
+fn turns(
+    guarded: bool,
+    o: &[u8],
+    e: Layout,
+    rule: Rule,
+    start: Regs,
+    stack: &mut [i64; 40],
+    store: &mut [i64],
+    allowance: u32,
+    seen: &mut Seen,
+) -> Ran
+    requires { ⌜ Held e (now o) rule start (now stack) (now store) ⌝ }
+    requires { ⌜ (guarded ≡ false → Faultless (objectAt e (now o)) (stateOf start (now stack) (now store))) ⌝ }
+    requires { ⌜ Sees (objectAt e (now o)) (now seen) ⌝ }
+    ensures { λ q. ⌜ answer (objectAt e (now (o .entry))) q (now (stack .exit)) (now (store .exit)) ≡ runFrom (objectAt e (now (o .entry))) (benchStep (objectAt e (now (o .entry)))) allowance (stateOf start (now (stack .entry)) (now (store .entry))) ⌝ }
+{
+    let mut r = start;
+    let mut steps: u32 = 0;
+    while steps < allowance {
+        let g = run_guards::test(guarded, o, e, rule, r, seen);
+        steps = steps + 1;
+        if g != 0 {
+            return Ran {
+                halt: g,
+                steps: steps,
+                regs: r,
+            };
+        }
+        let t = step(o, e, rule, r, stack, store);
+        match t {
+            Turn::Next(q) => {
+                r = q;
+            }
+            Turn::Halt(h) => {
+                return Ran {
+                    halt: h,
+                    steps: steps,
+                    regs: r,
+                };
+            }
+        }
+    }
+    Ran {
+        halt: 2,
+        steps: steps,
+        regs: r,
+    }
+}
+
+// The run of an object that passed the check.
+pub fn run(
+    o: &[u8],
+    e: Layout,
+    rule: Rule,
+    start: Regs,
+    stack: &mut [i64; 40],
+    store: &mut [i64],
+    allowance: u32,
+) -> Ran
+    requires { ⌜ Held e (now o) rule start (now stack) (now store) ⌝ }
+    requires { ⌜ Faultless (objectAt e (now o)) (stateOf start (now stack) (now store)) ⌝ }
+    ensures { λ q. ⌜ answer (objectAt e (now (o .entry))) q (now (stack .exit)) (now (store .exit)) ≡ runFrom (objectAt e (now (o .entry))) (book.step (objectAt e (now (o .entry)))) allowance (stateOf start (now (stack .entry)) (now (store .entry))) ⌝ }
+{
+    let mut seen = [0u8; 4096];
+    turns(false, o, e, rule, start, stack, store, allowance, &mut seen)
+}
+
+// The bench run of any object that has its bodies and keeps the limits.
+pub fn bench(
+    o: &[u8],
+    e: Layout,
+    rule: Rule,
+    start: Regs,
+    stack: &mut [i64; 40],
+    store: &mut [i64],
+    allowance: u32,
+) -> Ran
+    requires { ⌜ Held e (now o) rule start (now stack) (now store) ⌝ }
+    ensures { λ q. ⌜ answer (objectAt e (now (o .entry))) q (now (stack .exit)) (now (store .exit)) ≡ runFrom (objectAt e (now (o .entry))) (benchStep (objectAt e (now (o .entry)))) allowance (stateOf start (now (stack .entry)) (now (store .entry))) ⌝ }
+{
+    let mut seen = [0u8; 4096];
+    turns(true, o, e, rule, start, stack, store, allowance, &mut seen)
+}
+
+// The sequence number of the last statement at or before the instruction that the mark names.
+pub fn sequence(o: &[u8], e: Layout, mark: u32) -> u32
+    requires { ⌜ Placed e (now o) ⌝ }
+    ensures { λ r. ⌜ r ≡ sequenceOf (objectAt e (now (o .entry)) .lines) mark ⌝ }
+{
+    if mark == 0 {
+        return 0;
+    }
+    let address = mark - 1;
+    let n = e.line_count;
+    let mut found: u32 = 0;
+    let mut i: usize = 0;
+    while i < n {
+        if object_words::load(o, e.lines + 12 * i + 8) <= address {
+            found = object_words::load(o, e.lines + 12 * i);
+        }
+        i += 1;
+    }
+    found
+}

@@ -1,0 +1,165 @@
+// A DIMENSION's arrays, four words each: dimensions, name, rows and columns. 15, and the cells that they take.
+ghost use mathlib.Core.Path.{_≡_};
+ghost use Prim.Native.Nat.{_+_, _*_, _≤_};
+ghost use lib.ListN.{length};
+ghost use Rattle.rules_deck.specs.Deck as book;
+ghost use Rattle.take_arrays.specs.One.{EndsInF, isNamed, someWords, IsNew, RightArray, TakesArray};
+ghost use Rattle.take_arrays.specs.Arrays.{Dimensions, Declares};
+use take_name_table::Grown;
+
+// ---- 15
+
+// The last byte before the blanks.
+fn ends_in_f(name: u64) -> bool
+    ensures { λ r. ⌜ EndsInF name r ⌝ }
+{
+    let mut word = name;
+    while word % 256 == 32 {
+        word = word / 256;
+    }
+    word % 256 == 70
+}
+
+fn named(arrays: &[u64], n: usize, name: u64) -> bool
+    requires { ⌜ 4 * n ≤ length (now arrays) ⌝ }
+    ensures { λ r. ⌜ r ≡ isNamed name n (now (arrays .entry)) ⌝ }
+{
+    let mut i = 0;
+    while i < n {
+        if arrays[4 * i + 1] == name {
+            return true;
+        }
+        i += 1;
+    }
+    false
+}
+
+fn some_cells(dimensions: u64, rows: u64, columns: u64) -> bool
+    ensures { λ r. ⌜ r ≡ someWords dimensions rows columns ⌝ }
+{
+    if rows == 0 {
+        return false;
+    }
+    if dimensions == 1 {
+        return true;
+    }
+    1 <= columns
+}
+
+fn is_new(arrays: &[u64], i: usize, table: &[u64], n: usize, name: u64) -> bool
+    requires { ⌜ (4 * i ≤ length (now arrays)) × (4 * n ≤ length (now table)) ⌝ }
+    ensures { λ r. ⌜ IsNew (now (arrays .entry)) i (now (table .entry)) n name r ⌝ }
+{
+    if take_name_table::holds(table, n, name, false) {
+        return false;
+    }
+    if take_name_table::holds(table, n, name, true) {
+        return false;
+    }
+    !named(arrays, i, name)
+}
+
+// Of the array at index i.
+fn right_array(arrays: &[u64], i: usize, table: &[u64], n: usize) -> bool
+    requires { ⌜ (4 * i + 4 ≤ length (now arrays)) × (4 * n ≤ length (now table)) ⌝ }
+    ensures { λ r. ⌜ RightArray (now (arrays .entry)) i (now (table .entry)) n r ⌝ }
+{
+    let at = 4 * i;
+    if !some_cells(arrays[at], arrays[at + 2], arrays[at + 3]) {
+        return false;
+    }
+    let name = arrays[at + 1];
+    if !is_new(arrays, i, table, n, name) {
+        return false;
+    }
+    !ends_in_f(name)
+}
+
+// 15: no dimension is 0, and no array's name is seen before it or ends in F.
+pub fn arrays_right(arrays: &[u64], m: usize, table: &[u64], n: usize) -> bool
+    requires { ⌜ (4 * m ≡ length (now arrays)) × (4 * n ≤ length (now table)) ⌝ }
+    ensures { λ r. ⌜ Dimensions (now (arrays .entry)) (now (table .entry)) n r ⌝ }
+{
+    let mut i = 0;
+    while i < m {
+        if !right_array(arrays, i, table, n) {
+            return false;
+        }
+        i += 1;
+    }
+    true
+}
+
+// ---- cells
+
+fn width(columns: u64) -> u64
+    ensures { λ r. ⌜ r ≡ book.width columns ⌝ }
+{
+    if columns == 0 {
+        return 1;
+    }
+    columns
+}
+
+fn take_array(
+    table: &mut [u64],
+    n: usize,
+    cells: usize,
+    name: u64,
+    rows: u64,
+    columns: u64,
+) -> Grown
+    requires { ⌜ (length (now table) ≡ 400) × ((n ≤ 100) × (cells ≤ 4096)) ⌝ }
+    ensures { λ r. ⌜ TakesArray (now (table .entry)) (now (table .exit)) n cells name rows columns r ⌝ }
+{
+    if 4096 < rows {
+        return Grown::Full;
+    }
+    if 4096 < columns {
+        return Grown::Full;
+    }
+    let size = rows * width(columns);
+    let taken = cells as u64 + size;
+    if 4096 < taken {
+        return Grown::Full;
+    }
+    if n == 100 {
+        return Grown::Full;
+    }
+    take_name_table::put_entry(table, n, name, cells as u64, rows, columns);
+    Grown::Names {
+        names: n + 1,
+        cells: taken as usize,
+    }
+}
+
+// The arrays of a DIMENSION that passes 15, each taking its cells.
+pub fn declare(arrays: &[u64], m: usize, table: &mut [u64], n: usize, cells: usize) -> Grown
+    requires { ⌜ (4 * m ≡ length (now arrays)) × ((length (now table) ≡ 400) × ((n ≤ 100) × (cells ≤ 4096))) ⌝ }
+    ensures { λ r. ⌜ Declares (now (arrays .entry)) (now (table .entry)) (now (table .exit)) n cells r ⌝ }
+{
+    let mut i = 0;
+    let mut names = n;
+    let mut taken = cells;
+    while i < m {
+        let at = 4 * i;
+        let name = arrays[at + 1];
+        let Grown::Names { names: a, cells: b } = take_array(
+            table,
+            names,
+            taken,
+            name,
+            arrays[at + 2],
+            arrays[at + 3],
+        ) else {
+            return Grown::Full;
+        };
+        names = a;
+        taken = b;
+        i += 1;
+    }
+    Grown::Names {
+        names,
+        cells: taken,
+    }
+}

@@ -1,0 +1,168 @@
+-- A form's names, constants, references and values against its first operand and its items.
+-- Assumes nothing.
+use mathlib.Core.Path.{_≡_, refl, sym, ap, _∙_, subst}
+use mathlib.Core.Logic.{_⊎_, inl, inr}
+use mathlib.Core.Bool.{Bool, true, false, _&&_, not}
+use mathlib.Core.List.{List, [], _∷_, _++_, append-nil}
+use mathlib.Core.Option.{Option, none, some}
+use Rattle.rules_shared.specs.Lists.{all}
+use Rattle.rules_text.specs.Trees.{Name, Digits, Expr, con, var, exprNames, exprConstants, Target, cell, element, targetNames, targetConstants, written, Form, assign, goTo, computed, ifs, loop, continue, stop, end, dimension, formNames, formConstants}
+use Rattle.rules_deck.specs.Meaning.{third}
+use Rattle.rules_deck.specs.Translation.{Held, isArray, holds, exprPlain, targetPlain, formPlain}
+use Rattle.rules_deck.specs.Judge.{Reference, exprReferences, targetReferences, formReferences, rightReference, right16}
+use Rattle.rules_deck.specs.Accepted.{Among, here, there}
+use Rattle.rules_text.specs.Shaped.{IsParameter}
+use Rattle.rules_deck.proofs.TestLaws.{only, among-left, among-right, among-append}
+use Rattle.read_elements.specs.Values.{targetValue}
+use Rattle.read_items.specs.Items.{targetWords}
+use Rattle.read_forms.specs.Statements.{parameterValue}
+use Rattle.take_draft.specs.Parts.{itemsOf, itemWords, itemsWords, itemPlain, itemsPlain, itemReferences, itemsReferences, itemNames, itemsNames, itemConstants, itemsConstants, rightItems, targetItem, formFirst, formItems}
+use Rattle.take_draft.proofs.FormParts.{plain-append, references-append, names-append, constants-append, expr-plain, expr-references, expr-names, expr-constants}
+
+-- ---- a target, a parameter
+
+pub target-words : (t : Target) → targetWords (targetValue t) ≡ itemWords (targetItem t)
+unfolding targetWords targetValue
+target-words (cell v) = refl
+target-words (element v s) = refl
+
+pub parameter-words : (p : Expr) → IsParameter p → parameterValue p .kind ∷ parameterValue p .word ∷ [] ≡ itemsWords (itemsOf p)
+unfolding parameterValue
+parameter-words (con c) IsParameter.constant = refl
+parameter-words (var v) IsParameter.name = refl
+
+target-plain : (t : Target) → targetPlain t ≡ itemPlain (targetItem t)
+target-plain (cell v) = refl
+target-plain (element v s) = refl
+
+target-names : (t : Target) → targetNames t ≡ itemNames (targetItem t)
+target-names (cell v) = refl
+target-names (element v s) = refl
+
+target-constants : (t : Target) → targetConstants t ≡ itemConstants (targetItem t)
+target-constants (cell v) = refl
+target-constants (element v s) = refl
+
+target-references : (t : Target) → targetReferences t ≡ itemReferences (targetItem t)
+target-references (cell v) = refl
+target-references (element v s) = refl
+
+-- ---- plain names, in the text's order
+
+written-plain : (r : Option Expr) → written exprPlain r ≡ itemsPlain (itemsOf (third r))
+written-plain none = refl
+written-plain (some e) = expr-plain e
+
+pub form-plain : (f : Form) → formPlain f ≡ itemsPlain (formFirst f ++ formItems f)
+unfolding formPlain
+form-plain (assign t e) = rw (target-plain t, expr-plain e)
+form-plain (goTo n) = refl
+form-plain (computed ns v) = refl
+form-plain (ifs e a b c) = expr-plain e
+form-plain (loop n v p q r) =
+    rw (plain-append (itemsOf p) (itemsOf q ++ itemsOf (third r)), plain-append (itemsOf q) (itemsOf (third r)), expr-plain p, expr-plain q, written-plain r)
+form-plain continue = refl
+form-plain stop = refl
+form-plain end = refl
+form-plain (dimension arrays) = refl
+
+pub form-plain-both : (f : Form) → formPlain f ≡ itemsPlain (formFirst f) ++ itemsPlain (formItems f)
+form-plain-both f = form-plain f ∙ plain-append (formFirst f) (formItems f)
+
+-- ---- 16
+
+pub all-both : {A : Type 0} (test : A → Bool) (a b : List A) → all test (a ++ b) ≡ (all test a && all test b)
+all-both test [] b = refl
+all-both test (x ∷ a) b = go (test x) (all-both test a b)
+  where
+    go : (t : Bool) → all test (a ++ b) ≡ (all test a && all test b) → (t && all test (a ++ b)) ≡ ((t && all test a) && all test b)
+    go true e = e
+    go false e = refl
+
+and-swap : (a b c d : Bool) → ((a && b) && (c && d)) ≡ ((a && c) && (b && d))
+and-swap true true c d = refl
+and-swap true false true d = refl
+and-swap true false false d = refl
+and-swap false b c d = refl
+
+written-references : (r : Option Expr) → written exprReferences r ≡ itemsReferences (itemsOf (third r))
+written-references none = refl
+written-references (some e) = expr-references e
+
+loop-references : (p q : Expr) (r : Option Expr) → exprReferences p ++ (exprReferences q ++ written exprReferences r) ≡ itemsReferences (itemsOf p ++ (itemsOf q ++ itemsOf (third r)))
+loop-references p q r =
+    rw (references-append (itemsOf p) (itemsOf q ++ itemsOf (third r)), references-append (itemsOf q) (itemsOf (third r)), expr-references p, expr-references q, written-references r)
+
+pub all-references : (test : Reference → Bool) (f : Form) → all test (formReferences f) ≡ (all test (itemsReferences (formFirst f)) && all test (itemsReferences (formItems f)))
+unfolding formReferences
+all-references test (assign t e) =
+    all-both test (targetReferences t) (exprReferences e) ∙
+    rw (target-references t, expr-references e, append-nil (itemReferences (targetItem t)))
+all-references test (goTo n) = refl
+all-references test (computed ns v) = refl
+all-references test (ifs e a b c) = ap (all test) (expr-references e)
+all-references test (loop n v p q r) =
+    ap (all test) (loop-references p q r)
+all-references test continue = refl
+all-references test stop = refl
+all-references test end = refl
+all-references test (dimension arrays) = refl
+
+pub form-right16 : (held : List Held) (f : Form) → right16 held f ≡ (rightItems held (formFirst f) && rightItems held (formItems f))
+unfolding right16
+form-right16 held f =
+    rw (all-references (rightReference held) f, form-plain-both f, all-both (λ v. not (holds (isArray v) held)) (itemsPlain (formFirst f)) (itemsPlain (formItems f)))
+    (and-swap (all (rightReference held) (itemsReferences (formFirst f))) (all (rightReference held) (itemsReferences (formItems f)))
+    (all (λ v. not (holds (isArray v) held)) (itemsPlain (formFirst f))) (all (λ v. not (holds (isArray v) held)) (itemsPlain (formItems f))))
+
+-- ---- names and constants
+
+pub first-names : {v : Name} (f : Form) → Among v (itemsNames (formFirst f)) → Among v (formNames f)
+unfolding formNames
+first-names {v} (assign t e) a = among-left (exprNames e) (subst (Among v) (append-nil (itemNames (targetItem t)) ∙ sym (target-names t)) a)
+first-names (computed ns w) a = a
+first-names (loop n w p q r) here = here
+
+written-names : (r : Option Expr) → written exprNames r ≡ itemsNames (itemsOf (third r))
+written-names none = refl
+written-names (some e) = expr-names e
+
+loop-names : (p q : Expr) (r : Option Expr) → itemsNames (itemsOf p ++ (itemsOf q ++ itemsOf (third r))) ≡ exprNames p ++ (exprNames q ++ written exprNames r)
+loop-names p q r =
+    rw (names-append (itemsOf p) (itemsOf q ++ itemsOf (third r)), names-append (itemsOf q) (itemsOf (third r)), expr-names p, expr-names q, written-names r)
+
+pub items-names : {v : Name} (f : Form) → Among v (itemsNames (formItems f)) → Among v (formNames f)
+unfolding formNames
+items-names {v} (assign t e) a = among-right (targetNames t) (subst (Among v) (sym (expr-names e)) a)
+items-names {v} (ifs e x y z) a = subst (Among v) (sym (expr-names e)) a
+items-names {v} (loop n w p q r) a = there (subst (Among v) (loop-names p q r) a)
+
+pub first-constants : {c : Digits} (f : Form) → Among c (itemsConstants (formFirst f)) → Among c (formConstants f)
+unfolding formConstants
+first-constants {c} (assign t e) a = among-left (exprConstants e) (subst (Among c) (append-nil (itemConstants (targetItem t)) ∙ sym (target-constants t)) a)
+
+-- a missing third parameter's 1 is no constant of the form
+pub items-constants : {c : Digits} (f : Form) → Among c (itemsConstants (formItems f)) → Among c (formConstants f) ⊎ (c ≡ 49 ∷ [])
+unfolding formConstants
+items-constants {c} (assign t e) a = inl (among-right (targetConstants t) (subst (Among c) (sym (expr-constants e)) a))
+items-constants {c} (ifs e x y z) a = inl (subst (Among c) (sym (expr-constants e)) a)
+items-constants {c} (loop n w p q r) a = go (among-append (exprConstants p) _ (subst (Among c) is a))
+  where
+    is : itemsConstants (itemsOf p ++ (itemsOf q ++ itemsOf (third r))) ≡ exprConstants p ++ (exprConstants q ++ exprConstants (third r))
+    is = rw (constants-append (itemsOf p) (itemsOf q ++ itemsOf (third r)), constants-append (itemsOf q) (itemsOf (third r)), expr-constants p, expr-constants q, expr-constants (third r))
+
+    last : (o : Option Expr) → Among c (exprConstants (third o)) → Among c (written exprConstants o) ⊎ (c ≡ 49 ∷ [])
+    last none b = inr (only b)
+    last (some e) b = inl b
+
+    far : Among c (written exprConstants r) ⊎ (c ≡ 49 ∷ []) → Among c (exprConstants p ++ (exprConstants q ++ written exprConstants r)) ⊎ (c ≡ 49 ∷ [])
+    far (inl b) = inl (among-right (exprConstants p) (among-right (exprConstants q) b))
+    far (inr e) = inr e
+
+    mid : Among c (exprConstants q) ⊎ Among c (exprConstants (third r)) → Among c (exprConstants p ++ (exprConstants q ++ written exprConstants r)) ⊎ (c ≡ 49 ∷ [])
+    mid (inl b) = inl (among-right (exprConstants p) (among-left (written exprConstants r) b))
+    mid (inr b) = far (last r b)
+
+    go : Among c (exprConstants p) ⊎ Among c (exprConstants q ++ exprConstants (third r)) → Among c (exprConstants p ++ (exprConstants q ++ written exprConstants r)) ⊎ (c ≡ 49 ∷ [])
+    go (inl b) = inl (among-left (exprConstants q ++ written exprConstants r) b)
+    go (inr b) = mid (among-append (exprConstants q) (exprConstants (third r)) b)

@@ -1,0 +1,43 @@
+-- What the tables hold of a whole deck: rows, jumps, DOs, and the code with statement numbers for addresses and no DOEs.
+-- Assumes nothing.
+use Prim.Native.Nat.{ℕ, suc, _+_}
+use mathlib.Core.List.{List, [], _∷_, _++_, map}
+use lib.ListN.{length}
+use Rattle.rules_object.specs.Object.{Loop}
+use Rattle.rules_object.specs.Operations.{Instr, DOI}
+use Rattle.rules_object.specs.Bytes.{concat}
+use Rattle.rules_text.specs.Trees.{Name, Statement, formLast}
+use Rattle.rules_deck.specs.Deck.{Do, Dims, dimsOf}
+use Rattle.rules_deck.specs.Translation.{Held, heldOf, cellOf, limitOf, formCode}
+use Rattle.take_draft.specs.Draft.{jumpWords, rowWords, loopWords, noLoop}
+
+abbrev pub deckRows : List Statement → List ℕ
+deckRows deck = concat (map rowWords deck)
+
+-- the numbers that the statements jump to, a DO's last number among them
+abbrev pub deckJumps : List Statement → List ℕ
+deckJumps deck = concat (map (λ (s : Statement). jumpWords (s .form)) deck)
+
+-- two words a DO, with j jumps before the statement at position q
+abbrev pub loopsFrom : ℕ → ℕ → List Statement → List ℕ
+loopsFrom q j [] = []
+loopsFrom q j (s ∷ more) = loopWords q j (s .form) ++ loopsFrom (suc q) (j + length (jumpWords (s .form))) more
+
+-- with d DOs before it
+abbrev pub plainFrom : List Held → (Name → Dims) → ℕ → List Statement → List Instr
+plainFrom held dims d [] = []
+plainFrom held dims d (s ∷ more) =
+    formCode held dims (λ n. n) (DOI d noLoop) (s .form) ++ plainFrom held dims (d + length (formLast (s .form))) more
+
+unfoldable pub plainCode : List Statement → List Instr
+plainCode deck = plainFrom (heldOf deck) (dimsOf deck) 0 deck
+
+-- a DO's entry while its body is not known
+abbrev pub openEntry : List Statement → Do → Loop
+openEntry deck d =
+    record {
+      variable = cellOf (heldOf deck) (d .variable);
+      limit = limitOf (heldOf deck) (d .position);
+      step = suc (limitOf (heldOf deck) (d .position));
+      body = 0;
+    }

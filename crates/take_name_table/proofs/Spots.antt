@@ -1,0 +1,156 @@
+-- Where an entry stands in the table of names, and what it says.
+-- Assumes nothing.
+use mathlib.Core.Path.{_≡_, refl, sym, ap, _∙_}
+use Prim.Native.Nat.{ℕ, suc, _+_, _*_, _≤_}
+use native.Mathlib.Omega.{arith}
+use mathlib.Core.Bool.{Bool, true, false, _&&_, _||_, cond, false≢true}
+use mathlib.Core.List.{List, [], _∷_, _++_}
+use lib.Dec.{eqb, ltb}
+use lib.ListN.{getD, drop}
+use borrow.Author.Tests.{ne-eqb, le-leb, lt-ltb, le-ltb, ltb-true, ltb-false}
+use Rattle.rules_shared.specs.Lists.{Each, each-more}
+use Rattle.rules_text.specs.Trees.{Name}
+use Rattle.rules_deck.specs.Deck.{sameName, Dims}
+use Rattle.rules_deck.specs.Translation.{Held, name, array, hidden, arraySize, isName, isArray, firstCell, holds}
+use Rattle.rules_deck.specs.Judge.{nameCount}
+use Rattle.rules_deck.specs.Cells.{namesHeld, arraysHeld}
+use Rattle.read_tokens.specs.Words.{nameWord}
+use Rattle.take_draft.specs.Names.{heldWords, dimsHeld, Told, SomeRows}
+use Rattle.take_name_table.specs.Find.{ofKind, isEntry, firstEntry}
+use Rattle.take_name_table.proofs.Tests.{and-true, and-false}
+use Rattle.take_draft.proofs.NameWords.{word-test, some-word}
+
+-- entry i of n, if it is one of them, and what it says
+pub record Spot (words : List ℕ) (n i : ℕ) (found : Bool) (first rows columns : ℕ) : Type 0 where
+  pub within : i ≤ n
+  pub test : ltb i n ≡ found
+  pub first-is : found ≡ true → getD words (4 * i + 1) 0 ≡ first
+  pub rows-are : found ≡ true → getD words (4 * i + 2) 0 ≡ rows
+  pub columns-are : found ≡ true → getD words (4 * i + 3) 0 ≡ columns
+
+spot-none : (words : List ℕ) (f r c : ℕ) → Spot words 0 0 false f r c
+spot-none words f r c =
+    record { within = omega arith; test = refl; first-is = λ e. absurd (false≢true e); rows-are = λ e. absurd (false≢true e); columns-are = λ e. absurd (false≢true e) }
+
+past : (x a b d : ℕ) (ws : List ℕ) (i k : ℕ) → getD (x ∷ a ∷ b ∷ d ∷ ws) (4 * suc i + k) 0 ≡ getD ws (4 * i + k) 0
+past x a b d ws i k = let e : 4 * suc i + k ≡ suc (suc (suc (suc (4 * i + k)))) = omega arith in ap (λ (j : ℕ). getD (x ∷ a ∷ b ∷ d ∷ ws) j 0) e
+
+lt-suc : (i n : ℕ) (b : Bool) → ltb i n ≡ b → ltb (suc i) (suc n) ≡ b
+lt-suc i n true e = lt-ltb (suc i) (suc n) (let h = ltb-true i n e in omega (arith, h))
+lt-suc i n false e = le-ltb (suc i) (suc n) (let h = ltb-false i n e in omega (arith, h))
+
+-- one entry more before them
+spot-step : (t : Bool) (x a b d : ℕ) {ws : List ℕ} {n i : ℕ} {found : Bool} {f r c : ℕ} → Spot ws n i found f r c
+    → Spot (x ∷ a ∷ b ∷ d ∷ ws) (suc n) (cond t 0 (suc i)) (t || found) (cond t a f) (cond t b r) (cond t d c)
+spot-step true x a b d {ws} {n} {i} {found} {f} {r} {c} s =
+    record { within = omega arith; test = lt-ltb 0 (suc n) (omega arith); first-is = λ e. refl; rows-are = λ e. refl; columns-are = λ e. refl }
+spot-step false x a b d {ws} {n} {i} {found} {f} {r} {c} s =
+    record {
+      within = let h = s .within in omega (arith, h);
+      test = lt-suc i n found (s .test);
+      first-is = λ e. past x a b d ws i 1 ∙ s .first-is e;
+      rows-are = λ e. past x a b d ws i 2 ∙ s .rows-are e;
+      columns-are = λ e. past x a b d ws i 3 ∙ s .columns-are e;
+    }
+
+-- what it says, in other words
+spot-as : {words : List ℕ} {n i j : ℕ} {found found′ : Bool} {f f′ r r′ c c′ : ℕ} → Spot words n i found f r c → i ≡ j → found ≡ found′ → f ≡ f′ → r ≡ r′ → c ≡ c′
+    → Spot words n j found′ f′ r′ c′
+spot-as {words} {n} {i} {j} {found} {found′} {f} {f′} {r} {r′} {c} {c′} s ei e ef er ec =
+    record {
+      within = let h = s .within in omega (arith, h, ei);
+      test = ap (λ (k : ℕ). ltb k n) (sym ei) ∙ s .test ∙ e;
+      first-is = λ p. ap (λ (k : ℕ). getD words (4 * k + 1) 0) (sym ei) ∙ s .first-is (e ∙ p) ∙ ef;
+      rows-are = λ p. ap (λ (k : ℕ). getD words (4 * k + 2) 0) (sym ei) ∙ s .rows-are (e ∙ p) ∙ er;
+      columns-are = λ p. ap (λ (k : ℕ). getD words (4 * k + 3) 0) (sym ei) ∙ s .columns-are (e ∙ p) ∙ ec;
+    }
+
+-- ---- a test of the first entry
+
+cond-plus : (t : Bool) (at n f : ℕ) → cond t at (at + n + f) ≡ at + cond t 0 (n + f)
+cond-plus true at n f = omega arith
+cond-plus false at n f = omega arith
+
+cond-same : (t : Bool) (a : ℕ) → cond t a a ≡ a
+cond-same true a = refl
+cond-same false a = refl
+
+cond-rows : (t : Bool) (x y : Dims) → cond t (x .rows) (y .rows) ≡ cond t x y .rows
+cond-rows true x y = refl
+cond-rows false x y = refl
+
+cond-columns : (t : Bool) (x y : Dims) → cond t (x .columns) (y .columns) ≡ cond t x y .columns
+cond-columns true x y = refl
+cond-columns false x y = refl
+
+index-as : (s t : Bool) (i : ℕ) → s ≡ t → cond t 0 (suc i) ≡ cond s 0 (suc i)
+index-as s t i e = ap (λ (b : Bool). cond b 0 (suc i)) (sym e)
+
+-- ---- the entry of a name in n entries from the cell `at` on
+
+abbrev pub PlainAt : List ℕ → ℕ → List Held → ℕ → Name → Type 0
+PlainAt words n held at v = Spot words n (firstEntry false (nameWord v) n words) (holds (isName v) held) (at + firstCell (isName v) held) 0 0
+
+abbrev pub ArrayAt : List ℕ → ℕ → List Held → ℕ → Name → Type 0
+ArrayAt words n held at v =
+    Spot words n (firstEntry true (nameWord v) n words) (holds (isArray v) held) (at + firstCell (isArray v) held) (dimsHeld held v .rows) (dimsHeld held v .columns)
+
+module _ (v : Name) (tv : Told v) (rest : List ℕ) where
+  pub spot-plain : (held : List Held) (at : ℕ) → Each Told (namesHeld held) → Each SomeRows (arraysHeld held)
+      → PlainAt (heldWords at held ++ rest) (nameCount held) held at v
+  unfolding firstEntry
+  spot-plain [] at told some = spot-none rest (at + 0) 0 0
+  spot-plain (name w ∷ held) at (each-more tw told) some =
+      let t = sameName w v in
+      let s = spot-plain held (suc at) told some in
+      let e : isEntry false (nameWord v) (heldWords at (name w ∷ held) ++ rest) ≡ t = and-true (eqb (nameWord w) (nameWord v)) true refl ∙ word-test w v tw tv in
+      spot-as (spot-step t (nameWord w) at 0 0 s) (index-as _ t _ e) refl (first t (firstCell (isName v) held)) (cond-same t 0) (cond-same t 0)
+    where
+      first : (t : Bool) (f : ℕ) → cond t at (suc at + f) ≡ at + cond t 0 (1 + f)
+      first true f = omega arith
+      first false f = omega arith
+  spot-plain (array a ∷ held) at (each-more tw told) (each-more r some) =
+      let n = arraySize (a .dims) in
+      let s = spot-plain held (at + n) told some in
+      let e : isEntry false (nameWord v) (heldWords at (array a ∷ held) ++ rest) ≡ false =
+      and-false (eqb (nameWord (a .name)) (nameWord v)) _ (ne-eqb (a .dims .rows) 0 (λ z. omega (arith, r, z))) in
+      spot-as (spot-step false (nameWord (a .name)) at (a .dims .rows) (a .dims .columns) s) (index-as _ false _ e) refl (omega arith) refl refl
+  spot-plain (hidden q ∷ held) at told some = spot-as (spot-plain held (at + 2) told some) refl refl (omega arith) refl refl
+
+  pub spot-array : (held : List Held) (at : ℕ) → Each Told (namesHeld held) → Each SomeRows (arraysHeld held)
+      → ArrayAt (heldWords at held ++ rest) (nameCount held) held at v
+  unfolding firstEntry
+  spot-array [] at told some = spot-none rest (at + 0) 0 0
+  spot-array (name w ∷ held) at (each-more tw told) some =
+      let s = spot-array held (suc at) told some in
+      let e : isEntry true (nameWord v) (heldWords at (name w ∷ held) ++ rest) ≡ false = and-false (eqb (nameWord w) (nameWord v)) false refl in
+      spot-as (spot-step false (nameWord w) at 0 0 s) (index-as _ false _ e) refl (omega arith) refl refl
+  spot-array (array a ∷ held) at (each-more tw told) (each-more r some) =
+      let n = arraySize (a .dims) in
+      let t = sameName (a .name) v in
+      let s = spot-array held (at + n) told some in
+      let e : isEntry true (nameWord v) (heldWords at (array a ∷ held) ++ rest) ≡ t =
+      and-true (eqb (nameWord (a .name)) (nameWord v)) _ (le-leb 1 (a .dims .rows) r) ∙ word-test (a .name) v tw tv in
+      spot-as (spot-step t (nameWord (a .name)) at (a .dims .rows) (a .dims .columns) s) (index-as _ t _ e) refl (cond-plus t at n (firstCell (isArray v) held))
+      (cond-rows t (a .dims) (dimsHeld held v)) (cond-columns t (a .dims) (dimsHeld held v))
+  spot-array (hidden q ∷ held) at told some = spot-as (spot-array held (at + 2) told some) refl refl (omega arith) refl refl
+
+-- ---- no entry has the word 0
+
+skip : (k : Bool) (n : ℕ) (words : List ℕ) (m : ℕ) → isEntry k 0 words ≡ false → firstEntry k 0 n (drop 4 words) ≡ m → firstEntry k 0 (suc n) words ≡ suc m
+unfolding firstEntry
+skip k n words m e h = ap (λ (b : Bool). cond b 0 (suc (firstEntry k 0 n (drop 4 words)))) e ∙ ap suc h
+
+no-word : (k : Bool) (w : Name) (r : ℕ) → Told w → (eqb (nameWord w) 0 && ofKind k r) ≡ false
+no-word k w r t = ap (λ (b : Bool). b && ofKind k r) (ne-eqb (nameWord w) 0 (some-word w t))
+
+pub spot-nothing : (k : Bool) (rest : List ℕ) (held : List Held) (at : ℕ) → Each Told (namesHeld held)
+    → firstEntry k 0 (nameCount held) (heldWords at held ++ rest) ≡ nameCount held
+unfolding firstEntry
+spot-nothing k rest [] at told = refl
+spot-nothing k rest (name w ∷ held) at (each-more tw told) =
+    skip k (nameCount held) (heldWords at (name w ∷ held) ++ rest) (nameCount held) (no-word k w 0 tw) (spot-nothing k rest held (suc at) told)
+spot-nothing k rest (array a ∷ held) at (each-more tw told) =
+    skip k (nameCount held) (heldWords at (array a ∷ held) ++ rest) (nameCount held) (no-word k (a .name) (a .dims .rows) tw)
+    (spot-nothing k rest held (at + arraySize (a .dims)) told)
+spot-nothing k rest (hidden q ∷ held) at told = spot-nothing k rest held (at + 2) told

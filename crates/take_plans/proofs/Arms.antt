@@ -1,0 +1,110 @@
+-- What each arm of a statement's forms tells.
+-- Assumes nothing.
+use mathlib.Core.Path.{_≡_, refl, sym, ap, _∙_, subst}
+use mathlib.Core.Bool.{Bool}
+use mathlib.Core.List.{List}
+use Prim.Native.Nat.{ℕ, _≤_}
+use native.Mathlib.Omega.{arith}
+use lib.Dec.{eqb}
+use lib.ListN.{length, take}
+use borrow.Author.Tests.{eq-eqb, ne-eqb}
+use Rattle.read_cards.specs.declared.Number.{Number}
+use Rattle.read_elements.specs.declared.Target.{Target}
+use Rattle.read_elements.specs.declared.Target.the-variants.{Cell, Element}
+use Rattle.read_items.specs.Items.{targetWords}
+use Rattle.read_items.specs.Parsed.{Put}
+use Rattle.read_forms.specs.declared.Assignment.{Assignment}
+use Rattle.read_forms.specs.declared.Computed.{Computed}
+use Rattle.read_forms.specs.declared.If.{If}
+use Rattle.read_forms.specs.declared.Do.{Do}
+use Rattle.read_forms.specs.declared.Dimension.{Dimension}
+use Rattle.read_forms.specs.declared.Statement.{Statement}
+use Rattle.read_forms.specs.declared.Statement.the-variants as statement
+use Rattle.take_plans.specs.declared.Plan.{Plan}
+use Rattle.take_plans.specs.Plans.{noNumber, made, bare, planOf, parametersWords, Laid, Planned, firstWords}
+
+module _ (items : List ℕ) (s : Statement) (r : Plan) where
+  planned : (z : Statement) → s ≡ z → r ≡ planOf z → Laid z items items → Planned s items items r
+  planned z e p l = subst (λ (x : Statement). Planned x items items r) (sym e) (record { says = p; table = l })
+
+  pub of-assignment : (a : Assignment) → s ≡ statement.Assign a → r ≡ made 0 (a .target) (a .count) 0 noNumber noNumber noNumber → Planned s items items r
+  unfolding planOf Laid
+  of-assignment a e q = planned (statement.Assign a) e q refl
+
+  pub of-go-to : (n : Number) → s ≡ statement.GoTo n → r ≡ made 1 (Cell 0) 0 0 n noNumber noNumber → Planned s items items r
+  unfolding planOf Laid
+  of-go-to n e q = planned (statement.GoTo n) e q refl
+
+  pub of-computed : (c : Computed) → s ≡ statement.Computed c → r ≡ made 2 (Cell (c .name)) 0 (c .exits) noNumber noNumber noNumber → Planned s items items r
+  unfolding planOf Laid
+  of-computed c e q = planned (statement.Computed c) e q refl
+
+  pub of-if : (i : If) → s ≡ statement.If i → r ≡ made 3 (Cell 0) (i .count) 0 (i .below) (i .at) (i .above) → Planned s items items r
+  unfolding planOf Laid
+  of-if i e q = planned (statement.If i) e q refl
+
+  pub of-continue : s ≡ statement.Continue → r ≡ bare 5 → Planned s items items r
+  unfolding planOf Laid
+  of-continue e q = planned statement.Continue e q refl
+
+  pub of-stop : s ≡ statement.Stop → r ≡ bare 6 → Planned s items items r
+  unfolding planOf Laid
+  of-stop e q = planned statement.Stop e q refl
+
+  pub of-end : s ≡ statement.End → r ≡ bare 7 → Planned s items items r
+  unfolding planOf Laid
+  of-end e q = planned statement.End e q refl
+
+  pub of-dimension : (d : Dimension) → s ≡ statement.Dimension d → r ≡ made 8 (Cell 0) 0 (d .arrays) noNumber noNumber noNumber → Planned s items items r
+  unfolding planOf Laid
+  of-dimension d e q = planned (statement.Dimension d) e q refl
+
+  pub of-bad : s ≡ statement.Bad → r ≡ bare 9 → Planned s items items r
+  unfolding planOf Laid
+  of-bad e q = planned statement.Bad e q refl
+
+pub of-do : (a b : List ℕ) (s : Statement) (r : Plan) (d : Do) (count : ℕ) → s ≡ statement.Do d → Put a b 0 (parametersWords d) count
+    → r ≡ made 4 (Cell (d .name)) count 0 (d .last) noNumber noNumber → Planned s a b r
+unfolding planOf Laid
+of-do a b s r d count e h q =
+    let six : count ≡ 6 = h .top in
+    subst (λ (x : Statement). Planned x a b r) (sym e)
+    (record { says = q ∙ ap (λ (k : ℕ). made 4 (Cell (d .name)) k 0 (d .last) noNumber noNumber) six; table = subst (λ (k : ℕ). take k b ≡ parametersWords d) six (h .table) })
+
+-- ---- what stands first
+
+pub target-room : (t : Target) → length (targetWords t) ≤ 11
+unfolding targetWords
+target-room (Cell w) = omega arith
+target-room (Element e) = omega arith
+
+module _ (p : Plan) where
+  pub first-0 : p .kind ≡ 0 → firstWords p ≡ targetWords (p .target)
+  unfolding firstWords
+  first-0 z = let a : eqb (p .kind) 0 ≡ Bool.true = eq-eqb (p .kind) 0 z in rw a
+
+  pub first-2 : (p .kind ≡ 0 → ⊥) → p .kind ≡ 2 → firstWords p ≡ targetWords (p .target)
+  unfolding firstWords
+  first-2 x z =
+      let a : eqb (p .kind) 0 ≡ Bool.false = ne-eqb (p .kind) 0 x in
+      let b : eqb (p .kind) 2 ≡ Bool.true = eq-eqb (p .kind) 2 z in
+      rw (a, b)
+
+  pub first-4 : (p .kind ≡ 0 → ⊥) → (p .kind ≡ 2 → ⊥) → p .kind ≡ 4 → firstWords p ≡ targetWords (p .target)
+  unfolding firstWords
+  first-4 x y z =
+      let a : eqb (p .kind) 0 ≡ Bool.false = ne-eqb (p .kind) 0 x in
+      let b : eqb (p .kind) 2 ≡ Bool.false = ne-eqb (p .kind) 2 y in
+      let c : eqb (p .kind) 4 ≡ Bool.true = eq-eqb (p .kind) 4 z in
+      rw (a, b, c)
+
+  pub first-none : (p .kind ≡ 0 → ⊥) → (p .kind ≡ 2 → ⊥) → (p .kind ≡ 4 → ⊥) → (a : List ℕ) → Put a a 0 (firstWords p) 0
+  unfolding firstWords
+  first-none x y z l =
+      let a : eqb (p .kind) 0 ≡ Bool.false = ne-eqb (p .kind) 0 x in
+      let b : eqb (p .kind) 2 ≡ Bool.false = ne-eqb (p .kind) 2 y in
+      let c : eqb (p .kind) 4 ≡ Bool.false = ne-eqb (p .kind) 4 z in
+      rw (a, b, c) (record { top = refl; table = refl })
+
+  pub first-put : {a b : List ℕ} {r : ℕ} → firstWords p ≡ targetWords (p .target) → Put a b 0 (targetWords (p .target)) r → Put a b 0 (firstWords p) r
+  first-put {a} {b} {r} e h = subst (λ (ws : List ℕ). Put a b 0 ws r) (sym e) h

@@ -1,0 +1,110 @@
+-- What a statement asks of the draft, in one shape for all forms: the operand that stands first, the items, and numbers or arrays in the table.
+-- Assumes nothing.
+use mathlib.Core.Path.{_≡_}
+use Prim.Native.Nat.{ℕ, _≤_}
+use mathlib.Core.Bool.{cond}
+use mathlib.Core.List.{List, [], _∷_, map}
+use lib.Dec.{eqb}
+use lib.ListN.{length, take}
+use Rattle.rules_text.specs.Trees.{Form, assign, goTo, computed, ifs, loop, continue, stop, end, dimension}
+use Rattle.read_tokens.specs.Words.{capped, nameWord}
+use Rattle.read_cards.specs.declared.Number.{Number}
+use Rattle.read_elements.specs.declared.Target.{Target}
+use Rattle.read_elements.specs.declared.Target.the-variants.{Cell}
+use Rattle.read_elements.specs.Values.{targetValue}
+use Rattle.read_items.specs.Items.{flat, targetWords}
+use Rattle.read_forms.specs.declared.Do.{Do}
+use Rattle.read_forms.specs.declared.Statement.{Statement}
+use Rattle.read_forms.specs.declared.Statement.the-variants as statement
+use Rattle.read_forms.specs.Statements.{allWords, asNumber, numberValue}
+use Rattle.take_draft.specs.Parts.{itemsWords, formFirst, formItems}
+use Rattle.take_plans.specs.declared.Plan.{Plan}
+
+-- ---- of what the reader gave back
+
+-- where a form has none
+abbrev pub noNumber : Number
+noNumber = asNumber 0
+
+abbrev pub made : ℕ → Target → ℕ → ℕ → Number → Number → Number → Plan
+made kind target count listed below at above =
+    record { kind = kind; target = target; count = count; listed = listed; below = below; at = at; above = above }
+
+abbrev pub bare : ℕ → Plan
+bare kind = made kind (Cell 0) 0 0 noNumber noNumber noNumber
+
+unfoldable pub planOf : Statement → Plan
+planOf (statement.Assign a) = made 0 (a .target) (a .count) 0 noNumber noNumber noNumber
+planOf (statement.GoTo n) = made 1 (Cell 0) 0 0 n noNumber noNumber
+planOf (statement.Computed c) = made 2 (Cell (c .name)) 0 (c .exits) noNumber noNumber noNumber
+planOf (statement.If i) = made 3 (Cell 0) (i .count) 0 (i .below) (i .at) (i .above)
+planOf (statement.Do d) = made 4 (Cell (d .name)) 6 0 (d .last) noNumber noNumber
+planOf statement.Continue = bare 5
+planOf statement.Stop = bare 6
+planOf statement.End = bare 7
+planOf (statement.Dimension d) = made 8 (Cell 0) 0 (d .arrays) noNumber noNumber noNumber
+planOf statement.Bad = bare 9
+
+-- a DO's parameters as items
+abbrev pub parametersWords : Do → List ℕ
+parametersWords d = d .first .kind ∷ d .first .word ∷ d .limit .kind ∷ d .limit .word ∷ d .by .kind ∷ d .by .word ∷ []
+
+-- the table afterwards
+unfoldable pub Laid : Statement → List ℕ → List ℕ → Type 0
+Laid (statement.Assign a) before after = after ≡ before
+Laid (statement.GoTo n) before after = after ≡ before
+Laid (statement.Computed c) before after = after ≡ before
+Laid (statement.If i) before after = after ≡ before
+Laid (statement.Do d) before after = take 6 after ≡ parametersWords d
+Laid statement.Continue before after = after ≡ before
+Laid statement.Stop before after = after ≡ before
+Laid statement.End before after = after ≡ before
+Laid (statement.Dimension d) before after = after ≡ before
+Laid statement.Bad before after = after ≡ before
+
+pub record Planned (s : Statement) (before after : List ℕ) (r : Plan) : Type 0 where
+  pub says : r ≡ planOf s
+  pub table : Laid s before after
+
+-- ---- of a form
+
+unfoldable pub formPlan : Form → Plan
+formPlan (assign t e) = made 0 (targetValue t) (length (flat e)) 0 noNumber noNumber noNumber
+formPlan (goTo n) = made 1 (Cell 0) 0 0 (numberValue n) noNumber noNumber
+formPlan (computed ns v) = made 2 (Cell (nameWord v)) 0 (length ns) noNumber noNumber noNumber
+formPlan (ifs e a b c) = made 3 (Cell 0) (length (flat e)) 0 (numberValue a) (numberValue b) (numberValue c)
+formPlan (loop n v p q r) = made 4 (Cell (nameWord v)) 6 0 (numberValue n) noNumber noNumber
+formPlan continue = bare 5
+formPlan stop = bare 6
+formPlan end = bare 7
+formPlan (dimension arrays) = made 8 (Cell 0) 0 (length arrays) noNumber noNumber noNumber
+
+-- a computed GO TO's numbers and a DIMENSION's arrays, as the reader leaves them
+unfoldable pub listedWords : Form → List ℕ
+listedWords (assign t e) = []
+listedWords (goTo n) = []
+listedWords (computed ns v) = map capped ns
+listedWords (ifs e a b c) = []
+listedWords (loop n v p q r) = []
+listedWords continue = []
+listedWords stop = []
+listedWords end = []
+listedWords (dimension arrays) = allWords arrays
+
+-- a form's plan, and its words in the table
+pub record Plans (f : Form) (items : List ℕ) (p : Plan) : Type 0 where
+  pub plan : p ≡ formPlan f
+  pub operands : take (p .count) items ≡ itemsWords (formItems f)
+  pub listed : take (length (listedWords f)) items ≡ listedWords f
+  pub room : p .count ≤ length items
+
+-- the words of what stands first
+unfoldable pub firstWords : Plan → List ℕ
+firstWords p =
+    cond (eqb (p .kind) 0) (targetWords (p .target)) (cond (eqb (p .kind) 2) (targetWords (p .target)) (cond (eqb (p .kind) 4) (targetWords (p .target)) []))
+
+-- the plan of some form, with what stands first
+pub record Readied (p : Plan) (first items : List ℕ) : Type 0 where
+  pub form : Form
+  pub plans : Plans form items p
+  pub first-are : first ≡ itemsWords (formFirst form)

@@ -1,0 +1,121 @@
+// What a statement asks of the draft, in one shape for all forms.
+ghost use mathlib.Core.Path.{_≡_};
+ghost use Prim.Native.Nat.{_≤_};
+ghost use lib.ListN.{length};
+ghost use Rattle.read_items.specs.Parsed.{Put};
+ghost use Rattle.take_plans.specs.Plans.{made, parametersWords, Planned, firstWords};
+use read_cards::Number;
+use read_elements::Target;
+use read_forms::Do;
+use read_forms::Statement;
+use take_kinds::ASSIGNMENT;
+use take_kinds::COMPUTED;
+use take_kinds::CONTINUE;
+use take_kinds::DIMENSION;
+use take_kinds::DO;
+use take_kinds::END;
+use take_kinds::GO_TO;
+use take_kinds::IF;
+use take_kinds::NO_FORM;
+use take_kinds::STOP;
+
+pub struct Plan {
+    // one of `kinds`
+    pub kind: u64,
+    // what stands first: an assignment's target, a computed GO TO's variable or a DO's
+    pub target: Target,
+    // words of the items
+    pub count: usize,
+    // numbers or arrays in the table
+    pub listed: usize,
+    // statement numbers; a GO TO's and a DO's is the first
+    pub below: Number,
+    pub at: Number,
+    pub above: Number,
+}
+
+fn make(
+    kind: u64,
+    target: Target,
+    count: usize,
+    listed: usize,
+    below: Number,
+    at: Number,
+    above: Number,
+) -> Plan
+    ensures { λ r. ⌜ r ≡ made kind target count listed below at above ⌝ }
+{
+    Plan {
+        kind,
+        target,
+        count,
+        listed,
+        below,
+        at,
+        above,
+    }
+}
+
+fn put_parameters(items: &mut [u64], d: Do) -> usize
+    requires { ⌜ 6 ≤ length (now items) ⌝ }
+    ensures { λ r. ⌜ Put (now (items .entry)) (now (items .exit)) 0 (parametersWords d) r ⌝ }
+{
+    let first = d.first;
+    let a = read_items::put_two(items, 0, first.kind, first.word);
+    let limit = d.limit;
+    let b = read_items::put_two(items, a, limit.kind, limit.word);
+    let by = d.by;
+    read_items::put_two(items, b, by.kind, by.word)
+}
+
+// A DO's parameters become items.
+pub fn plan_of(s: Statement, items: &mut [u64]) -> Plan
+    requires { ⌜ 6 ≤ length (now items) ⌝ }
+    ensures { λ r. ⌜ Planned s (now (items .entry)) (now (items .exit)) r ⌝ }
+{
+    let none = Number(0);
+    match s {
+        Statement::Assign(a) => {
+            let target = a.target;
+            make(ASSIGNMENT, target, a.count, 0, none, none, none)
+        }
+        Statement::GoTo(n) => make(GO_TO, Target::Cell(0), 0, 0, n, none, none),
+        Statement::Computed(c) => make(
+            COMPUTED,
+            Target::Cell(c.name),
+            0,
+            c.exits,
+            none,
+            none,
+            none,
+        ),
+        Statement::If(i) => make(IF, Target::Cell(0), i.count, 0, i.below, i.at, i.above),
+        Statement::Do(d) => {
+            let count = put_parameters(items, d);
+            make(DO, Target::Cell(d.name), count, 0, d.last, none, none)
+        }
+        Statement::Continue => make(CONTINUE, Target::Cell(0), 0, 0, none, none, none),
+        Statement::Stop => make(STOP, Target::Cell(0), 0, 0, none, none, none),
+        Statement::End => make(END, Target::Cell(0), 0, 0, none, none, none),
+        Statement::Dimension(d) => make(DIMENSION, Target::Cell(0), 0, d.arrays, none, none, none),
+        Statement::Bad => make(NO_FORM, Target::Cell(0), 0, 0, none, none, none),
+    }
+}
+
+// The words of what stands first, if anything does.
+pub fn put_first(p: Plan, first: &mut [u64]) -> usize
+    requires { ⌜ 11 ≤ length (now first) ⌝ }
+    ensures { λ r. ⌜ Put (now (first .entry)) (now (first .exit)) 0 (firstWords p) r ⌝ }
+{
+    let target = p.target;
+    if p.kind == ASSIGNMENT {
+        return read_items::put_target(first, 0, target);
+    }
+    if p.kind == COMPUTED {
+        return read_items::put_target(first, 0, target);
+    }
+    if p.kind == DO {
+        return read_items::put_target(first, 0, target);
+    }
+    0
+}

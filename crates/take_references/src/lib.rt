@@ -1,0 +1,63 @@
+// 16: references of a statement's operands, by the table of names.
+ghost use mathlib.Core.Path.{_≡_};
+ghost use Prim.Native.Nat.{_*_, _≤_, _<_};
+ghost use lib.ListN.{length};
+ghost use Rattle.take_draft.specs.Parts.{Worded};
+ghost use Rattle.take_references.specs.Rights.{rightWords, RightPlace, RightItem, References};
+
+fn right_count(count: u64, columns: u64) -> bool
+    ensures { λ r. ⌜ r ≡ rightWords count columns ⌝ }
+{
+    if count == 1 {
+        return columns == 0;
+    }
+    1 <= columns
+}
+
+// Of an element: its array, as many subscripts as dimensions, and no array in a subscript.
+fn right_place(items: &[u64], table: &[u64], n: usize) -> bool
+    requires { ⌜ (11 ≤ length (now items)) × (4 * n ≤ length (now table)) ⌝ }
+    ensures { λ r. ⌜ RightPlace (now (items .entry)) (now (table .entry)) n r ⌝ }
+{
+    let i = take_name_table::find(table, n, items[1], true);
+    if n <= i {
+        return false;
+    }
+    if !right_count(items[2], table[4 * i + 3]) {
+        return false;
+    }
+    if take_name_table::holds(table, n, items[4], true) {
+        return false;
+    }
+    !take_name_table::holds(table, n, items[8], true)
+}
+
+// Of the operand or operation that the words start with.
+fn right_item(items: &[u64], table: &[u64], n: usize) -> bool
+    requires { ⌜ (Worded (now items) × (0 < length (now items))) × (4 * n ≤ length (now table)) ⌝ }
+    ensures { λ r. ⌜ RightItem (now (items .entry)) (now (table .entry)) n r ⌝ }
+{
+    let kind = items[0];
+    if kind == 2 {
+        return !take_name_table::holds(table, n, items[1], true);
+    }
+    if kind == 4 {
+        return right_place(items, table, n);
+    }
+    true
+}
+
+// 16: every element's array is declared with as many dimensions, and no array's name stands bare.
+pub fn references_right(items: &[u64], table: &[u64], n: usize) -> bool
+    requires { ⌜ Worded (now items) × (4 * n ≤ length (now table)) ⌝ }
+    ensures { λ r. ⌜ References (now (items .entry)) (now (table .entry)) n r ⌝ }
+{
+    let mut at = 0;
+    while at < items.len() {
+        if !right_item(&items[at..], table, n) {
+            return false;
+        }
+        at += take_name_table::item_length(items[at]);
+    }
+    true
+}
