@@ -9,13 +9,6 @@ ghost use Rattle.read_items.specs.Parsed.{Put};
 ghost use Rattle.final_addresses.specs.Given.{Judged, Given, Starts};
 ghost use Rattle.final_addresses.specs.Ends.{lastAt, endsAt, Lasts};
 
-// A word that is used as an index.
-pub fn wide(w: u32) -> usize
-    ensures { λ r. ⌜ r ≡ w ⌝ }
-{
-    w as usize
-}
-
 // A number that fits a word of the object.
 pub fn narrow(n: u64) -> u32
     requires { ⌜ n < 2 ^ 32 ⌝ }
@@ -38,8 +31,8 @@ pub fn last(loops: &[u32], n: usize, jumps: &[u32], d: usize) -> usize
     requires { ⌜ Lasts (now loops) n (now jumps) × (d < n) ⌝ }
     ensures { λ r. ⌜ r ≡ lastAt (now (loops .entry)) (now (jumps .entry)) d ⌝ }
 {
-    let j = wide(loops[2 * d + 1]);
-    wide(jumps[j])
+    let j = object_words::index(loops[2 * d + 1]);
+    object_words::index(jumps[j])
 }
 
 // How many DOs end with the statement at position i.

@@ -20,7 +20,7 @@ pub fn bodies(loops: &[u32], n: usize, starts: &[u32], dos: &mut [u32])
 {
     let mut i = 0;
     while i < n {
-        let body = final_addresses::wide(loops[2 * i]) + 1;
+        let body = object_words::index(loops[2 * i]) + 1;
         dos[4 * i + 3] = starts[body];
         i += 1;
     }

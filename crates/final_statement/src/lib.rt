@@ -74,7 +74,7 @@ pub fn put_own(
     if kind != GO_TO {
         return copy(out, top, draft, from, own);
     }
-    let target = final_addresses::wide(jumps[j]);
+    let target = object_words::index(jumps[j]);
     let address = starts[target];
     final_addresses::put(out, top, object_words::pack(object_opcodes::JMP, address))
 }
@@ -93,7 +93,7 @@ pub fn put_targets(
 {
     let mut i = 0;
     while i < many {
-        let target = final_addresses::wide(jumps[j + i]);
+        let target = object_words::index(jumps[j + i]);
         out[top + i] = starts[target];
         i += 1;
     }

@@ -26,41 +26,41 @@ loop-holds : tie.Need-loop-holds Inv-loop μ-loop
 loop-holds c =
     (search needs, refl, λ house deck told at e. e)
 
-mul-wide : tie.Need-mul-wide Inv-loop μ-loop
-mul-wide c =
+mul-index : tie.Need-mul-index Inv-loop μ-loop
+mul-index c =
     let g = c .before .before .before .before .before .pre .0 in
     omega (arith, loops-long (g .are), c .loop-test .taken)
 
-mul-wide-2 : tie.Need-mul-wide-2 Inv-loop μ-loop
-mul-wide-2 c =
+mul-index-2 : tie.Need-mul-index-2 Inv-loop μ-loop
+mul-index-2 c =
     let g = c .before .before .before .before .before .pre .0 in
     omega (arith, loops-long (g .are), c .loop-test .taken)
 
-shared-slice-read-wide : tie.Need-shared-slice-read-wide Inv-loop μ-loop
-shared-slice-read-wide c =
+shared-slice-read-index : tie.Need-shared-slice-read-index Inv-loop μ-loop
+shared-slice-read-index c =
     let g = c .before .before .before .before .before .before .pre .0 in
     omega (arith, loops-long (g .are), c .before .loop-test .taken)
 
-wide-requires : tie.Need-wide-requires Inv-loop μ-loop
-wide-requires c κs = search needs
+index-requires : tie.Need-index-requires Inv-loop μ-loop
+index-requires c κs = search needs
 
 add-body : tie.Need-add-body Inv-loop μ-loop
 add-body c =
     let g = c .before .before .before .before .before .before .before .pre .0 in
     let i = c .before .before .before .loop .i in
-    omega (arith, body-small (g .are) i (c .before .before .loop-test .taken), c .wide .ensures, c .before .before .before .before .before .before .before .pre .1)
+    omega (arith, body-small (g .are) i (c .before .before .loop-test .taken), c .index .ensures, c .before .before .before .before .before .before .before .pre .1)
 
 mul-dos : tie.Need-mul-dos Inv-loop μ-loop
 mul-dos c =
     let g = c .before .before .before .before .before .before .before .pre .0 in
     let i = c .before .before .before .loop .i in
-    omega (arith, body-small (g .are) i (c .before .before .loop-test .taken), c .wide .ensures, c .before .before .before .before .before .before .before .pre .1)
+    omega (arith, body-small (g .are) i (c .before .before .loop-test .taken), c .index .ensures, c .before .before .before .before .before .before .before .pre .1)
 
 shared-slice-read-dos : tie.Need-shared-slice-read-dos Inv-loop μ-loop
 shared-slice-read-dos c =
     let g = c .before .before .before .before .before .before .before .before .pre .0 in
     let i = c .before .before .before .before .loop .i in
-    omega (arith, body-small (g .are) i (c .before .before .before .loop-test .taken), c .before .wide .ensures, c .before .before .before .before .before .before .before .before .pre .1)
+    omega (arith, body-small (g .are) i (c .before .before .before .loop-test .taken), c .before .index .ensures, c .before .before .before .before .before .before .before .before .pre .1)
 
 mul-dos-2 : tie.Need-mul-dos-2 Inv-loop μ-loop
 mul-dos-2 c =
@@ -87,8 +87,8 @@ loop-less c = search needs
 loop-again : tie.Need-loop-again Inv-loop μ-loop
 loop-again c = (
   search needs,
-  length-set (c .before .before .before .before .loop .dos) (4 * c .before .before .before .before .loop .i + 3) (getD (c .before .before .before .before .before .before .before .before .args .starts .now) (c .before .wide .result + 1) 0) ∙ c .before .before .before .before .loop .inv .1,
-  λ house deck told at e. body-more told (c .before .before .before .before .loop .dos) (c .before .before .before .before .loop .i) (c .before .wide .result) (c .before .before .before .loop-test .taken) (c .before .wide .ensures) at (c .before .before .before .before .loop .inv .2 house deck told at e),
+  length-set (c .before .before .before .before .loop .dos) (4 * c .before .before .before .before .loop .i + 3) (getD (c .before .before .before .before .before .before .before .before .args .starts .now) (c .before .index .result + 1) 0) ∙ c .before .before .before .before .loop .inv .1,
+  λ house deck told at e. body-more told (c .before .before .before .before .loop .dos) (c .before .before .before .before .loop .i) (c .before .index .result) (c .before .before .before .loop-test .taken) (c .before .index .ensures) at (c .before .before .before .before .loop .inv .2 house deck told at e),
 )
 
 same-length : tie.Need-same-length Inv-loop μ-loop
@@ -106,10 +106,10 @@ bodies-spec =
     Inv-loop
     μ-loop
     loop-holds
-    mul-wide
-    mul-wide-2
-    shared-slice-read-wide
-    wide-requires
+    mul-index
+    mul-index-2
+    shared-slice-read-index
+    index-requires
     add-body
     mul-dos
     shared-slice-read-dos

@@ -24,34 +24,34 @@ returns c =
     let s = c .before .before .before .before .before .before .before .before .before .args in
     put-as (ap (λ (b : Bool). cond b (goWord (getD (s .starts .now) (getD (s .jumps .now) (s .j) 0) 0) ∷ []) (take (s .own) (drop (s .from) (s .draft .now)))) (sym (ne-eqb (s .kind) 1 (c .before .before .before .before .if1 .taken)))) (c .before .before .copy .ensures)
 
-mul-wide : tie.Need-mul-wide
-mul-wide c =
+mul-index : tie.Need-mul-index
+mul-index c =
     let a = aimed-first (c .before .before .before .before .before .pre .2 (c .if1 .left) .1) in
     omega (arith, a .long)
 
-shared-slice-read-wide : tie.Need-shared-slice-read-wide
-shared-slice-read-wide c =
+shared-slice-read-index : tie.Need-shared-slice-read-index
+shared-slice-read-index c =
     let a = aimed-first (c .before .before .before .before .before .before .pre .2 (c .before .if1 .left) .1) in
     omega (arith, a .long)
 
-wide-requires : tie.Need-wide-requires
-wide-requires c κs = search needs
+index-requires : tie.Need-index-requires
+index-requires c κs = search needs
 
 mul-address : tie.Need-mul-address
 mul-address c =
     let a = aimed-first (c .before .before .before .before .before .before .before .pre .2 (c .before .before .if1 .left) .1) in
-    omega (arith, a .inside, c .wide .ensures)
+    omega (arith, a .inside, c .index .ensures)
 
 shared-slice-read-address : tie.Need-shared-slice-read-address
 shared-slice-read-address c =
     let a = aimed-first (c .before .before .before .before .before .before .before .before .pre .2 (c .before .before .before .if1 .left) .1) in
-    omega (arith, a .inside, c .before .wide .ensures)
+    omega (arith, a .inside, c .before .index .ensures)
 
 pack-requires : tie.Need-pack-requires
 pack-requires c κs =
     let s = c .before .before .before .before .before .before .before .before .before .args in
     let a = aimed-first (c .before .before .before .before .before .before .before .before .before .pre .2 (c .before .before .before .before .if1 .left) .1) in
-    (omega arith, omega (arith, a .small, ap (λ (p : ℕ). getD (s .starts .now) p 0) (c .before .before .wide .ensures)))
+    (omega arith, omega (arith, a .small, ap (λ (p : ℕ). getD (s .starts .now) p 0) (c .before .before .index .ensures)))
 
 put-requires : tie.Need-put-requires
 put-requires c κs = omega (arith, c .before .before .before .before .before .before .before .before .before .before .pre .0, c .before .before .before .before .before .before .before .before .before .before .pre .2 (c .before .before .before .before .before .if1 .left) .0)
@@ -64,7 +64,7 @@ returns-2 c =
     let s = c .before .before .before .before .before .before .before .before .before .before .before .before .before .args in
     put-as
     (ap (λ (w : ℕ). w ∷ []) (c .before .before .before .pack .ensures)
-    ∙ ap (λ (p : ℕ). goWord (getD (s .starts .now) p 0) ∷ []) (c .before .before .before .before .before .before .wide .ensures)
+    ∙ ap (λ (p : ℕ). goWord (getD (s .starts .now) p 0) ∷ []) (c .before .before .before .before .before .before .index .ensures)
     ∙ ap (λ (b : Bool). cond b (goWord (getD (s .starts .now) (getD (s .jumps .now) (s .j) 0) 0) ∷ []) (take (s .own) (drop (s .from) (s .draft .now)))) (sym (eq-eqb (s .kind) 1 (c .before .before .before .before .before .before .before .before .if1 .left))))
     (c .before .before .put .ensures)
 
@@ -75,9 +75,9 @@ put-own-spec =
     copy-requires
     same-length
     returns
-    mul-wide
-    shared-slice-read-wide
-    wide-requires
+    mul-index
+    shared-slice-read-index
+    index-requires
     mul-address
     shared-slice-read-address
     pack-requires

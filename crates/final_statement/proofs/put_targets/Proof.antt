@@ -20,28 +20,28 @@ loop-holds : tie.Need-loop-holds Inv-loop μ-loop
 loop-holds c =
     (search needs, refl, fill-none (c .before .before .before .args .out .now) (c .before .before .before .args .top))
 
-add-wide : tie.Need-add-wide Inv-loop μ-loop
-add-wide c =
+add-index : tie.Need-add-index Inv-loop μ-loop
+add-index c =
     omega (arith, c .before .before .before .before .before .pre .1 .long, c .loop-test .taken)
 
-mul-wide : tie.Need-mul-wide Inv-loop μ-loop
-mul-wide c =
+mul-index : tie.Need-mul-index Inv-loop μ-loop
+mul-index c =
     omega (arith, c .before .before .before .before .before .pre .1 .long, c .loop-test .taken)
 
-shared-slice-read-wide : tie.Need-shared-slice-read-wide Inv-loop μ-loop
-shared-slice-read-wide c =
+shared-slice-read-index : tie.Need-shared-slice-read-index Inv-loop μ-loop
+shared-slice-read-index c =
     omega (arith, c .before .before .before .before .before .before .pre .1 .long, c .before .loop-test .taken)
 
-wide-requires : tie.Need-wide-requires Inv-loop μ-loop
-wide-requires c κs = search needs
+index-requires : tie.Need-index-requires Inv-loop μ-loop
+index-requires c κs = search needs
 
 mul-out : tie.Need-mul-out Inv-loop μ-loop
 mul-out c =
-    omega (arith, c .before .before .before .before .before .before .before .pre .1 .inside (c .before .before .before .loop .i) (c .before .before .loop-test .taken), c .wide .ensures)
+    omega (arith, c .before .before .before .before .before .before .before .pre .1 .inside (c .before .before .before .loop .i) (c .before .before .loop-test .taken), c .index .ensures)
 
 shared-slice-read-out : tie.Need-shared-slice-read-out Inv-loop μ-loop
 shared-slice-read-out c =
-    omega (arith, c .before .before .before .before .before .before .before .before .pre .1 .inside (c .before .before .before .before .loop .i) (c .before .before .before .loop-test .taken), c .before .wide .ensures)
+    omega (arith, c .before .before .before .before .before .before .before .before .pre .1 .inside (c .before .before .before .before .loop .i) (c .before .before .before .loop-test .taken), c .before .index .ensures)
 
 add-out : tie.Need-add-out Inv-loop μ-loop
 add-out c =
@@ -65,12 +65,12 @@ loop-again : tie.Need-loop-again Inv-loop μ-loop
 loop-again c =
     let s = c .before .before .before .before .before .before .before .before .args in
     let xs = targets (s .jumps .now) (s .j) (s .many) (s .starts .now) in
-    let v = getD (s .starts .now) (c .before .wide .result) 0 in (
+    let v = getD (s .starts .now) (c .before .index .result) 0 in (
       search needs,
       length-set (c .before .before .before .before .loop .out) (s .top + c .before .before .before .before .loop .i) v ∙ c .before .before .before .before .loop .inv .1,
       fill-more (s .out .now) (c .before .before .before .before .loop .out) xs (s .top) (c .before .before .before .before .loop .i) v (omega (arith, c .before .before .before .before .before .before .before .before .pre .0, c .before .before .before .before .loop .inv .1, c .before .before .before .loop-test .taken))
           (omega (arith, targets-length (s .jumps .now) (s .starts .now) (s .j) (s .many) (c .before .before .before .before .before .before .before .before .pre .1 .long), c .before .before .before .loop-test .taken))
-          (ap (λ (p : ℕ). getD (s .starts .now) p 0) (c .before .wide .ensures) ∙ targets-get (s .jumps .now) (s .starts .now) (s .j) (s .many) (c .before .before .before .before .loop .i) (c .before .before .before .before .before .before .before .before .pre .1 .long) (c .before .before .before .loop-test .taken)) (c .before .before .before .before .loop .inv .2),
+          (ap (λ (p : ℕ). getD (s .starts .now) p 0) (c .before .index .ensures) ∙ targets-get (s .jumps .now) (s .starts .now) (s .j) (s .many) (c .before .before .before .before .loop .i) (c .before .before .before .before .before .before .before .before .pre .1 .long) (c .before .before .before .loop-test .taken)) (c .before .before .before .before .loop .inv .2),
     )
 
 add-result : tie.Need-add-result Inv-loop μ-loop
@@ -92,10 +92,10 @@ put-targets-spec =
     Inv-loop
     μ-loop
     loop-holds
-    add-wide
-    mul-wide
-    shared-slice-read-wide
-    wide-requires
+    add-index
+    mul-index
+    shared-slice-read-index
+    index-requires
     mul-out
     shared-slice-read-out
     add-out
