@@ -1,0 +1,5 @@
+pub mod PutLaws
+pub mod NumberLaws
+pub mod StepLaws
+pub mod ListLaws
+pub mod FormatLaws

@@ -1,0 +1,17 @@
+pub mod WritingOut
+pub mod WordLaws
+pub mod Numerals
+pub mod FieldLaws
+pub mod Simulation
+pub mod Kept
+pub mod Instance
+pub mod Lengths
+pub mod Records
+pub mod ReadBack
+pub mod Steps
+pub mod Examples
+pub mod PunchedExamples
+pub mod PunchedTells
+pub mod PunchedTakes
+pub mod PunchedSteps
+pub mod PunchedExactly
