@@ -7,6 +7,7 @@ ghost use Rattle.calls.specs.Outcomes.{Compiles};
 use check_verdicts::Refusal;
 use check_verdicts::Written;
 use compiler::Compiled;
+use limits::STACK;
 use run_object::Ran;
 
 // The deck's object at the start of the output; bytes past it stay, and on a refusal all of them.
@@ -59,7 +60,7 @@ pub extern "C" fn luvinqata_run(
     index: &mut u32,
     height: &mut u32,
     mark: &mut u32,
-    places: &mut [i64; 40],
+    places: &mut [i64; STACK],
     allowance: u32,
 ) -> Ran
     ensures { λ r. ⌜ Ends (running (now (object .entry)) (now (store .entry)) (lent (now (index .entry)) (now (height .entry)) (now (mark .entry)) (now (places .entry))) allowance) r (lent (now (index .exit)) (now (height .exit)) (now (mark .exit)) (now (places .exit))) (now (store .exit)) ⌝ }
@@ -75,7 +76,7 @@ pub extern "C" fn luvinqata_bench(
     index: &mut u32,
     height: &mut u32,
     mark: &mut u32,
-    places: &mut [i64; 40],
+    places: &mut [i64; STACK],
     allowance: u32,
 ) -> Ran
     ensures { λ r. ⌜ Ends (benching (now (object .entry)) (now (store .entry)) (lent (now (index .entry)) (now (height .entry)) (now (mark .entry)) (now (places .entry))) allowance) r (lent (now (index .exit)) (now (height .exit)) (now (mark .exit)) (now (places .exit))) (now (store .exit)) ⌝ }

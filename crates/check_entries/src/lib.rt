@@ -18,6 +18,7 @@ ghost use Rattle.object_bodies.specs.Edition.{kinds};
 ghost use Rattle.object_contents.specs.Layout.{Placed, objectAt};
 ghost use Rattle.check_entries.specs.Judge.{noLine, subscriptAt, refusalOf, countOf, passes, firstFrom};
 use check_names::wide;
+use limits::DIGITS;
 use number::Rule;
 use object_bodies::KINDS;
 use object_contents::Layout;
@@ -28,9 +29,7 @@ pub enum Found {
     At(u32, usize),
 }
 
-const DIGITS: u32 = 9;
-
-const CELLS: u32 = 4096;
+const CELLS: u32 = limits::CELLS as u32;
 
 // ---- 41
 

@@ -11,6 +11,7 @@ ghost use Rattle.check_heights.specs.Walk.{Visited};
 use check_meeting::Met;
 use check_meeting::Table;
 use check_meeting::Work;
+use limits::CODE;
 use object_contents::Layout;
 
 fn place(t: u16) -> usize
@@ -82,6 +83,6 @@ pub fn heights_of(o: &[u8], e: Layout, table: &mut Table) -> bool
     requires { ⌜ Fresh (now table) ⌝ }
     ensures { λ r. ⌜ heights (flowOf (objectAt e (now (o .entry)))) ≡ answered (e .«code_count») (now (table .exit)) r ⌝ }
 {
-    let mut work = [0u16; 4096];
+    let mut work = [0u16; CODE];
     fill(o, e, table, &mut work)
 }

@@ -3,16 +3,17 @@ ghost use Prim.Native.Nat.{_+_, _≤_, _<_};
 ghost use lib.ListN.{length};
 ghost use Rattle.rules_object.specs.Filling.{nevers};
 ghost use Rattle.check_meeting.specs.Meeting.{Meets};
+use limits::CODE;
 
-pub type Table = [u8; 4096];
+pub type Table = [u8; CODE];
 
 // Instructions that wait to be visited.
-pub type Work = [u16; 4096];
+pub type Work = [u16; CODE];
 
 // The height of an instruction that control never comes to.
 pub const NEVER: u8 = 255;
 
-pub const STACK: u8 = 40;
+const STACK: u8 = limits::STACK as u8;
 
 // How many instructions wait, or that there is no table.
 pub enum Met {

@@ -11,13 +11,10 @@ ghost use Rattle.object_contents.specs.Layout.{Placed, objectAt};
 ghost use Rattle.check_entries.specs.Judge.{refusalOf};
 ghost use Rattle.check_operands.specs.Operands.{operandRight, entryRightAt};
 use check_entries::Found;
+use limits::FEWEST_EXITS;
+use limits::MOST_EXITS;
 use number::Rule;
 use object_contents::Layout;
-
-// Exits of a BRC.
-const FEWEST: usize = 2;
-
-const MOST: usize = 10;
 
 // HLT CON LOD STO LDE STE ADD SUB MUL DIV NEG JMP BR3 BRC DOI DOE
 const POPS: [u8; 16] = [0, 0, 0, 1, 0, 1, 2, 2, 2, 2, 1, 0, 1, 1, 3, 0];
@@ -70,7 +67,7 @@ fn brc_right(o: &[u8], e: Layout, x: usize) -> bool
 {
     if x < e.exit_count {
         let n = object_words::index(object_words::load(o, e.exits + 4 * x));
-        if (FEWEST <= n) & ((n <= MOST) & (x + n < e.exit_count)) {
+        if (FEWEST_EXITS <= n) & ((n <= MOST_EXITS) & (x + n < e.exit_count)) {
             return targets_right(o, e, x + 1, n);
         }
     }

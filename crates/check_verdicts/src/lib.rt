@@ -6,6 +6,7 @@ ghost use Rattle.check_heights.specs.Judged.{Fresh};
 ghost use Rattle.check_verdicts.specs.Outcomes.{Checks, Writes, Maps};
 use check_meeting::NEVER;
 use check_meeting::Table;
+use limits::CODE;
 use object_contents::Layout;
 
 #[repr(C)]
@@ -40,7 +41,7 @@ fn check_with(object: &[u8], table: &mut Table) -> Refusal
 pub fn check(object: &[u8]) -> Refusal
     ensures { λ r. ⌜ Checks (now (object .entry)) r ⌝ }
 {
-    let mut table = [NEVER; 4096];
+    let mut table = [NEVER; CODE];
     check_with(object, &mut table)
 }
 
@@ -89,6 +90,6 @@ fn map_with(object: &[u8], output: &mut [u8], table: &mut Table) -> Written
 pub fn map(object: &[u8], table: &mut [u8]) -> Written
     ensures { λ r. ⌜ Maps (now (object .entry)) (now (table .entry)) (now (table .exit)) r ⌝ }
 {
-    let mut heights = [NEVER; 4096];
+    let mut heights = [NEVER; CODE];
     map_with(object, table, &mut heights)
 }

@@ -8,10 +8,28 @@ ghost use Rattle.rules_deck.specs.Compile.{read, judgeRead, writeRead, compilin
 ghost use Rattle.take_draft.specs.Kept.{asWords};
 ghost use Rattle.compiler.specs.Compiled.{answer, Punches, Holds, HoldsOne};
 use final_writer::Wrote;
+use limits::CODE;
+use limits::CONSTANTS;
+use limits::DOS;
+use limits::ELEMENTS;
+use limits::JUMPS;
+use limits::NAMES;
+use limits::STATEMENTS;
 use read_deck_cards::Judged;
 use take_deck::Drafted;
 use take_draft::Counts;
 use whole_deck::Verdict;
+
+// Words of the tables that are lent: four for a name, nine for an element, four and two for a DO, five for a statement's row.
+const NAME_WORDS: usize = 4 * NAMES;
+
+const ELEMENT_WORDS: usize = 9 * ELEMENTS;
+
+const DO_WORDS: usize = 4 * DOS;
+
+const LOOP_WORDS: usize = 2 * DOS;
+
+const ROW_WORDS: usize = 5 * STATEMENTS;
 
 pub enum Compiled {
     Refused { number: u32, place: u32 },
@@ -47,7 +65,7 @@ fn judge_whole(
         },
         Verdict::Right => {
             let places = judged.places;
-            let mut positions = [0u32; 1424];
+            let mut positions = [0u32; JUMPS];
             whole_deck::put_positions(places, n.jumps, &mut positions);
             match final_object::finish(
                 k,
@@ -75,14 +93,14 @@ fn compile_statements(k: u32, deck: &[u8], output: &mut [u8]) -> Compiled
     ensures { λ r. ⌜ answer r (now (output .exit)) ≡ compiling (house1401 k) (now (deck .entry)) (now (output .entry)) ⌝ }
 {
     let mut items = [0u64; 2651];
-    let mut names = [0u64; 400];
-    let mut constants = [0u32; 256];
-    let mut elements = [0u32; 2304];
-    let mut dos = [0u32; 256];
-    let mut loops = [0u32; 128];
-    let mut code = [0u32; 4096];
-    let mut rows = [0u64; 2000];
-    let mut jumps = [0u32; 1424];
+    let mut names = [0u64; NAME_WORDS];
+    let mut constants = [0u32; CONSTANTS];
+    let mut elements = [0u32; ELEMENT_WORDS];
+    let mut dos = [0u32; DO_WORDS];
+    let mut loops = [0u32; LOOP_WORDS];
+    let mut code = [0u32; CODE];
+    let mut rows = [0u64; ROW_WORDS];
+    let mut jumps = [0u32; JUMPS];
     match take_deck::draft(
         k,
         deck,

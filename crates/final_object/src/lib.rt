@@ -10,7 +10,16 @@ ghost use Rattle.rules_deck.specs.Translation.{translate};
 ghost use Rattle.final_writer.specs.Answer.{answer, Low};
 ghost use Rattle.final_object.specs.Finishing.{Finishes, Finished};
 use final_writer::Wrote;
+use limits::CODE;
+use limits::EXITS;
+use limits::NAMES;
+use limits::STATEMENTS;
 use take_draft::Counts;
+
+// Words of the bodies of statements and of names.
+const LINE_WORDS: usize = 3 * STATEMENTS;
+
+const NAME_WORDS: usize = 5 * NAMES;
 
 // The draft's tables, with positions for the numbers in the jumps.
 pub fn finish(
@@ -31,7 +40,7 @@ pub fn finish(
 {
     let mut starts = [0u32; 401];
     final_addresses::addresses(rows, n.statements, loops, n.dos, jumps, &mut starts);
-    let mut settled = [0u32; 4096];
+    let mut settled = [0u32; CODE];
     let words = final_code::code(
         rows,
         n.statements,
@@ -42,12 +51,12 @@ pub fn finish(
         code,
         &mut settled,
     );
-    let mut exits = [0u32; 1024];
+    let mut exits = [0u32; EXITS];
     let exit_words = final_code::exits(rows, n.statements, jumps, &starts, &mut exits);
     final_lines::bodies(loops, n.dos, &starts, dos);
-    let mut table = [0u32; 1200];
+    let mut table = [0u32; LINE_WORDS];
     let line_words = final_lines::lines(rows, n.statements, &starts, &mut table);
-    let mut entries = [0u32; 500];
+    let mut entries = [0u32; NAME_WORDS];
     final_lines::names(names, n.names, &mut entries);
     let counts = [
         n.constants,

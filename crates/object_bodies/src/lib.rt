@@ -3,6 +3,13 @@ ghost use mathlib.Core.Path.{_≡_};
 ghost use Prim.Native.Nat.{_<_};
 ghost use lib.ListN.{getD};
 ghost use Rattle.object_bodies.specs.Edition.{count, sizes, mosts};
+use limits::CODE;
+use limits::CONSTANTS;
+use limits::DOS;
+use limits::ELEMENTS;
+use limits::EXITS;
+use limits::NAMES;
+use limits::STATEMENTS;
 
 pub const EDITION: u32 = 1;
 
@@ -25,7 +32,7 @@ pub const NAME: usize = 5;
 
 const SIZES: [usize; KINDS] = [1, ELEMENT, 1, LOOP, 1, LINE, NAME];
 
-const MOST: [usize; KINDS] = [256, 256, 1024, 64, 4096, 400, 100];
+const MOST: [usize; KINDS] = [CONSTANTS, ELEMENTS, EXITS, DOS, CODE, STATEMENTS, NAMES];
 
 pub fn entry_words(kind: usize) -> usize
     requires { ⌜ kind < count ⌝ }

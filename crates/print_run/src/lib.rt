@@ -8,6 +8,8 @@ ghost use Rattle.rules_program.specs.Program.{namesOf, printedObject};
 ghost use Rattle.rules_program.specs.Tidy.{TidyObject};
 ghost use Rattle.print_numbers.specs.Puts.{Puts};
 ghost use Rattle.print_run.specs.Printing.{mostPrinted, ranText, Zero};
+use limits::CELLS;
+use limits::STACK;
 use object_contents::Contents;
 use run_object::Ran;
 
@@ -35,7 +37,12 @@ fn print_ran(object: &[u8], ran: Ran, store: &[i64], out: &mut [u8]) -> usize
     print_names(object, store, out, at)
 }
 
-fn run_and_print(object: &[u8], store: &mut [i64], places: &mut [i64; 40], out: &mut [u8]) -> usize
+fn run_and_print(
+    object: &[u8],
+    store: &mut [i64],
+    places: &mut [i64; STACK],
+    out: &mut [u8],
+) -> usize
     requires { ⌜ TidyObject (now object) × Zero (now store) (now places) × (mostPrinted ≤ length (now out)) ⌝ }
     ensures { λ r. ⌜ Puts (printedObject (now (object .entry))) 0 (now (out .entry)) (now (out .exit)) r × (r ≤ mostPrinted) ⌝ }
 {
@@ -59,7 +66,7 @@ pub fn print_object(object: &[u8], out: &mut [u8]) -> usize
     requires { ⌜ TidyObject (now object) × (mostPrinted ≤ length (now out)) ⌝ }
     ensures { λ r. ⌜ Puts (printedObject (now (object .entry))) 0 (now (out .entry)) (now (out .exit)) r × (r ≤ mostPrinted) ⌝ }
 {
-    let mut store: [i64; 4096] = [0; 4096];
-    let mut places: [i64; 40] = [0; 40];
+    let mut store: [i64; CELLS] = [0; CELLS];
+    let mut places: [i64; STACK] = [0; STACK];
     run_and_print(object, &mut store, &mut places, out)
 }

@@ -5,11 +5,18 @@ ghost use lib.ListN.{length};
 ghost use Rattle.rules_shared.specs.House.{house1401};
 ghost use Rattle.rules_text.specs.Cards.{cardsOf, nothingRead, wrongFirst, wrongContinuation, wrongCard, cardByCard, carded};
 ghost use Rattle.read_deck_cards.specs.Judging.{judgedOf, afterOf};
+use limits::CARDS;
+use limits::DIGITS;
 use read_cards::Columns;
 use read_cards::Sequence;
 
 // Cards that may follow a statement's first.
 const CONTINUATIONS: u32 = 9;
+
+const STATEMENTS: u32 = limits::STATEMENTS as u32;
+
+// Bytes of the longest deck.
+const LONGEST: usize = 80 * CARDS;
 
 pub enum Judged {
     Refused { number: u32, place: u32 },
@@ -119,7 +126,7 @@ fn card_by_card(deck: &[u8]) -> Judged
 pub fn judge(k: u32, deck: &[u8]) -> Judged
     ensures { λ r. ⌜ r ≡ judgedOf (carded (house1401 k) (now (deck .entry))) ⌝ }
 {
-    if k < 1 || 9 < k {
+    if k < 1 || DIGITS < k {
         return Judged::Refused {
             number: 1,
             place: 0,
@@ -127,7 +134,7 @@ pub fn judge(k: u32, deck: &[u8]) -> Judged
     }
     let n = deck.len();
     // 512 cards of 80.
-    if n < 1 || n % 80 != 0 || 40960 < n {
+    if n < 1 || n % 80 != 0 || LONGEST < n {
         return Judged::Refused {
             number: 2,
             place: 0,
@@ -136,7 +143,7 @@ pub fn judge(k: u32, deck: &[u8]) -> Judged
     match card_by_card(deck) {
         Judged::Refused { number, place } => Judged::Refused { number, place },
         Judged::Statements(last) => {
-            if 400 < last.0 {
+            if STATEMENTS < last.0 {
                 return Judged::Refused {
                     number: 7,
                     place: 0,

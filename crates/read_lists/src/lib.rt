@@ -7,6 +7,8 @@ ghost use Rattle.rules_text.specs.Grammar.{arrayShape, readComputed, readDimens
 ghost use Rattle.read_items.specs.Parsed.{Put};
 ghost use Rattle.read_forms.specs.Statements.{Reads};
 ghost use Rattle.read_lists.specs.Lists.{ReadsArray, ReadsColumns, ReadsNumbers, ReadsArrays, EndsComputed};
+use limits::FEWEST_EXITS;
+use limits::MOST_EXITS;
 use read_forms::Computed;
 use read_forms::Dimension;
 use read_forms::Statement;
@@ -202,10 +204,10 @@ fn read_choice(text: &[u8], from: usize, exits: usize) -> Statement
     if at != text.len() {
         return Statement::Bad;
     }
-    if exits < 2 {
+    if exits < FEWEST_EXITS {
         return Statement::Bad;
     }
-    if 10 < exits {
+    if MOST_EXITS < exits {
         return Statement::Bad;
     }
     Statement::Computed(Computed { exits, name, sizes })

@@ -5,6 +5,7 @@ ghost use Prim.Native.Nat.{_+_, _≤_};
 ghost use lib.ListN.{length, drop};
 ghost use Rattle.rules_text.specs.Cards.{cardsOf, textColumns, readAs, following};
 ghost use Rattle.read_texts.specs.Taking.{Accepted, over, begins, skipped, added, punchedRaw, punchedText, Follows, Takes, Written};
+use limits::TEXT;
 use read_cards::Number;
 
 pub enum Taken {
@@ -44,7 +45,7 @@ fn first_from(deck: &[u8], card: usize) -> usize
 }
 
 // Columns 7-72 from `at` on.
-fn put(card: &[u8], raw: &mut [u8; 660], at: usize) -> usize
+fn put(card: &[u8], raw: &mut [u8; TEXT], at: usize) -> usize
     requires { ⌜ (length (now card) ≡ 80) × (at + length (textColumns (now card)) ≤ 660) ⌝ }
     ensures { λ r. ⌜ (r ≡ at + length (textColumns (now (card .entry)))) × (now (raw .exit) ≡ over at (textColumns (now (card .entry))) (now (raw .entry))) ⌝ }
 {
@@ -58,7 +59,7 @@ fn put(card: &[u8], raw: &mut [u8; 660], at: usize) -> usize
     n
 }
 
-fn put_added(card: &[u8], raw: &mut [u8; 660], at: usize) -> usize
+fn put_added(card: &[u8], raw: &mut [u8; TEXT], at: usize) -> usize
     requires { ⌜ (length (now card) ≡ 80) × (at + length (added (now card)) ≤ 660) ⌝ }
     ensures { λ r. ⌜ (r ≡ at + length (added (now (card .entry)))) × (now (raw .exit) ≡ over at (added (now (card .entry))) (now (raw .entry))) ⌝ }
 {
@@ -74,7 +75,7 @@ struct Reached {
 }
 
 // What is punched in the continuations from `card` on, put from `at` on.
-fn put_following(deck: &[u8], card: usize, raw: &mut [u8; 660], at: usize) -> Reached
+fn put_following(deck: &[u8], card: usize, raw: &mut [u8; TEXT], at: usize) -> Reached
     requires { ⌜ at + length (following (drop card (cardsOf (now deck)))) ≤ 660 ⌝ }
     ensures { λ r. ⌜ Follows (drop card (cardsOf (now (deck .entry)))) card (now (raw .entry)) (now (raw .exit)) at r ⌝ }
 {
@@ -93,7 +94,7 @@ fn put_following(deck: &[u8], card: usize, raw: &mut [u8; 660], at: usize) -> Re
 }
 
 // Of a deck that `judge` does not refuse: the first statement from `card` on, what is punched put at the start.
-pub fn columns(deck: &[u8], card: usize, raw: &mut [u8; 660]) -> Taken
+pub fn columns(deck: &[u8], card: usize, raw: &mut [u8; TEXT]) -> Taken
     requires { ⌜ Accepted (now deck) ⌝ }
     ensures { λ r. ⌜ Takes punchedRaw (now (deck .entry)) card (now (raw .entry)) (now (raw .exit)) r ⌝ }
 {
@@ -122,7 +123,7 @@ fn read_as(c: u8) -> u8
 }
 
 // The text of what is punched, put at the start: blanks gone.
-pub fn text_of(raw: &[u8], text: &mut [u8; 660]) -> usize
+pub fn text_of(raw: &[u8], text: &mut [u8; TEXT]) -> usize
     requires { ⌜ length (now raw) ≤ 660 ⌝ }
     ensures { λ r. ⌜ Written (now (raw .entry)) (now (text .entry)) (now (text .exit)) r ⌝ }
 {
@@ -140,11 +141,11 @@ pub fn text_of(raw: &[u8], text: &mut [u8; 660]) -> usize
 }
 
 // The same statement, its text put at the start.
-pub fn statement(deck: &[u8], card: usize, text: &mut [u8; 660]) -> Taken
+pub fn statement(deck: &[u8], card: usize, text: &mut [u8; TEXT]) -> Taken
     requires { ⌜ Accepted (now deck) ⌝ }
     ensures { λ r. ⌜ Takes punchedText (now (deck .entry)) card (now (text .entry)) (now (text .exit)) r ⌝ }
 {
-    let mut raw = [0u8; 660];
+    let mut raw = [0u8; TEXT];
     let Taken::Statement {
         number,
         length,

@@ -9,12 +9,13 @@ ghost use Rattle.number.specs.Code.{ruled, resultOf, Sized, Both};
 ghost use Rattle.rules_object.specs.Operations.{OP};
 ghost use Rattle.rules_object.specs.Machine.{cell};
 ghost use Rattle.run_arithmetic.specs.Performed.{after, next, pushed, popped, joined, negated, performed};
+use limits::STACK;
 use number::Rule;
 use number::Worked;
 use run_registers::Regs;
 use run_registers::Turn;
 
-pub fn push(r: Regs, stack: &mut [i64; 40], v: i64) -> Regs
+pub fn push(r: Regs, stack: &mut [i64; STACK], v: i64) -> Regs
     requires { ⌜ (r .height < 40) × (r .index < 4096) ⌝ }
     ensures { λ q. ⌜ ((so : List ℤ) → next q (now (stack .exit)) so ≡ pushed r (now (stack .entry)) so v) ⌝ }
 {
@@ -24,7 +25,7 @@ pub fn push(r: Regs, stack: &mut [i64; 40], v: i64) -> Regs
 }
 
 // The upper number goes into cell `a`.
-pub fn store_top(r: Regs, stack: &mut [i64; 40], store: &mut [i64], a: usize) -> Regs
+pub fn store_top(r: Regs, stack: &mut [i64; STACK], store: &mut [i64], a: usize) -> Regs
     requires { ⌜ (0 < r .height) × ((r .height ≤ 40) × ((r .index < 4096) × (a < length (now store)))) ⌝ }
     ensures { λ q. ⌜ next q (now (stack .exit)) (now (store .exit)) ≡ popped r (now (stack .entry)) (set (now (store .entry)) a (cell (now (stack .entry)) (r .height - 1))) (r .index + 1) ⌝ }
 {
@@ -36,7 +37,7 @@ pub fn store_top(r: Regs, stack: &mut [i64; 40], store: &mut [i64], a: usize) ->
 }
 
 // The two upper numbers become what was worked.
-fn join(r: Regs, stack: &mut [i64; 40], w: Worked) -> Turn
+fn join(r: Regs, stack: &mut [i64; STACK], w: Worked) -> Turn
     requires { ⌜ (1 < r .height) × ((r .height ≤ 40) × (r .index < 4096)) ⌝ }
     requires { ⌜ Sized (resultOf w) ⌝ }
     ensures { λ t. ⌜ ((so : List ℤ) → after t (now (stack .exit)) so ≡ joined (resultOf w) r (now (stack .entry)) so) ⌝ }
@@ -53,7 +54,7 @@ fn join(r: Regs, stack: &mut [i64; 40], w: Worked) -> Turn
     }
 }
 
-pub fn do_add(r: Regs, stack: &mut [i64; 40], rule: Rule) -> Turn
+pub fn do_add(r: Regs, stack: &mut [i64; STACK], rule: Rule) -> Turn
     requires { ⌜ (1 < r .height) × ((r .height ≤ 40) × (r .index < 4096)) ⌝ }
     requires { ⌜ Both (ruled rule) (cell (now stack) (r .height - 2)) (cell (now stack) (r .height - 1)) ⌝ }
     ensures { λ t. ⌜ ((so : List ℤ) → after t (now (stack .exit)) so ≡ performed (ruled rule) (OP add) r (now (stack .entry)) so) ⌝ }
@@ -65,7 +66,7 @@ pub fn do_add(r: Regs, stack: &mut [i64; 40], rule: Rule) -> Turn
     join(r, stack, number::add(rule, x, y))
 }
 
-pub fn do_sub(r: Regs, stack: &mut [i64; 40], rule: Rule) -> Turn
+pub fn do_sub(r: Regs, stack: &mut [i64; STACK], rule: Rule) -> Turn
     requires { ⌜ (1 < r .height) × ((r .height ≤ 40) × (r .index < 4096)) ⌝ }
     requires { ⌜ Both (ruled rule) (cell (now stack) (r .height - 2)) (cell (now stack) (r .height - 1)) ⌝ }
     ensures { λ t. ⌜ ((so : List ℤ) → after t (now (stack .exit)) so ≡ performed (ruled rule) (OP sub) r (now (stack .entry)) so) ⌝ }
@@ -77,7 +78,7 @@ pub fn do_sub(r: Regs, stack: &mut [i64; 40], rule: Rule) -> Turn
     join(r, stack, number::sub(rule, x, y))
 }
 
-pub fn do_mul(r: Regs, stack: &mut [i64; 40], rule: Rule) -> Turn
+pub fn do_mul(r: Regs, stack: &mut [i64; STACK], rule: Rule) -> Turn
     requires { ⌜ (1 < r .height) × ((r .height ≤ 40) × (r .index < 4096)) ⌝ }
     requires { ⌜ Both (ruled rule) (cell (now stack) (r .height - 2)) (cell (now stack) (r .height - 1)) ⌝ }
     ensures { λ t. ⌜ ((so : List ℤ) → after t (now (stack .exit)) so ≡ performed (ruled rule) (OP mul) r (now (stack .entry)) so) ⌝ }
@@ -89,7 +90,7 @@ pub fn do_mul(r: Regs, stack: &mut [i64; 40], rule: Rule) -> Turn
     join(r, stack, number::mul(rule, x, y))
 }
 
-pub fn do_div(r: Regs, stack: &mut [i64; 40], rule: Rule) -> Turn
+pub fn do_div(r: Regs, stack: &mut [i64; STACK], rule: Rule) -> Turn
     requires { ⌜ (1 < r .height) × ((r .height ≤ 40) × (r .index < 4096)) ⌝ }
     requires { ⌜ Both (ruled rule) (cell (now stack) (r .height - 2)) (cell (now stack) (r .height - 1)) ⌝ }
     ensures { λ t. ⌜ ((so : List ℤ) → after t (now (stack .exit)) so ≡ performed (ruled rule) (OP div) r (now (stack .entry)) so) ⌝ }
@@ -101,7 +102,7 @@ pub fn do_div(r: Regs, stack: &mut [i64; 40], rule: Rule) -> Turn
     join(r, stack, number::div(rule, x, y))
 }
 
-pub fn do_neg(r: Regs, stack: &mut [i64; 40]) -> Regs
+pub fn do_neg(r: Regs, stack: &mut [i64; STACK]) -> Regs
     requires { ⌜ (0 < r .height) × ((r .height ≤ 40) × (r .index < 4096)) ⌝ }
     requires { ⌜ natAbs (cell (now stack) (r .height - 1)) < 2 ^ 63 ⌝ }
     ensures { λ q. ⌜ ((so : List ℤ) → next q (now (stack .exit)) so ≡ negated r (now (stack .entry)) so) ⌝ }

@@ -11,6 +11,7 @@ ghost use Rattle.object_contents.specs.Layout.{elementAt, loopAt};
 ghost use Rattle.run_subscripts.specs.Elements.{ElementIn};
 ghost use Rattle.run_arithmetic.specs.Performed.{after, next, popped, loaded, put, branched, begun, ended};
 ghost use Rattle.run_entries.specs.Entries.{LoopIn, chosen, signOf};
+use limits::STACK;
 use run_registers::Regs;
 use run_registers::Turn;
 use run_subscripts::Place;
@@ -25,7 +26,7 @@ pub fn sign(z: i64) -> usize
 }
 
 // Three exits stand at byte `b`.
-pub fn do_br3(o: &[u8], b: usize, r: Regs, stack: &mut [i64; 40]) -> Regs
+pub fn do_br3(o: &[u8], b: usize, r: Regs, stack: &mut [i64; STACK]) -> Regs
     requires { ⌜ (0 < r .height) × (r .height ≤ 40) ⌝ }
     requires { ⌜ b + 12 ≤ length (now o) ⌝ }
     ensures { λ q. ⌜ ((so : List ℤ) → next q (now (stack .exit)) so ≡ popped r (now (stack .entry)) so (wordAt (now (o .entry)) (b + 4 * signOf (cell (now (stack .entry)) (r .height - 1))))) ⌝ }
@@ -39,7 +40,7 @@ pub fn do_br3(o: &[u8], b: usize, r: Regs, stack: &mut [i64; 40]) -> Regs
 }
 
 // The count of exits stands at byte `b`, the exits after it.
-pub fn do_brc(o: &[u8], b: usize, r: Regs, stack: &mut [i64; 40]) -> Turn
+pub fn do_brc(o: &[u8], b: usize, r: Regs, stack: &mut [i64; STACK]) -> Turn
     requires { ⌜ (0 < r .height) × (r .height ≤ 40) ⌝ }
     requires { ⌜ b + 4 * wordAt (now o) b + 4 ≤ length (now o) ⌝ }
     ensures { λ t. ⌜ ((so : List ℤ) → after t (now (stack .exit)) so ≡ branched (chosen (now (o .entry)) b (wordAt (now (o .entry)) b) (cell (now (stack .entry)) (r .height - 1))) r (now (stack .entry)) so) ⌝ }
@@ -59,7 +60,7 @@ pub fn do_brc(o: &[u8], b: usize, r: Regs, stack: &mut [i64; 40]) -> Turn
 }
 
 // Sets variable, limit and step, in this order.
-pub fn do_doi(o: &[u8], b: usize, r: Regs, stack: &mut [i64; 40], store: &mut [i64]) -> Turn
+pub fn do_doi(o: &[u8], b: usize, r: Regs, stack: &mut [i64; STACK], store: &mut [i64]) -> Turn
     requires { ⌜ LoopIn (now o) b (now store) ⌝ }
     requires { ⌜ (2 < r .height) × ((r .height ≤ 40) × (r .index < 4096)) ⌝ }
     ensures { λ t. ⌜ after t (now (stack .exit)) (now (store .exit)) ≡ begun (allPositive (cell (now (stack .entry)) (r .height - 3)) (cell (now (stack .entry)) (r .height - 2)) (cell (now (stack .entry)) (r .height - 1))) (loopAt (now (o .entry)) b) r (now (stack .entry)) (now (store .entry)) ⌝ }
@@ -115,7 +116,7 @@ pub fn do_doe(o: &[u8], b: usize, r: Regs, store: &mut [i64]) -> Turn
     Turn::Next(run_registers::onward(r, r.height))
 }
 
-pub fn do_lde(o: &[u8], b: usize, r: Regs, stack: &mut [i64; 40], store: &[i64]) -> Turn
+pub fn do_lde(o: &[u8], b: usize, r: Regs, stack: &mut [i64; STACK], store: &[i64]) -> Turn
     requires { ⌜ ElementIn (now o) b (now store) ⌝ }
     requires { ⌜ (r .height < 40) × (r .index < 4096) ⌝ }
     ensures { λ t. ⌜ after t (now (stack .exit)) (now (store .entry)) ≡ loaded (placeOf (now (store .entry)) (elementAt (now (o .entry)) b)) (wordAt (now (o .entry)) b) r (now (stack .entry)) (now (store .entry)) ⌝ }
@@ -128,7 +129,7 @@ pub fn do_lde(o: &[u8], b: usize, r: Regs, stack: &mut [i64; 40], store: &[i64])
     Turn::Next(run_arithmetic::push(r, stack, v))
 }
 
-pub fn do_ste(o: &[u8], b: usize, r: Regs, stack: &mut [i64; 40], store: &mut [i64]) -> Turn
+pub fn do_ste(o: &[u8], b: usize, r: Regs, stack: &mut [i64; STACK], store: &mut [i64]) -> Turn
     requires { ⌜ ElementIn (now o) b (now store) ⌝ }
     requires { ⌜ (0 < r .height) × ((r .height ≤ 40) × (r .index < 4096)) ⌝ }
     ensures { λ t. ⌜ after t (now (stack .exit)) (now (store .exit)) ≡ put (placeOf (now (store .entry)) (elementAt (now (o .entry)) b)) (wordAt (now (o .entry)) b) r (now (stack .entry)) (now (store .entry)) ⌝ }

@@ -7,12 +7,14 @@ ghost use Rattle.rules_object.specs.Object.{ruleOf};
 ghost use Rattle.rules_object.specs.Operations.{operationAt};
 ghost use Rattle.object_contents.specs.Layout.{objectAt, Placed};
 ghost use Rattle.run_guards.specs.Guarding.{roomFor, guardOf, Sees};
+use limits::CODE;
+use limits::STACK;
 use number::Rule;
 use object_contents::Layout;
 use run_registers::Regs;
 
 // For each instruction 1 more than a height at which all is right, or 0.
-pub type Seen = [u8; 4096];
+pub type Seen = [u8; CODE];
 
 fn wide(n: u8) -> usize
     ensures { λ r. ⌜ r ≡ n ⌝ }
@@ -28,7 +30,7 @@ fn room(op: usize, h: usize) -> u32
     if h < pops {
         return object_opcodes::BAD_STACK;
     }
-    if 40 < h - pops + wide(check_operands::pushes_of(op)) {
+    if STACK < h - pops + wide(check_operands::pushes_of(op)) {
         object_opcodes::BAD_STACK
     } else {
         0

@@ -13,9 +13,12 @@ ghost use Rattle.object_contents.specs.Layout.{objectAt};
 ghost use Rattle.run_registers.specs.Registers.{lentOf};
 ghost use Rattle.run_lent.specs.Lending.{lent, numbered, refusedStore, Cleared};
 use check_meeting::Table;
+use limits::STACK;
 use number::Rule;
 use object_contents::Layout;
 use run_registers::Regs;
+
+const HIGHEST: u32 = STACK as u32;
 
 // The first n fit.
 fn fit(numbers: &[i64], n: usize, rule: Rule) -> bool
@@ -67,7 +70,7 @@ fn state_right(
         return false;
     }
     let h = wide(table[i]);
-    if 40 < h {
+    if HIGHEST < h {
         return false;
     }
     if height != h {
@@ -110,7 +113,7 @@ pub fn clear(places: &mut [i64], height: usize)
     ensures { λ _. ⌜ Cleared (now (places .entry)) (now (places .exit)) height ⌝ }
 {
     let mut i = height;
-    while i < 40 {
+    while i < STACK {
         places[i] = 0;
         i += 1;
     }

@@ -13,6 +13,8 @@ ghost use Rattle.run_arithmetic.specs.Performed.{after, performed};
 ghost use Rattle.run_operations.specs.Ready.{Held};
 ghost use Rattle.run_guards.specs.Guarding.{guardOf, Sees};
 ghost use Rattle.run_machine.specs.Running.{answer};
+use limits::CODE;
+use limits::STACK;
 use number::Rule;
 use object_contents::Layout;
 use run_guards::Seen;
@@ -26,7 +28,14 @@ pub struct Ran {
 }
 
 // One instruction, where the guard finds nothing wrong.
-fn step(o: &[u8], e: Layout, rule: Rule, r: Regs, stack: &mut [i64; 40], store: &mut [i64]) -> Turn
+fn step(
+    o: &[u8],
+    e: Layout,
+    rule: Rule,
+    r: Regs,
+    stack: &mut [i64; STACK],
+    store: &mut [i64],
+) -> Turn
     requires { ⌜ Held e (now o) rule r (now stack) (now store) ⌝ }
     requires { ⌜ guardOf (objectAt e (now o)) (r .index) (r .height) ≡ 0 ⌝ }
     ensures { λ t. ⌜ after t (now (stack .exit)) (now (store .exit)) ≡ performed (ruleOf (objectAt e (now (o .entry)))) (instruction (objectAt e (now (o .entry))) (r .index)) r (now (stack .entry)) (now (store .entry)) ⌝ }
@@ -44,7 +53,7 @@ fn turns(
     e: Layout,
     rule: Rule,
     start: Regs,
-    stack: &mut [i64; 40],
+    stack: &mut [i64; STACK],
     store: &mut [i64],
     allowance: u32,
     seen: &mut Seen,
@@ -93,7 +102,7 @@ pub fn run(
     e: Layout,
     rule: Rule,
     start: Regs,
-    stack: &mut [i64; 40],
+    stack: &mut [i64; STACK],
     store: &mut [i64],
     allowance: u32,
 ) -> Ran
@@ -101,7 +110,7 @@ pub fn run(
     requires { ⌜ Faultless (objectAt e (now o)) (stateOf start (now stack) (now store)) ⌝ }
     ensures { λ q. ⌜ answer (objectAt e (now (o .entry))) q (now (stack .exit)) (now (store .exit)) ≡ runFrom (objectAt e (now (o .entry))) (book.step (objectAt e (now (o .entry)))) allowance (stateOf start (now (stack .entry)) (now (store .entry))) ⌝ }
 {
-    let mut seen = [0u8; 4096];
+    let mut seen = [0u8; CODE];
     turns(false, o, e, rule, start, stack, store, allowance, &mut seen)
 }
 
@@ -111,14 +120,14 @@ pub fn bench(
     e: Layout,
     rule: Rule,
     start: Regs,
-    stack: &mut [i64; 40],
+    stack: &mut [i64; STACK],
     store: &mut [i64],
     allowance: u32,
 ) -> Ran
     requires { ⌜ Held e (now o) rule start (now stack) (now store) ⌝ }
     ensures { λ q. ⌜ answer (objectAt e (now (o .entry))) q (now (stack .exit)) (now (store .exit)) ≡ runFrom (objectAt e (now (o .entry))) (benchStep (objectAt e (now (o .entry)))) allowance (stateOf start (now (stack .entry)) (now (store .entry))) ⌝ }
 {
-    let mut seen = [0u8; 4096];
+    let mut seen = [0u8; CODE];
     turns(true, o, e, rule, start, stack, store, allowance, &mut seen)
 }
 

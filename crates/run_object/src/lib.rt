@@ -15,6 +15,8 @@ ghost use Rattle.run_machine.specs.Running.{answer};
 ghost use Rattle.run_object.specs.Outcomes.{ranOf, refusedRan, Ends};
 use check_meeting::NEVER;
 use check_meeting::Table;
+use limits::CODE;
+use limits::STACK;
 use object_contents::Contents;
 use object_contents::Layout;
 
@@ -79,7 +81,7 @@ fn run_passed(
     index: &mut u32,
     height: &mut u32,
     mark: &mut u32,
-    places: &mut [i64; 40],
+    places: &mut [i64; STACK],
     allowance: u32,
 ) -> Ran
     requires { ⌜ Placed e (now object) ⌝ }
@@ -106,7 +108,7 @@ fn run_with(
     index: &mut u32,
     height: &mut u32,
     mark: &mut u32,
-    places: &mut [i64; 40],
+    places: &mut [i64; STACK],
     allowance: u32,
     table: &mut Table,
 ) -> Ran
@@ -138,12 +140,12 @@ pub fn run(
     index: &mut u32,
     height: &mut u32,
     mark: &mut u32,
-    places: &mut [i64; 40],
+    places: &mut [i64; STACK],
     allowance: u32,
 ) -> Ran
     ensures { λ r. ⌜ Ends (running (now (object .entry)) (now (store .entry)) (lent (now (index .entry)) (now (height .entry)) (now (mark .entry)) (now (places .entry))) allowance) r (lent (now (index .exit)) (now (height .exit)) (now (mark .exit)) (now (places .exit))) (now (store .exit)) ⌝ }
 {
-    let mut table = [NEVER; 4096];
+    let mut table = [NEVER; CODE];
     run_with(
         object,
         store,
@@ -166,7 +168,7 @@ fn bench_read(
     index: &mut u32,
     height: &mut u32,
     mark: &mut u32,
-    places: &mut [i64; 40],
+    places: &mut [i64; STACK],
     allowance: u32,
 ) -> Ran
     requires { ⌜ Placed e (now object) ⌝ }
@@ -193,7 +195,7 @@ pub fn bench(
     index: &mut u32,
     height: &mut u32,
     mark: &mut u32,
-    places: &mut [i64; 40],
+    places: &mut [i64; STACK],
     allowance: u32,
 ) -> Ran
     ensures { λ r. ⌜ Ends (benching (now (object .entry)) (now (store .entry)) (lent (now (index .entry)) (now (height .entry)) (now (mark .entry)) (now (places .entry))) allowance) r (lent (now (index .exit)) (now (height .exit)) (now (mark .exit)) (now (places .exit))) (now (store .exit)) ⌝ }

@@ -6,6 +6,7 @@ ghost use Rattle.rules_object.specs.Operations.{meant};
 ghost use Rattle.object_contents.specs.Layout.{objectAt};
 ghost use Rattle.run_arithmetic.specs.Performed.{after, performed};
 ghost use Rattle.run_operations.specs.Ready.{Held, Ready};
+use limits::STACK;
 use number::Rule;
 use run_registers::Regs;
 use run_registers::Turn;
@@ -18,7 +19,7 @@ pub fn perform(
     e: object_contents::Layout,
     rule: Rule,
     r: Regs,
-    stack: &mut [i64; 40],
+    stack: &mut [i64; STACK],
     store: &mut [i64],
 ) -> Turn
     requires { ⌜ Held e (now o) rule r (now stack) (now store) ⌝ }

@@ -5,7 +5,10 @@ ghost use lib.ListN.{length};
 ghost use Rattle.rules_deck.specs.Deck as book;
 ghost use Rattle.take_arrays.specs.One.{EndsInF, isNamed, someWords, IsNew, RightArray, TakesArray};
 ghost use Rattle.take_arrays.specs.Arrays.{Dimensions, Declares};
+use limits::NAMES;
 use take_name_table::Grown;
+
+const CELLS: u64 = limits::CELLS as u64;
 
 // ---- 15
 
@@ -112,18 +115,18 @@ fn take_array(
     requires { ⌜ (length (now table) ≡ 400) × ((n ≤ 100) × (cells ≤ 4096)) ⌝ }
     ensures { λ r. ⌜ TakesArray (now (table .entry)) (now (table .exit)) n cells name rows columns r ⌝ }
 {
-    if 4096 < rows {
+    if CELLS < rows {
         return Grown::Full;
     }
-    if 4096 < columns {
+    if CELLS < columns {
         return Grown::Full;
     }
     let size = rows * width(columns);
     let taken = cells as u64 + size;
-    if 4096 < taken {
+    if CELLS < taken {
         return Grown::Full;
     }
-    if n == 100 {
+    if n == NAMES {
         return Grown::Full;
     }
     take_name_table::put_entry(table, n, name, cells as u64, rows, columns);

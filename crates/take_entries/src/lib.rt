@@ -8,6 +8,7 @@ ghost use Rattle.rules_deck.specs.Translation.{poolAt};
 ghost use Rattle.read_items.specs.Parsed.{Put};
 ghost use Rattle.take_entries.specs.Pooling.{Pools};
 ghost use Rattle.take_entries.specs.Places.{entryWords, Signed, LinearOf, SecondOf, PutsElement};
+use limits::CONSTANTS;
 use read_elements::Element;
 use read_elements::Subscript;
 use read_elements::Subscripts;
@@ -51,7 +52,7 @@ pub fn pool(constants: &mut [u32], n: usize, value: u32) -> Pooled
     if i < n {
         return Pooled::At { index: i, count: n };
     }
-    if n == 256 {
+    if n == CONSTANTS {
         return Pooled::Full;
     }
     constants[n] = value;

@@ -5,6 +5,8 @@ ghost use lib.ListN.{length};
 ghost use Rattle.take_draft.specs.Kept.{Fit};
 ghost use Rattle.take_instructions.specs.Emits.{Grows, Appends};
 ghost use Rattle.take_instructions.specs.Contracts.{EmitsJump, EmitsHalt, EmitsThree, EmitsChoose, EmitsEnter};
+use limits::CODE;
+use limits::EXITS;
 use read_cards::Number;
 use take_draft::Counts;
 
@@ -19,7 +21,7 @@ pub fn append(code: &mut [u32], n: Counts, operation: u32, operand: u32) -> Emit
     requires { ⌜ (length (now code) ≡ 4096) × (Fit n × (operation < 256)) ⌝ }
     ensures { λ r. ⌜ Appends (now (code .entry)) (now (code .exit)) n operation operand r ⌝ }
 {
-    if 4096 <= n.code + n.dos {
+    if CODE <= n.code + n.dos {
         return Emitted::Full;
     }
     let at = n.code;
@@ -65,7 +67,7 @@ pub fn choose(count: usize, code: &mut [u32], n: Counts) -> Emitted
     ensures { λ r. ⌜ Grows 0 n r × EmitsChoose count (now (code .entry)) (now (code .exit)) n r ⌝ }
 {
     let exits = n.exits;
-    if 1024 - exits <= count {
+    if EXITS - exits <= count {
         return Emitted::Full;
     }
     let mut m = n;

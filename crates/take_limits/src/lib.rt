@@ -5,6 +5,7 @@ ghost use Prim.Native.Nat.{_≤_};
 ghost use lib.ListN.{length, take};
 ghost use Rattle.rules_shared.specs.Lists.{all};
 ghost use Rattle.take_limits.specs.Tests.{rightNumber, ofNumber, ofSizes, ofStatement, exitsIn};
+use limits::PARENTHESES;
 use read_cards::Number;
 use read_forms::Statement;
 use read_tokens::Sizes;
@@ -57,7 +58,7 @@ fn of_sizes(k: u32, sizes: Sizes, numbers: bool) -> u32
     if !numbers {
         return 13;
     }
-    if 16 < sizes.levels {
+    if PARENTHESES < sizes.levels {
         return 14;
     }
     0

@@ -7,6 +7,8 @@ ghost use Rattle.read_items.specs.Parsed.{Put};
 ghost use Rattle.take_name_table.specs.Find.{ofKind, isEntry, firstEntry, itemLength};
 ghost use Rattle.take_name_table.specs.Lookups.{Holds, CellOf, ArrayOf};
 
+const CELLS: u64 = limits::CELLS as u64;
+
 // An array's first cell and dimensions; 0 columns for one dimension.
 pub struct Entry {
     pub first: u32,
@@ -98,9 +100,9 @@ pub fn array_of(table: &[u64], n: usize, name: u64) -> Entry
         };
     }
     let at = 4 * i;
-    let first = small(table[at + 1], 4096);
-    let rows = small(table[at + 2], 4096);
-    let columns = small(table[at + 3], 4096);
+    let first = small(table[at + 1], CELLS);
+    let rows = small(table[at + 2], CELLS);
+    let columns = small(table[at + 3], CELLS);
     Entry {
         first,
         rows,

@@ -4,6 +4,8 @@ ghost use Prim.Native.Nat.{_≤_, _<_};
 ghost use lib.ListN.{length};
 ghost use Rattle.take_draft.specs.Parts.{Worded};
 ghost use Rattle.take_names.specs.Takes.{TakesName, TakesAny, TakesItem, Appears};
+use limits::CELLS;
+use limits::NAMES;
 use take_name_table::Grown;
 
 fn take_name(table: &mut [u64], n: usize, cells: usize, name: u64) -> Grown
@@ -13,10 +15,10 @@ fn take_name(table: &mut [u64], n: usize, cells: usize, name: u64) -> Grown
     if take_name_table::holds(table, n, name, false) {
         return Grown::Names { names: n, cells };
     }
-    if n == 100 {
+    if n == NAMES {
         return Grown::Full;
     }
-    if cells == 4096 {
+    if cells == CELLS {
         return Grown::Full;
     }
     take_name_table::put_entry(table, n, name, cells as u64, 0, 0);

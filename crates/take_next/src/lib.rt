@@ -1,6 +1,7 @@
 // A deck's next statement: taken from the cards, read, judged by 6 and 10 to 18, and kept in the tables that are lent.
 ghost use Rattle.take_draft.specs.Kept.{asWords};
 ghost use Rattle.take_next.specs.Steps.{Ahead, Continues};
+use limits::TEXT;
 use read_texts::Taken;
 use take_draft::Counts;
 use take_planned::Outcome;
@@ -31,7 +32,7 @@ pub fn take_next(
     requires { ⌜ Ahead k (now deck) card (now items) (asWords (now names) (now constants) (now elements) (now dos) (now loops) (now code) (now rows) (now jumps)) n ⌝ }
     ensures { λ r. ⌜ Continues k (now (deck .entry)) card n (asWords (now (names .entry)) (now (constants .entry)) (now (elements .entry)) (now (dos .entry)) (now (loops .entry)) (now (code .entry)) (now (rows .entry)) (now (jumps .entry))) (asWords (now (names .exit)) (now (constants .exit)) (now (elements .exit)) (now (dos .exit)) (now (loops .exit)) (now (code .exit)) (now (rows .exit)) (now (jumps .exit))) r ⌝ }
 {
-    let mut text = [0u8; 660];
+    let mut text = [0u8; TEXT];
     let Taken::Statement {
         number,
         length,

@@ -7,6 +7,7 @@ ghost use Rattle.take_draft.specs.Kept.{Fit};
 ghost use Rattle.take_instructions.specs.Emits.{Grows};
 ghost use Rattle.take_instructions.specs.Contracts.{Lent};
 ghost use Rattle.take_operands.specs.Operands.{ElementAt, EmitsConstant, EmitsRefer, EmitsItem, EmitsItems, EmitsStore, EmitsLoad};
+use limits::ELEMENTS;
 use read_elements::Element;
 use read_elements::Subscript;
 use read_elements::Subscripts;
@@ -50,7 +51,7 @@ fn refer(
     ensures { λ r. ⌜ Grows 0 n r × EmitsRefer operation element (now (names .entry)) (now (elements .entry)) (now (code .entry)) (now (elements .exit)) (now (code .exit)) n r ⌝ }
 {
     let at = n.elements;
-    if at == 256 {
+    if at == ELEMENTS {
         return Emitted::Full;
     }
     take_entries::put_element(names, n.names, element, elements, at);

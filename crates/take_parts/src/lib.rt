@@ -6,6 +6,7 @@ ghost use Rattle.take_instructions.specs.Contracts.{Lent};
 ghost use Rattle.take_marks.specs.Marks.{Jumping};
 ghost use Rattle.take_plans.specs.Plans.{Readied};
 ghost use Rattle.take_parts.specs.Steps.{Onward, Fills, Entering, Counted, Enters, Marked};
+use limits::DOS;
 use read_cards::Number;
 use take_draft::Counts;
 use take_instructions::Emitted;
@@ -49,7 +50,7 @@ pub fn enter_do(p: Plan, names: &[u64], dos: &mut [u32], loops: &mut [u32], m: C
     if p.kind != DO {
         return Emitted::Counts(m);
     }
-    if 64 <= m.dos {
+    if DOS <= m.dos {
         return Emitted::Full;
     }
     let target = p.target;

@@ -12,6 +12,8 @@ ghost use Rattle.whole_numbers.specs.Numbers.{foundOf};
 ghost use Rattle.whole_ranges.specs.Ranges.{Ranged};
 ghost use Rattle.whole_deck.specs.Whole.{Sketched, Whole, refusalOf, Judged};
 ghost use Rattle.whole_deck.specs.Parts.{ByNumber, rangesRefused, Inside, Positioned};
+use limits::JUMPS;
+use limits::STATEMENTS;
 use read_cards::Number;
 use read_cards::Sequence;
 use whole_numbers::Found;
@@ -50,15 +52,15 @@ fn or_else(a: Verdict, b: Verdict) -> Verdict
 // An answer, and where it is right the place of every number that is jumped to.
 pub struct Placed {
     pub verdict: Verdict,
-    pub places: [Sequence; 1424],
+    pub places: [Sequence; JUMPS],
 }
 
 // 20 to 22, the lowest first.
 fn judge_numbers(
     rows: &[u64],
-    numbers: [Number; 400],
+    numbers: [Number; STATEMENTS],
     count: usize,
-    jumps: [Number; 1424],
+    jumps: [Number; JUMPS],
     many: usize,
 ) -> Placed
     requires { ⌜ RowsFit (now rows) count × ((many ≡ startOf (now rows) count) × (many ≤ 1424)) ⌝ }
@@ -76,7 +78,7 @@ fn judge_numbers(
 }
 
 // 23 to 25.
-fn judge_ranges(rows: &[u64], count: usize, loops: Loops, places: [Sequence; 1424]) -> Verdict
+fn judge_ranges(rows: &[u64], count: usize, loops: Loops, places: [Sequence; JUMPS]) -> Verdict
     requires { ⌜ Ranged (now rows) count loops ⌝ }
     ensures { λ r. ⌜ refusalOf r ≡ rangesRefused (now (rows .entry)) count loops places ⌝ }
 {
@@ -114,7 +116,7 @@ pub fn judge(
 }
 
 // The places as words, from 0 on: what the code is settled by.
-pub fn put_positions(places: [Sequence; 1424], many: usize, words: &mut [u32])
+pub fn put_positions(places: [Sequence; JUMPS], many: usize, words: &mut [u32])
     requires { ⌜ Inside places many × (length (now words) ≡ 1424) ⌝ }
     ensures { λ _. ⌜ Positioned places many (now (words .exit)) ⌝ }
 {

@@ -4,6 +4,8 @@ ghost use Prim.Native.Nat.{suc, _*_, _≤_, _<_};
 ghost use lib.ListN.{length};
 ghost use Rattle.whole_tables.specs.Rows.{startOf};
 ghost use Rattle.whole_numbers.specs.Numbers.{firstFrom, foundOf, placeOf, endRight, lastEnds, misplacedEnd, ownRight, numberRight, past, Resolves};
+use limits::JUMPS;
+use limits::STATEMENTS;
 use read_cards::Number;
 use read_cards::Sequence;
 use take_kinds::DIMENSION;
@@ -16,7 +18,7 @@ pub enum Found {
 }
 
 // The first statement with this number.
-fn place_of(numbers: [Number; 400], count: usize, number: Number) -> Found
+fn place_of(numbers: [Number; STATEMENTS], count: usize, number: Number) -> Found
     requires { ⌜ count ≤ 400 ⌝ }
     ensures { λ r. ⌜ foundOf r ≡ placeOf numbers count (number .0) ⌝ }
 {
@@ -93,7 +95,7 @@ fn own_right(first: Found, here: Sequence, kind: u64) -> bool
     }
 }
 
-pub fn misnumbered(rows: &[u64], numbers: [Number; 400], count: usize) -> Found
+pub fn misnumbered(rows: &[u64], numbers: [Number; STATEMENTS], count: usize) -> Found
     requires { ⌜ (5 * count ≤ length (now rows)) × (count ≤ 400) ⌝ }
     ensures { λ r. ⌜ foundOf r ≡ firstFrom (numberRight (now (rows .entry)) numbers count) suc count 0 ⌝ }
 {
@@ -116,16 +118,21 @@ pub fn misnumbered(rows: &[u64], numbers: [Number; 400], count: usize) -> Found
 
 // The statement of each number that is jumped to, up to the first that no statement has.
 pub struct Resolved {
-    pub places: [Sequence; 1424],
+    pub places: [Sequence; JUMPS],
     pub known: usize,
 }
 
 // The only way from a number to a place.
-pub fn resolve(numbers: [Number; 400], count: usize, jumps: [Number; 1424], many: usize) -> Resolved
+pub fn resolve(
+    numbers: [Number; STATEMENTS],
+    count: usize,
+    jumps: [Number; JUMPS],
+    many: usize,
+) -> Resolved
     requires { ⌜ (count ≤ 400) × (many ≤ 1424) ⌝ }
     ensures { λ r. ⌜ Resolves numbers count jumps many r ⌝ }
 {
-    let mut places = [Sequence(0); 1424];
+    let mut places = [Sequence(0); JUMPS];
     let mut k: usize = 0;
     while k < many {
         let number = jumps[k];

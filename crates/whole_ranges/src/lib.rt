@@ -5,12 +5,12 @@ ghost use Prim.Native.Nat.{suc, _+_, _*_, _≤_, _<_};
 ghost use lib.ListN.{length};
 ghost use Rattle.whole_numbers.specs.Numbers.{allFrom, countFrom, firstFrom, foundOf};
 ghost use Rattle.whole_ranges.specs.Ranges.{doAt, Ranged, covers, apart, doRight, exitsAt, staysOut, jumpsRight, setRight};
+use limits::JUMPS;
+use limits::NESTING;
 use read_cards::Sequence;
 use take_kinds::DO;
 use whole_numbers::Found;
 use whole_tables::Loops;
-
-const NESTING: usize = 8;
 
 // ---- 23
 
@@ -117,7 +117,7 @@ fn exits_of(rows: &[u64], q: usize) -> usize
     whole_tables::jumps_of(rows, q)
 }
 
-pub fn wrong_jump(rows: &[u64], count: usize, loops: Loops, places: [Sequence; 1424]) -> Found
+pub fn wrong_jump(rows: &[u64], count: usize, loops: Loops, places: [Sequence; JUMPS]) -> Found
     requires { ⌜ Ranged (now rows) count loops ⌝ }
     ensures { λ r. ⌜ foundOf r ≡ firstFrom (jumpsRight (now (rows .entry)) loops places) suc count 0 ⌝ }
 {

@@ -4,6 +4,9 @@ ghost use Prim.Native.Nat.{suc, _+_, _*_, _^_, _≤_, _<_};
 ghost use lib.ListN.{length};
 ghost use Rattle.whole_tables.specs.Rows.{numberAt, kindAt, setAt, jumpsAt, setsAt};
 ghost use Rattle.whole_tables.specs.Tables.{RowsFit, NumbersOf, Wanted, LoopsFit, LoopsOf};
+use limits::DOS;
+use limits::JUMPS;
+use limits::STATEMENTS;
 use read_cards::Number;
 use read_cards::Sequence;
 
@@ -64,11 +67,11 @@ pub fn jumps_of(rows: &[u64], q: usize) -> usize
 // ---- tables
 
 // Each statement's number, 0 where none is punched.
-pub fn numbers(rows: &[u64], count: usize) -> [Number; 400]
+pub fn numbers(rows: &[u64], count: usize) -> [Number; STATEMENTS]
     requires { ⌜ RowsFit (now rows) count ⌝ }
     ensures { λ r. ⌜ NumbersOf (now (rows .entry)) count r ⌝ }
 {
-    let mut table = [Number(0); 400];
+    let mut table = [Number(0); STATEMENTS];
     let mut q: usize = 0;
     while q < count {
         table[q] = number_of(rows, q);
@@ -78,11 +81,11 @@ pub fn numbers(rows: &[u64], count: usize) -> [Number; 400]
 }
 
 // The numbers that statements jump to, a DO's last among them.
-pub fn wanted(words: &[u32], many: usize) -> [Number; 1424]
+pub fn wanted(words: &[u32], many: usize) -> [Number; JUMPS]
     requires { ⌜ (many ≤ 1424) × (many ≤ length (now words)) ⌝ }
     ensures { λ r. ⌜ Wanted (now (words .entry)) many r ⌝ }
 {
-    let mut table = [Number(0); 1424];
+    let mut table = [Number(0); JUMPS];
     let mut k: usize = 0;
     while k < many {
         table[k] = Number(words[k]);
@@ -93,18 +96,18 @@ pub fn wanted(words: &[u32], many: usize) -> [Number; 1424]
 
 // The DOs and their last statements.
 pub struct Loops {
-    pub at: [Sequence; 64],
-    pub last: [Sequence; 64],
+    pub at: [Sequence; DOS],
+    pub last: [Sequence; DOS],
     pub count: usize,
 }
 
 // Two words a DO: its position, and the index of its last statement among the jumps.
-pub fn loops_of(words: &[u32], dos: usize, places: [Sequence; 1424]) -> Loops
+pub fn loops_of(words: &[u32], dos: usize, places: [Sequence; JUMPS]) -> Loops
     requires { ⌜ LoopsFit (now words) dos ⌝ }
     ensures { λ r. ⌜ LoopsOf (now (words .entry)) dos places r ⌝ }
 {
-    let mut at = [Sequence(0); 64];
-    let mut last = [Sequence(0); 64];
+    let mut at = [Sequence(0); DOS];
+    let mut last = [Sequence(0); DOS];
     let mut i: usize = 0;
     while i < dos {
         at[i] = sequence_of(words[2 * i] as usize);
