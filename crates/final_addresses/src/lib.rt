@@ -1,11 +1,10 @@
 // The address of every statement: the words of code before it, a DOE among them for each DO that ends there.
 ghost use mathlib.Core.Path.{_≡_};
-ghost use mathlib.Core.List.{List, [], _∷_};
+ghost use mathlib.Core.List.{List};
 ghost use Prim.Native.Nat.{_+_, _*_, _^_, _<_};
 ghost use lib.ListN.{length};
 ghost use Rattle.rules_shared.specs.House.{House};
 ghost use Rattle.rules_text.specs.Trees.{Statement};
-ghost use Rattle.read_items.specs.Parsed.{Put};
 ghost use Rattle.final_addresses.specs.Given.{Judged, Given, Starts};
 ghost use Rattle.final_addresses.specs.Ends.{lastAt, endsAt, Lasts};
 
@@ -15,15 +14,6 @@ pub fn narrow(n: u64) -> u32
     ensures { λ r. ⌜ r ≡ n ⌝ }
 {
     n as u32
-}
-
-// One word more; how many there are then.
-pub fn put(out: &mut [u32], top: usize, word: u32) -> usize
-    requires { ⌜ top < length (now out) ⌝ }
-    ensures { λ r. ⌜ Put (now (out .entry)) (now (out .exit)) top (word ∷ []) r ⌝ }
-{
-    out[top] = word;
-    top + 1
 }
 
 // The position of the last statement of the d-th DO.

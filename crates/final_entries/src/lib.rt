@@ -13,9 +13,9 @@ pub fn put_line(out: &mut [u32], top: usize, sequence: u32, number: u32, address
     requires { ⌜ top + 3 ≤ length (now out) ⌝ }
     ensures { λ r. ⌜ Put (now (out .entry)) (now (out .exit)) top (sequence ∷ number ∷ address ∷ []) r ⌝ }
 {
-    let a = final_addresses::put(out, top, sequence);
-    let b = final_addresses::put(out, a, number);
-    final_addresses::put(out, b, address)
+    let a = read_items::put(out, top, sequence);
+    let b = read_items::put(out, a, number);
+    read_items::put(out, b, address)
 }
 
 // A statement's line, if it is one.
@@ -57,7 +57,7 @@ pub fn put_name(
 {
     let high = turned(name / 4294967296);
     let low = turned(name);
-    let a = final_addresses::put(out, top, high);
-    let b = final_addresses::put(out, a, low);
+    let a = read_items::put(out, top, high);
+    let b = read_items::put(out, a, low);
     put_line(out, b, first, rows, columns)
 }

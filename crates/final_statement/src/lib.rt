@@ -31,7 +31,7 @@ pub fn put_end(out: &mut [u32], top: usize, last: usize, i: usize, d: usize) -> 
     if last != i {
         return top;
     }
-    final_addresses::put(out, top, object_words::pack(object_opcodes::DOE, d as u32))
+    read_items::put(out, top, object_words::pack(object_opcodes::DOE, d as u32))
 }
 
 // The DOEs of the DOs that end with the statement at position i, the innermost first: the latest.
@@ -76,7 +76,7 @@ pub fn put_own(
     }
     let target = object_words::index(jumps[j]);
     let address = starts[target];
-    final_addresses::put(out, top, object_words::pack(object_opcodes::JMP, address))
+    read_items::put(out, top, object_words::pack(object_opcodes::JMP, address))
 }
 
 // The addresses that as many jumps lead to.
@@ -114,7 +114,7 @@ pub fn put_exits(
     ensures { λ r. ⌜ Put (now (out .entry)) (now (out .exit)) top (exitWords kind (now (jumps .entry)) j many (now (starts .entry))) r ⌝ }
 {
     if kind == COMPUTED {
-        let next = final_addresses::put(out, top, many as u32);
+        let next = read_items::put(out, top, many as u32);
         return put_targets(out, next, jumps, j, many, starts);
     }
     if kind == IF {

@@ -19,6 +19,15 @@ pub enum Got {
     Bad,
 }
 
+// A word at a place of a table; the place after it.
+pub fn put(table: &mut [u32], at: usize, word: u32) -> usize
+    requires { ⌜ at < length (now table) ⌝ }
+    ensures { λ r. ⌜ Put (now (table .entry)) (now (table .exit)) at (word ∷ []) r ⌝ }
+{
+    table[at] = word;
+    at + 1
+}
+
 pub fn put_two(items: &mut [u64], n: usize, kind: u64, word: u64) -> usize
     requires { ⌜ n + 2 ≤ length (now items) ⌝ }
     ensures { λ r. ⌜ Put (now (items .entry)) (now (items .exit)) n (kind ∷ word ∷ []) r ⌝ }

@@ -15,14 +15,6 @@ use take_kinds::GO_TO;
 use take_kinds::IF;
 use take_plans::Plan;
 
-fn put(table: &mut [u32], at: usize, word: u32) -> usize
-    requires { ⌜ at < length (now table) ⌝ }
-    ensures { λ r. ⌜ Put (now (table .entry)) (now (table .exit)) at (word ∷ []) r ⌝ }
-{
-    table[at] = word;
-    at + 1
-}
-
 // ---- a DO
 
 // Its variable's cell, its limit's and its step's; its body is not known yet.
@@ -30,10 +22,10 @@ pub fn put_do(dos: &mut [u32], d: usize, variable: u32, limit: u32) -> usize
     requires { ⌜ (4 * d + 4 ≤ length (now dos)) × (limit < 4096) ⌝ }
     ensures { λ r. ⌜ Put (now (dos .entry)) (now (dos .exit)) (4 * d) (variable ∷ limit ∷ (limit + 1) ∷ 0 ∷ []) r ⌝ }
 {
-    let a = put(dos, 4 * d, variable);
-    let b = put(dos, a, limit);
-    let c = put(dos, b, limit + 1);
-    put(dos, c, 0)
+    let a = read_items::put(dos, 4 * d, variable);
+    let b = read_items::put(dos, a, limit);
+    let c = read_items::put(dos, b, limit + 1);
+    read_items::put(dos, c, 0)
 }
 
 // Its position, and where its last statement's number stands in the jumps.
@@ -41,8 +33,8 @@ pub fn put_loop(loops: &mut [u32], d: usize, position: usize, jump: usize) -> us
     requires { ⌜ (2 * d + 2 ≤ length (now loops)) × ((position ≤ 400) × (jump ≤ 1424)) ⌝ }
     ensures { λ r. ⌜ Put (now (loops .entry)) (now (loops .exit)) (2 * d) (position ∷ jump ∷ []) r ⌝ }
 {
-    let a = put(loops, 2 * d, position as u32);
-    put(loops, a, jump as u32)
+    let a = read_items::put(loops, 2 * d, position as u32);
+    read_items::put(loops, a, jump as u32)
 }
 
 // ---- statement numbers
@@ -51,7 +43,7 @@ fn put_number(jumps: &mut [u32], at: usize, n: Number) -> usize
     requires { ⌜ at < length (now jumps) ⌝ }
     ensures { λ r. ⌜ Put (now (jumps .entry)) (now (jumps .exit)) at (n .0 ∷ []) r ⌝ }
 {
-    put(jumps, at, n.0)
+    read_items::put(jumps, at, n.0)
 }
 
 // Those that the reader left as words.

@@ -1,8 +1,8 @@
--- `take_marks::put` meets its contract. Assumes nothing.
+-- `read_items::put` meets its contract. Assumes nothing.
 use Rattle.read_items.proofs.Tables.{put-one}
 use borrow.Author.Needs.{needs}
-use Rattle.take_marks.proofs.put.Statement.{statement}
-use Rattle.take_marks.proofs.put.Tie as tie
+use Rattle.read_items.proofs.put.Statement.{statement}
+use Rattle.read_items.proofs.put.Tie as tie
 
 mul-table : tie.Need-mul-table
 mul-table c = search needs
