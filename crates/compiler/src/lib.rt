@@ -15,13 +15,20 @@ use limits::ELEMENTS;
 use limits::JUMPS;
 use limits::NAMES;
 use limits::STATEMENTS;
+use limits::TEXT;
 use read_deck_cards::Judged;
+use read_items::ELEMENT_ITEM;
+use read_items::NAME_ITEM;
 use take_deck::Drafted;
 use take_draft::Counts;
+use take_name_table::ENTRY_WORDS;
 use whole_deck::Verdict;
 
-// Words of the tables that are lent: four for a name, nine for an element, four and two for a DO, five for a statement's row.
-const NAME_WORDS: usize = 4 * NAMES;
+// Words of the reader's table: a name's item for each character of a text, and an element's.
+const ITEM_WORDS: usize = NAME_ITEM * TEXT + ELEMENT_ITEM;
+
+// Words of the tables that are lent: seven for a name, nine for an element, four and two for a DO, five for a statement's row.
+const NAMES_WORDS: usize = ENTRY_WORDS * NAMES;
 
 const ELEMENT_WORDS: usize = 9 * ELEMENTS;
 
@@ -92,8 +99,8 @@ fn compile_statements(k: u32, deck: &[u8], output: &mut [u8]) -> Compiled
     requires { ⌜ Punches k (now deck) ⌝ }
     ensures { λ r. ⌜ answer r (now (output .exit)) ≡ compiling (house1401 k) (now (deck .entry)) (now (output .entry)) ⌝ }
 {
-    let mut items = [0u64; 2651];
-    let mut names = [0u64; NAME_WORDS];
+    let mut items = [0u64; ITEM_WORDS];
+    let mut names = [0u64; NAMES_WORDS];
     let mut constants = [0u32; CONSTANTS];
     let mut elements = [0u32; ELEMENT_WORDS];
     let mut dos = [0u32; DO_WORDS];

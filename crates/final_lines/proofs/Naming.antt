@@ -1,27 +1,28 @@
 -- The table of names as the entries of body 7, one entry more.
 -- Assumes nothing.
-use mathlib.Core.Path.{_≡_, refl, sym, ap, _∙_}
+use mathlib.Core.Path.{_≡_, refl, sym, ap, _∙_, subst}
 use Prim.Native.Nat.{ℕ, zero, suc, _+_, _*_, _/_, _%_, _≤_, _<_, _^_}
 use native.Mathlib.Omega.{arith}
 use native.Mathlib.Numerals.{add-one}
 use mathlib.Core.List.{List, [], _∷_, _++_, map, append-nil}
 use mathlib.Core.Option.{some}
-use lib.ListN.{length, take, getD, getElem?, List·getD-append}
-use lib.Seq.{take-length, getD-append-add}
+use lib.ListN.{length, take, getD, getElem?}
+use lib.Seq.{take-length}
 use Rattle.rules_shared.specs.House.{House}
 use Rattle.rules_object.specs.Object.{Named}
 use Rattle.rules_object.specs.Bytes.{concat, wordsOf, nameWords}
 use Rattle.rules_object.specs.Writable.{IsByte, WritableNamed}
 use Rattle.rules_shared.specs.Lists.{Each, each-none, each-more}
-use Rattle.rules_text.specs.Trees.{Statement}
+use Rattle.rules_text.specs.Trees.{Name, Statement}
 use Rattle.rules_deck.specs.Translation.{Held, name, array, hidden, arraySize, heldOf, filled, namesFrom, translate}
+use Rattle.rules_deck.specs.Judge.{nameCount}
 use Rattle.rules_deck.proofs.TestLaws.{clash, at-before}
 use Rattle.rules_deck.proofs.Addresses.{at-some}
 use Rattle.rules_deck.proofs.Emitted.{each-at}
 use Rattle.rules_deck.proofs.FittingDeck.{names-count}
 use Rattle.rules_deck.proofs.CompiledWritable.{compiled-writable}
-use Rattle.read_tokens.specs.Words.{bytesFrom, nameWord}
-use Rattle.take_draft.specs.Names.{heldWords}
+use Rattle.read_tokens.specs.Words.{bytesFrom, nameWord, nameOf}
+use Rattle.take_draft.specs.Names.{entryWords, heldWords}
 use Rattle.read_items.specs.Parsed.{Put}
 use Rattle.final_addresses.proofs.Told.{begins-long, begins-at}
 use Rattle.final_addresses.proofs.Lasts.{take-more}
@@ -31,35 +32,40 @@ use Rattle.final_entries.specs.Turned.{turned}
 
 -- ---- the table's words, by the entries of body 7
 
-abbrev fourWords : Named → List ℕ
-fourWords e = bytesFrom 0 (e .name) ∷ e .first ∷ e .rows ∷ e .columns ∷ []
+-- what the table's entry i says of a name
+record EntryAt (words : List ℕ) (i : ℕ) (e : Named) : Type 0 where
+  pub word : getD words (7 * i) 0 ≡ bytesFrom 0 (e .name)
+  pub first : getD words (7 * i + 4) 0 ≡ e .first
+  pub rows : getD words (7 * i + 5) 0 ≡ e .rows
+  pub columns : getD words (7 * i + 6) 0 ≡ e .columns
 
-held-words : (house : House) → house .nameBytes ≡ 8 → (at : ℕ) (held : List Held) → heldWords at held ≡ concat (map fourWords (namesFrom house at held))
-unfolding nameWord
-held-words house e at [] = refl
-held-words house e at (name v ∷ held) =
-    ap (λ (n : ℕ). bytesFrom 0 (filled n v) ∷ at ∷ 0 ∷ 0 ∷ heldWords (suc at) held) (sym e)
-    ∙ ap (λ (l : List ℕ). bytesFrom 0 (filled (house .nameBytes) v) ∷ at ∷ 0 ∷ 0 ∷ l) (held-words house e (suc at) held)
-held-words house e at (array a ∷ held) =
-    ap (λ (n : ℕ). bytesFrom 0 (filled n (a .name)) ∷ at ∷ a .dims .rows ∷ a .dims .columns ∷ heldWords (at + arraySize (a .dims)) held) (sym e)
-    ∙ ap (λ (l : List ℕ). bytesFrom 0 (filled (house .nameBytes) (a .name)) ∷ at ∷ a .dims .rows ∷ a .dims .columns ∷ l) (held-words house e (at + arraySize (a .dims)) held)
-held-words house e at (hidden q ∷ held) = held-words house e (at + 2) held
+-- one entry more before it
+entry-past : (v : Name) (a b c : ℕ) {ws : List ℕ} {i : ℕ} {e : Named} → EntryAt ws i e → EntryAt (entryWords v a b c ++ ws) (suc i) e
+entry-past v a b c {ws} {i} {e} r =
+    record { word = past (7 * suc i) (7 * i) (omega arith) ∙ r .word; first = past (7 * suc i + 4) (7 * i + 4) (omega arith) ∙ r .first; rows = past (7 * suc i + 5) (7 * i + 5) (omega arith) ∙ r .rows; columns = past (7 * suc i + 6) (7 * i + 6) (omega arith) ∙ r .columns }
+  where
+    past : (m n : ℕ) → m ≡ suc (suc (suc (suc (suc (suc (suc n)))))) → getD (entryWords v a b c ++ ws) m 0 ≡ getD ws n 0
+    past m n e = ap (λ (j : ℕ). getD (entryWords v a b c ++ ws) j 0) e
 
-four-length : (es : List Named) → length (concat (map fourWords es)) ≡ 4 * length es
-four-length [] = refl
-four-length (e ∷ es) = omega (arith, four-length es)
+entry-here : (house : House) → house .nameBytes ≡ 8 → (v : Name) (a b c : ℕ) (ws : List ℕ) → EntryAt (entryWords v a b c ++ ws) 0 (record { name = filled (house .nameBytes) v; first = a; rows = b; columns = c })
+unfolding nameOf nameWord
+entry-here house eight v a b c ws = record { word = ap (λ (n : ℕ). bytesFrom 0 (filled n v)) (sym eight); first = refl; rows = refl; columns = refl }
 
-four-get : (es : List Named) (i : ℕ) (e : Named) → getElem? es i ≡ some e → (r : ℕ) → r < 4 → getD (concat (map fourWords es)) (4 * i + r) 0 ≡ getD (fourWords e) r 0
-four-get [] i e h r l = absurd (clash (sym h))
-four-get (x ∷ es) zero e h r l =
-    let same : x ≡ e = cc in
-    let n : 4 * 0 + r ≡ r = omega arith in
-    ap (λ (j : ℕ). getD (fourWords x ++ concat (map fourWords es)) j 0) n
-    ∙ List·getD-append (fourWords x) (concat (map fourWords es)) 0 r l ∙ ap (λ (y : Named). getD (fourWords y) r 0) same
-four-get (x ∷ es) (suc i) e h r l =
-    let n : 4 * suc i + r ≡ 4 + (4 * i + r) = omega arith in
-    ap (λ (j : ℕ). getD (fourWords x ++ concat (map fourWords es)) j 0) n
-    ∙ getD-append-add (fourWords x) (concat (map fourWords es)) (4 * i + r) 0 ∙ four-get es i e h r l
+entry-at : (house : House) → house .nameBytes ≡ 8 → (at : ℕ) (held : List Held) (i : ℕ) (e : Named) → getElem? (namesFrom house at held) i ≡ some e → EntryAt (heldWords at held) i e
+entry-at house eight at [] i e h = absurd (clash (sym h))
+entry-at house eight at (name v ∷ held) zero e h = let same : record { name = filled (house .nameBytes) v; first = at; rows = 0; columns = 0 } ≡ e = cc in subst (EntryAt _ 0) same (entry-here house eight v at 0 0 _)
+entry-at house eight at (name v ∷ held) (suc i) e h = entry-past v at 0 0 (entry-at house eight (suc at) held i e h)
+entry-at house eight at (array a ∷ held) zero e h =
+    let same : record { name = filled (house .nameBytes) (a .name); first = at; rows = a .dims .rows; columns = a .dims .columns } ≡ e = cc in
+    subst (EntryAt _ 0) same (entry-here house eight (a .name) at (a .dims .rows) (a .dims .columns) _)
+entry-at house eight at (array a ∷ held) (suc i) e h = entry-past (a .name) at (a .dims .rows) (a .dims .columns) (entry-at house eight (at + arraySize (a .dims)) held i e h)
+entry-at house eight at (hidden q ∷ held) i e h = entry-at house eight (at + 2) held i e h
+
+held-length : (at : ℕ) (held : List Held) → length (heldWords at held) ≡ 7 * nameCount held
+held-length at [] = refl
+held-length at (name v ∷ held) = omega (arith, held-length (suc at) held)
+held-length at (array a ∷ held) = omega (arith, held-length (at + arraySize (a .dims)) held)
+held-length at (hidden q ∷ held) = held-length (at + 2) held
 
 -- ---- a name's eight bytes
 
@@ -98,44 +104,52 @@ two-words (a ∷ b ∷ c ∷ d ∷ e ∷ f ∷ g ∷ h ∷ i ∷ s) l p = absurd
 -- ---- the deck's names
 
 module _ {house : House} {deck : List Statement} {table : List ℕ} {n : ℕ} (told : Names house deck table n) where
-  pub table-is : take (4 * n) table ≡ concat (map fourWords (namesFrom house 0 (heldOf deck)))
-  table-is = told .words-are ∙ held-words house (told .accepted .lawful .entries) 0 (heldOf deck)
-
   pub entries-counted : n ≡ length (namesFrom house 0 (heldOf deck))
   entries-counted = told .counted ∙ sym (names-count house 0 (heldOf deck))
 
-  pub table-long : 4 * n ≤ length table
-  table-long = begins-long table (concat (map fourWords (namesFrom house 0 (heldOf deck)))) (4 * n) table-is (omega (arith, four-length (namesFrom house 0 (heldOf deck)), entries-counted))
+  long : length (heldWords 0 (heldOf deck)) ≡ 7 * n
+  long = held-length 0 (heldOf deck) ∙ ap (λ (m : ℕ). 7 * m) (sym (told .counted))
+
+  pub table-long : 7 * n ≤ length table
+  table-long = begins-long table (heldWords 0 (heldOf deck)) (7 * n) (told .words-are) (omega (arith, long))
 
   writable : (i : ℕ) (e : Named) → getElem? (namesFrom house 0 (heldOf deck)) i ≡ some e → WritableNamed e
   unfolding translate
   writable i e h = each-at WritableNamed (namesFrom house 0 (heldOf deck)) i e h (compiled-writable (told .accepted) .names)
 
-  at-entry : (i : ℕ) (e : Named) → getElem? (namesFrom house 0 (heldOf deck)) i ≡ some e → (r : ℕ) → r < 4 → getD table (4 * i + r) 0 ≡ getD (fourWords e) r 0
-  at-entry i e h r l =
-      let b = at-before (namesFrom house 0 (heldOf deck)) i h in
-      begins-at table (concat (map fourWords (namesFrom house 0 (heldOf deck)))) (4 * n) table-is (4 * i + r) (omega (arith, entries-counted)) ∙ four-get (namesFrom house 0 (heldOf deck)) i e h r l
+  at-word : (j : ℕ) → j < 7 * n → getD table j 0 ≡ getD (heldWords 0 (heldOf deck)) j 0
+  at-word j l = begins-at table (heldWords 0 (heldOf deck)) (7 * n) (told .words-are) j l
 
-  pub small-words : (i : ℕ) → i < n → (getD table (4 * i + 1) 0 < 2 ^ 32) × (getD table (4 * i + 2) 0 < 2 ^ 32) × (getD table (4 * i + 3) 0 < 2 ^ 32)
+  at-entry : (i : ℕ) (e : Named) → getElem? (namesFrom house 0 (heldOf deck)) i ≡ some e → EntryAt table i e
+  at-entry i e h =
+      let b = at-before (namesFrom house 0 (heldOf deck)) i h in
+      let r = entry-at house (told .accepted .lawful .entries) 0 (heldOf deck) i e h in
+      record {
+        word = at-word (7 * i) (omega (arith, entries-counted, b)) ∙ r .word;
+        first = at-word (7 * i + 4) (omega (arith, entries-counted, b)) ∙ r .first;
+        rows = at-word (7 * i + 5) (omega (arith, entries-counted, b)) ∙ r .rows;
+        columns = at-word (7 * i + 6) (omega (arith, entries-counted, b)) ∙ r .columns;
+      }
+
+  pub small-words : (i : ℕ) → i < n → (getD table (7 * i + 4) 0 < 2 ^ 32) × (getD table (7 * i + 5) 0 < 2 ^ 32) × (getD table (7 * i + 6) 0 < 2 ^ 32)
   small-words i h =
       let e = at-some (namesFrom house 0 (heldOf deck)) i (omega (arith, entries-counted)) in
       let w = writable i (e .0) (e .1) in
-      (omega (arith, at-entry i (e .0) (e .1) 1 (omega arith), w .first), omega (arith, at-entry i (e .0) (e .1) 2 (omega arith), w .rows), omega (arith, at-entry i (e .0) (e .1) 3 (omega arith), w .columns))
+      (omega (arith, at-entry i (e .0) (e .1) .first, w .first), omega (arith, at-entry i (e .0) (e .1) .rows, w .rows), omega (arith, at-entry i (e .0) (e .1) .columns, w .columns))
 
-  pub names-more : {a b : List ℕ} {r first rows columns : ℕ} (i : ℕ) → i < n → first ≡ getD table (4 * i + 1) 0 → rows ≡ getD table (4 * i + 2) 0 → columns ≡ getD table (4 * i + 3) 0
-      → Put a b (5 * i) (turned (getD table (4 * i) 0 / 4294967296) ∷ turned (getD table (4 * i) 0) ∷ first ∷ rows ∷ columns ∷ []) r
+  pub names-more : {a b : List ℕ} {r first rows columns : ℕ} (i : ℕ) → i < n → first ≡ getD table (7 * i + 4) 0 → rows ≡ getD table (7 * i + 5) 0 → columns ≡ getD table (7 * i + 6) 0
+      → Put a b (5 * i) (turned (getD table (7 * i) 0 / 4294967296) ∷ turned (getD table (7 * i) 0) ∷ first ∷ rows ∷ columns ∷ []) r
       → take (5 * i) a ≡ concat (map nameWords (take i (namesFrom house 0 (heldOf deck))))
       → take (5 * (i + 1)) b ≡ concat (map nameWords (take (i + 1) (namesFrom house 0 (heldOf deck))))
   names-more {a} {b} {r} {first} {rows} {columns} i h f g c p held =
       let es = namesFrom house 0 (heldOf deck) in
       let e = at-some es i (omega (arith, entries-counted)) in
       let w = writable i (e .0) (e .1) in
-      let zero-more : 4 * i ≡ 4 * i + 0 = omega arith in
-      let word = ap (λ (j : ℕ). getD table j 0) zero-more ∙ at-entry i (e .0) (e .1) 0 (omega arith) in
+      let word = at-entry i (e .0) (e .1) .word in
       let two = ap (λ (v : ℕ). turned (v / 4294967296) ∷ turned v ∷ []) word ∙ two-words (e .0 .name) (w .eight) (w .bytes) in
-      let three = words-three (f ∙ at-entry i (e .0) (e .1) 1 (omega arith)) (g ∙ at-entry i (e .0) (e .1) 2 (omega arith)) (c ∙ at-entry i (e .0) (e .1) 3 (omega arith)) in
+      let three = words-three (f ∙ at-entry i (e .0) (e .1) .first) (g ∙ at-entry i (e .0) (e .1) .rows) (c ∙ at-entry i (e .0) (e .1) .columns) in
       let five : 5 * (i + 1) ≡ r = omega (arith, p .top) in
-      ap (λ (m : ℕ). take m b) five ∙ p .table ∙ ap (λ (l : List ℕ). l ++ (turned (getD table (4 * i) 0 / 4294967296) ∷ turned (getD table (4 * i) 0) ∷ first ∷ rows ∷ columns ∷ [])) held
+      ap (λ (m : ℕ). take m b) five ∙ p .table ∙ ap (λ (l : List ℕ). l ++ (turned (getD table (7 * i) 0 / 4294967296) ∷ turned (getD table (7 * i) 0) ∷ first ∷ rows ∷ columns ∷ [])) held
       ∙ ap (λ (l : List ℕ). concat (map nameWords (take i es)) ++ l) (ap (λ (l : List ℕ). l ++ (first ∷ rows ∷ columns ∷ [])) two ∙ ap (λ (l : List ℕ). wordsOf (e .0 .name) ++ l) three)
       ∙ sym (entry-more es i (e .0) (e .1))
     where

@@ -14,7 +14,7 @@ use Rattle.take_draft.specs.Names.{heldWords}
 pub record Names (house : House) (deck : List Statement) (table : List ℕ) (n : ℕ) : Type 0 where
   pub accepted : Accepted house deck
   pub counted : n ≡ nameCount (heldOf deck)
-  pub words-are : take (4 * n) table ≡ heldWords 0 (heldOf deck)
+  pub words-are : take (7 * n) table ≡ heldWords 0 (heldOf deck)
 
 pub record Listed (table : List ℕ) (n : ℕ) : Type 0 where
   pub house : House

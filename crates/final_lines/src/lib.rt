@@ -12,6 +12,10 @@ ghost use Rattle.final_addresses.specs.Given.{Rows, Loops, Rowed, Looped, Start
 ghost use Rattle.final_lines.specs.Names.{Names, Listed};
 ghost use Rattle.take_draft.specs.Sketch.{openEntry};
 use take_kinds::DIMENSION;
+use take_name_table::COLUMNS;
+use take_name_table::ENTRY_WORDS;
+use take_name_table::FIRST;
+use take_name_table::ROWS;
 
 // Each DO's body is the statement after it.
 pub fn bodies(loops: &[u32], n: usize, starts: &[u32], dos: &mut [u32])
@@ -48,17 +52,17 @@ pub fn lines(rows: &[u64], count: usize, starts: &[u32], out: &mut [u32]) -> usi
     top
 }
 
-// The first n names, five words an entry: eight bytes, first cell, rows and columns.
+// The first n names, five words an entry: eight bytes, which a name's first word has, first cell, rows and columns.
 pub fn names(table: &[u64], n: usize, out: &mut [u32])
     requires { ⌜ Listed (now table) n × (5 * n ≤ length (now out)) ⌝ }
     ensures { λ _. ⌜ ((house : House) (deck : List Statement) → Names house deck (now (table .entry)) n → take (5 * n) (now (out .exit)) ≡ concat (map nameWords (namesFrom house 0 (heldOf deck)))) ⌝ }
 {
     let mut i = 0;
     while i < n {
-        let first = final_addresses::narrow(table[4 * i + 1]);
-        let rows = final_addresses::narrow(table[4 * i + 2]);
-        let columns = final_addresses::narrow(table[4 * i + 3]);
-        final_entries::put_name(out, 5 * i, table[4 * i], first, rows, columns);
+        let first = final_addresses::narrow(table[ENTRY_WORDS * i + FIRST]);
+        let rows = final_addresses::narrow(table[ENTRY_WORDS * i + ROWS]);
+        let columns = final_addresses::narrow(table[ENTRY_WORDS * i + COLUMNS]);
+        final_entries::put_name(out, 5 * i, table[ENTRY_WORDS * i], first, rows, columns);
         i += 1;
     }
 }

@@ -13,8 +13,9 @@ use Rattle.rules_text.specs.Tokens.{comma, equals, wordDo, Found, bad, give, ah
 use Rattle.rules_text.specs.Grammar.{parameter, doLoop, readDo, parse, anExpression, expression, isParameter}
 use Rattle.rules_text.proofs.ReadForms.{clash}
 use Rattle.read_cards.specs.declared.Number.{Number}
+use Rattle.read_tokens.specs.declared.Name as code
 use Rattle.read_tokens.specs.declared.Sizes.{Sizes}
-use Rattle.read_tokens.specs.Words.{capped, nameWord, startsWord}
+use Rattle.read_tokens.specs.Words.{capped, nameOf, nameAt, startsWord}
 use Rattle.read_tokens.specs.Sizes.{sizesOf, both}
 use Rattle.read_tokens.specs.Reading.{constantSize, nameSize}
 use Rattle.read_tokens.specs.Reading as reading
@@ -23,6 +24,7 @@ use Rattle.read_tokens.proofs.Tokens.{after-none, inside, word-none, word-fits}
 use Rattle.read_tokens.proofs.Chains.{Upto, give-upto, byte-yes, byte-no, upto-as, then-upto, then-bad, then-none, Shape, Took, accept, refuse, Leads, then-leads, after-leads, word-leads, leads-more, leads-as, leads-bad, leads-upto, whole-some, whole-short, whole-bad}
 use Rattle.read_items.specs.Items.{opItem, flat, exprSizes}
 use Rattle.read_forms.specs.declared.Parameter.{Parameter}
+use Rattle.read_forms.specs.declared.Parameter.the-variants.{Constant, Variable}
 use Rattle.read_forms.specs.declared.Statement.{Statement}
 use Rattle.read_forms.specs.declared.Statement.the-variants as statement
 use Rattle.read_forms.specs.Statements.{asNumber, parameterValue, formSizes, statementOf, answer}
@@ -37,13 +39,13 @@ parameter-shape =
 abbrev TookNumber : List ℕ → ℕ → ℕ → ℕ → Sizes → Type 0
 TookNumber s from at w z = Took capped constantSize reading.two s from (number (drop from s)) at w z
 
-abbrev TookName : List ℕ → ℕ → ℕ → ℕ → Sizes → Type 0
-TookName s from at w z = Took nameWord nameSize reading.two s from (name (drop from s)) at w z
+abbrev TookName : List ℕ → ℕ → ℕ → code.Name → Sizes → Type 0
+TookName s from at w z = Took nameOf nameSize reading.five s from (name (drop from s)) at w z
 
 abbrev TookParameter : List ℕ → ℕ → ℕ → Parameter → Sizes → Type 0
 TookParameter s from at w z = Took parameterValue exprSizes noWeight s from (parameter (drop from s)) at w z
 
--- ---- one parameter: two words in the table, and no parentheses
+-- ---- one parameter: a constant's two words or a name's five in the table, and no parentheses
 
 two-words : (e : Expr) → 2 ≤ length (flat e)
 unfolding flat
@@ -54,36 +56,66 @@ two-words (neg e) = let l = two-words e in omega (arith, length-append (flat e) 
 two-words (par e) = two-words e
 two-words (bin o a b) = let l = two-words a in omega (arith, length-append (flat a ++ flat b) (opItem o ∷ []), length-append (flat a) (flat b))
 
-is-one : (e : Expr) → length (flat e) ≡ 2 → levels e ≡ 0 → isParameter e ≡ true
-unfolding flat
-is-one (con c) l d = refl
-is-one (var v) l d = refl
-is-one (elm v s) l d = absurd (omega arith)
-is-one (neg e) l d = absurd (let k = two-words e in omega (arith, length-append (flat e) (10 ∷ [])))
-is-one (par e) l d = absurd (omega arith)
-is-one (bin o a b) l d =
-    absurd (let k = two-words a in let m = two-words b in omega (arith, length-append (flat a ++ flat b) (opItem o ∷ []), length-append (flat a) (flat b)))
+first-of : (l more : List ℕ) → 2 ≤ length l → getD (l ++ more) 0 0 ≡ getD l 0 0
+first-of [] more h = absurd (omega arith)
+first-of (w ∷ l) more h = refl
 
-one-is : (e : Expr) → isParameter e ≡ true → (length (flat e) ≡ 2) × (levels e ≡ 0)
+-- an expression whose first item is a name
+five-words : (e : Expr) → getD (flat e) 0 0 ≡ 2 → 5 ≤ length (flat e)
 unfolding flat
-one-is (con c) i = (refl, refl)
-one-is (var v) i = (refl, refl)
+five-words (con c) h = absurd (omega (arith, h))
+five-words (var v) h = omega arith
+five-words (elm v s) h = omega arith
+five-words (neg e) h =
+    let l = five-words e (sym (first-of (flat e) (10 ∷ []) (two-words e)) ∙ h) in
+    omega (arith, length-append (flat e) (10 ∷ []))
+five-words (par e) h = five-words e h
+five-words (bin o a b) h =
+    let two = two-words a in
+    let one = first-of (flat a ++ flat b) (opItem o ∷ []) (omega (arith, length-append (flat a) (flat b))) ∙ first-of (flat a) (flat b) two in
+    let l = five-words a (sym one ∙ h) in
+    omega (arith, length-append (flat a ++ flat b) (opItem o ∷ []), length-append (flat a) (flat b))
+
+-- what an expression without parentheses is, by its words in the table
+data Shown (b : List ℕ) (e : Expr) : Type 0 where
+  constant : isParameter e ≡ true → length (flat e) ≡ 2 → Constant (getD b 1 0) ≡ parameterValue e → Shown b e
+  variable : isParameter e ≡ true → length (flat e) ≡ 5 → getD b 0 0 ≡ 2 → Variable (nameAt b 1) ≡ parameterValue e → Shown b e
+  neither : isParameter e ≡ false → (length (flat e) ≡ 2 → ⊥) → (length (flat e) ≡ 5 → getD b 0 0 ≡ 2 → ⊥) → Shown b e
+
+at : (b : List ℕ) (n i : ℕ) → i < n → {l : List ℕ} → take n b ≡ l → getD b i 0 ≡ getD l i 0
+at b n i l q = sym (getD-take n b i 0 l) ∙ ap (λ (x : List ℕ). getD x i 0) q
+
+shown : (e : Expr) (b : List ℕ) → levels e ≡ 0 → take (length (flat e)) b ≡ flat e → Shown b e
+unfolding flat parameterValue
+shown (con c) b d q = constant refl refl (ap Constant (at b 2 1 (omega arith) q))
+shown (var v) b d q =
+    variable refl refl (at b 5 0 (omega arith) q)
+    (λ j. Variable (record { 0 = at b 5 1 (omega arith) q j; 1 = at b 5 2 (omega arith) q j; 2 = at b 5 3 (omega arith) q j; 3 = at b 5 4 (omega arith) q j }))
+shown (elm v s) b d q = neither refl (λ l. omega (arith, l)) (λ l h. omega (arith, l))
+shown (neg e) b d q =
+    let two = two-words e in
+    let long = length-append (flat e) (10 ∷ []) in
+    neither refl (λ l. omega (arith, l, long))
+    (λ l h. let five = five-words e (sym (first-of (flat e) (10 ∷ []) two) ∙ sym (at b (length (flat e ++ 10 ∷ [])) 0 (omega (arith, long)) q) ∙ h) in omega (arith, l, long, five))
+shown (par e) b d q = absurd (omega arith)
+shown (bin o x y) b d q =
+    let two = two-words x in
+    let more = two-words y in
+    let long = length-append (flat x ++ flat y) (opItem o ∷ []) in
+    let both = length-append (flat x) (flat y) in
+    neither refl (λ l. omega (arith, l, long, both))
+    (λ l h.
+      let one = first-of (flat x ++ flat y) (opItem o ∷ []) (omega (arith, both)) ∙ first-of (flat x) (flat y) two in
+      let five = five-words x (sym one ∙ sym (at b (length ((flat x ++ flat y) ++ opItem o ∷ [])) 0 (omega (arith, long, both)) q) ∙ h) in
+      omega (arith, l, long, both, five))
+
+one-is : (e : Expr) → isParameter e ≡ true → levels e ≡ 0
+one-is (con c) i = refl
+one-is (var v) i = refl
 one-is (elm v s) i = absurd (clash i)
 one-is (neg e) i = absurd (clash i)
 one-is (par e) i = absurd (clash i)
 one-is (bin o a b) i = absurd (clash i)
-
-at : (b : List ℕ) (i : ℕ) → i < 2 → {l : List ℕ} → take 2 b ≡ l → getD b i 0 ≡ getD l i 0
-at b i l q = sym (getD-take 2 b i 0 l) ∙ ap (λ (x : List ℕ). getD x i 0) q
-
-value-of : (e : Expr) (b : List ℕ) → isParameter e ≡ true → take 2 b ≡ flat e → record { kind = getD b 0 0; word = getD b 1 0 } ≡ parameterValue e
-unfolding flat parameterValue
-value-of (con c) b i q = λ j. record { kind = at b 0 (omega arith) q j; word = at b 1 (omega arith) q j }
-value-of (var v) b i q = λ j. record { kind = at b 0 (omega arith) q j; word = at b 1 (omega arith) q j }
-value-of (elm v s) b i q = absurd (clash i)
-value-of (neg e) b i q = absurd (clash i)
-value-of (par e) b i q = absurd (clash i)
-value-of (bin o x y) b i q = absurd (clash i)
 
 module _ (s : List ℕ) (from : ℕ) (le : from ≤ length s) where
   pub parameter-plus : getD s from 0 ≡ plusSign → ReadsParameter s from (parameter (drop from s)) Bad
@@ -114,22 +146,46 @@ module _ (s : List ℕ) (from : ℕ) (le : from ≤ length s) where
       other true i f = absurd (f refl)
       other false i f = not-one i
 
-      pub parameter-long : (n ≡ 2 → ⊥) → ReadsParameter s from (parameter (drop from s)) Bad
-      parameter-long f = other (isParameter (t .tree)) refl (λ i. f (expr-count s from le t ∙ one-is (t .tree) i .0))
-
       pub parameter-deep : (z .levels ≡ 0 → ⊥) → ReadsParameter s from (parameter (drop from s)) Bad
-      parameter-deep f = other (isParameter (t .tree)) refl (λ i. f (levels-are ∙ one-is (t .tree) i .1))
+      parameter-deep f = other (isParameter (t .tree)) refl (λ i. f (levels-are ∙ one-is (t .tree) i))
 
-      pub parameter-read : n ≡ 2 → z .levels ≡ 0 → ReadsParameter s from (parameter (drop from s)) (Read (from + k) (record { kind = getD b 0 0; word = getD b 1 0 }) z)
+      one-read : {w : Parameter} → isParameter (t .tree) ≡ true → w ≡ parameterValue (t .tree) → ReadsParameter s from (parameter (drop from s)) (Read (from + k) w z)
       unfolding giveIf noWeight
-      parameter-read e d =
-          let long : length (flat (t .tree)) ≡ 2 = sym (expr-count s from le t) ∙ e in
-          let i = is-one (t .tree) long (sym levels-are ∙ d) in
+      one-read i e =
           let given : Upto s (from + k) (giveIf (isParameter (t .tree)) (t .tree) (drop (from + k) s)) (from + k) (t .tree) =
           record { count = 0; is = ap (λ (x : Bool). giveIf x (t .tree) (drop (from + k) s)) i; ends = omega arith; within = parameter-within }
           in
-          accept (upto-as s from unsigned (then-upto s from expression _ (expr-upto s from le t (from + k) refl) given))
-          (value-of (t .tree) b i (ap (λ (x : ℕ). take x b) (sym long) ∙ expr-table s from le t)) (t .sizes-is) (omega arith) refl
+          accept (upto-as s from unsigned (then-upto s from expression _ (expr-upto s from le t (from + k) refl) given)) e (t .sizes-is) (omega arith) refl
+
+      long : n ≡ length (flat (t .tree))
+      long = expr-count s from le t
+
+      shows : z .levels ≡ 0 → Shown b (t .tree)
+      shows d = shown (t .tree) b (sym levels-are ∙ d) (expr-table s from le t)
+
+      pub parameter-constant : z .levels ≡ 0 → n ≡ 2 → ReadsParameter s from (parameter (drop from s)) (Read (from + k) (Constant (getD b 1 0)) z)
+      parameter-constant d e = go (shows d)
+        where
+          go : Shown b (t .tree) → ReadsParameter s from (parameter (drop from s)) (Read (from + k) (Constant (getD b 1 0)) z)
+          go (constant i l v) = one-read i v
+          go (variable i l h v) = absurd (omega (arith, l, long, e))
+          go (neither i l h) = absurd (l (sym long ∙ e))
+
+      pub parameter-other : z .levels ≡ 0 → (n ≡ 2 → ⊥) → (n ≡ 5 → getD b 0 0 ≡ 2 → ⊥) → ReadsParameter s from (parameter (drop from s)) Bad
+      parameter-other d e f = go (shows d)
+        where
+          go : Shown b (t .tree) → ReadsParameter s from (parameter (drop from s)) Bad
+          go (constant i l v) = absurd (e (long ∙ l))
+          go (variable i l h v) = absurd (f (long ∙ l) h)
+          go (neither i l h) = not-one i
+
+      pub parameter-variable : z .levels ≡ 0 → n ≡ 5 → getD b 0 0 ≡ 2 → ReadsParameter s from (parameter (drop from s)) (Read (from + k) (Variable (nameAt b 1)) z)
+      parameter-variable d e f = go (shows d)
+        where
+          go : Shown b (t .tree) → ReadsParameter s from (parameter (drop from s)) (Read (from + k) (Variable (nameAt b 1)) z)
+          go (constant i l v) = absurd (omega (arith, l, long, e))
+          go (variable i l h v) = one-read i v
+          go (neither i l h) = absurd (h (sym long ∙ e) f)
 
 -- ---- the end of a DO
 
@@ -141,17 +197,17 @@ append-none : {A : Type 0} (l : List A) → l ++ [] ≡ l
 append-none [] = refl
 append-none {A} (x ∷ l) = ap (λ (m : List A). x ∷ m) (append-none l)
 
-same-do : {a a′ : Number} {b b′ : ℕ} {p q r p′ q′ r′ : Parameter} {z z′ : Sizes} → a ≡ a′ → b ≡ b′ → p ≡ p′ → q ≡ q′ → r ≡ r′ → z ≡ z′
+same-do : {a a′ : Number} {b b′ : code.Name} {p q r p′ q′ r′ : Parameter} {z z′ : Sizes} → a ≡ a′ → b ≡ b′ → p ≡ p′ → q ≡ q′ → r ≡ r′ → z ≡ z′
     → statement.Do (record { last = a; name = b; first = p; limit = q; by = r; sizes = z }) ≡ statement.Do (record { last = a′; name = b′; first = p′; limit = q′; by = r′; sizes = z′ })
 same-do {a} {a′} {b} {b′} {p} {q} {r} {p′} {q′} {r′} {z} {z′} ea eb ep eq er ez =
     ap (λ (x : Number). statement.Do (record { last = x; name = b; first = p; limit = q; by = r; sizes = z })) ea
-    ∙ ap (λ (x : ℕ). statement.Do (record { last = a′; name = x; first = p; limit = q; by = r; sizes = z })) eb
+    ∙ ap (λ (x : code.Name). statement.Do (record { last = a′; name = x; first = p; limit = q; by = r; sizes = z })) eb
     ∙ ap (λ (x : Parameter). statement.Do (record { last = a′; name = b′; first = x; limit = q; by = r; sizes = z })) ep
     ∙ ap (λ (x : Parameter). statement.Do (record { last = a′; name = b′; first = p′; limit = x; by = r; sizes = z })) eq
     ∙ ap (λ (x : Parameter). statement.Do (record { last = a′; name = b′; first = p′; limit = q′; by = x; sizes = z })) er
     ∙ ap (λ (x : Sizes). statement.Do (record { last = a′; name = b′; first = p′; limit = q′; by = r′; sizes = x })) ez
 
-module _ (s : List ℕ) (from : ℕ) (le : from ≤ length s) (l : Number) (nm : ℕ) (fs lm : Parameter) (sizes : Sizes) where
+module _ (s : List ℕ) (from : ℕ) (le : from ≤ length s) (l : Number) (nm : code.Name) (fs lm : Parameter) (sizes : Sizes) where
   module _ (ne : getD s from 0 ≡ comma → ⊥) where
     two-upto : (n : Digits) (v : Name) (p q : Expr) → Upto s 0 (ahead from (byOf n v p q (drop from s))) from (loop n v p q none)
     unfolding byOf
@@ -162,7 +218,7 @@ module _ (s : List ℕ) (from : ℕ) (le : from ≤ length s) (l : Number) (nm :
     two-more m n v p q el en ef em es = sym (ap answer (whole-short (two-upto n v p q) m))
 
     pub two-read : from ≡ length s
-        → EndsBy s from l nm fs lm sizes (statement.Do (record { last = l; name = nm; first = fs; limit = lm; by = record { kind = 1; word = 1 }; sizes = sizes }))
+        → EndsBy s from l nm fs lm sizes (statement.Do (record { last = l; name = nm; first = fs; limit = lm; by = Constant 1; sizes = sizes }))
     unfolding answer statementOf formSizes formNames formConstants formLevels parameterValue capped valueOf
     two-read e n v p q el en ef em es =
         same-do el en ef em refl
@@ -205,7 +261,7 @@ module _ (s : List ℕ) (from : ℕ) (le : from ≤ length s) (l : Number) (nm :
 
 -- ---- the first two parameters
 
-module _ (s : List ℕ) (from : ℕ) (l : Number) (nm : ℕ) (sizes : Sizes) where
+module _ (s : List ℕ) (from : ℕ) (l : Number) (nm : code.Name) (sizes : Sizes) where
   pub first-bad : parameter (drop from s) ≡ bad → EndsDo s from l nm sizes statement.Bad
   unfolding parametersOf
   first-bad b n v el en es = bad-is (length s) (leads-bad (here from _) (then-bad s from parameter _ b))
@@ -268,7 +324,7 @@ module _ (s : List ℕ) (w : startsWord wordDo s ≡ true) where
     unfolding readDo whole
     do-no-name e = bad-is (length s) (leads-bad do-after (then-bad s a name _ e))
 
-    module _ {b v′ : ℕ} {z′ : Sizes} (u : TookName s a b v′ z′) where
+    module _ {b : ℕ} {v′ : code.Name} {z′ : Sizes} (u : TookName s a b v′ z′) where
       do-named : Leads 0 (doLoop s) b (after equals (parametersOf (t .tree) (u .tree)) (drop b s))
       do-named = leads-more do-after (then-leads s a name _ (u .upto))
 

@@ -10,6 +10,8 @@ use read_forms::Do;
 use read_forms::Parameter;
 use read_forms::Statement;
 use read_items::Got;
+use read_tokens::GotName;
+use read_tokens::Name;
 use read_tokens::Sizes;
 use read_tokens::Token;
 
@@ -24,7 +26,7 @@ pub enum GotParameter {
 
 // An expression that is one constant or name, with nothing around it. What the table holds then is free.
 fn read_parameter(text: &[u8], from: usize, items: &mut [u64]) -> GotParameter
-    requires { ⌜ (from ≤ length (now text)) × (4 * length (now text) ≤ length (now items)) ⌝ }
+    requires { ⌜ (from ≤ length (now text)) × (5 * length (now text) ≤ length (now items)) ⌝ }
     ensures { λ r. ⌜ ReadsParameter (now (text .entry)) from (parameter (drop from (now (text .entry)))) r ⌝ }
 {
     if read_tokens::byte(text, from) == b'+' {
@@ -33,18 +35,25 @@ fn read_parameter(text: &[u8], from: usize, items: &mut [u64]) -> GotParameter
     let Got::Read { at, n, sizes } = read_expressions::expression(&text[from..], items, 0) else {
         return GotParameter::Bad;
     };
-    if n != 2 {
+    if sizes.levels != 0 {
         return GotParameter::Bad;
     }
-    if sizes.levels != 0 {
+    if n == 2 {
+        return GotParameter::Read {
+            at: from + at,
+            parameter: Parameter::Constant(items[1]),
+            sizes,
+        };
+    }
+    if n != 5 {
+        return GotParameter::Bad;
+    }
+    if items[0] != 2 {
         return GotParameter::Bad;
     }
     GotParameter::Read {
         at: from + at,
-        parameter: Parameter {
-            kind: items[0],
-            word: items[1],
-        },
+        parameter: Parameter::Variable(read_tokens::name_at(items, 1)),
         sizes,
     }
 }
@@ -55,12 +64,12 @@ fn read_by(
     items: &mut [u64],
     from: usize,
     last: Number,
-    name: u64,
+    name: Name,
     first: Parameter,
     limit: Parameter,
     sizes: Sizes,
 ) -> Statement
-    requires { ⌜ (from ≤ length (now text)) × (4 * length (now text) ≤ length (now items)) ⌝ }
+    requires { ⌜ (from ≤ length (now text)) × (5 * length (now text) ≤ length (now items)) ⌝ }
     ensures { λ r. ⌜ EndsBy (now (text .entry)) from last name first limit sizes r ⌝ }
 {
     if read_tokens::byte(text, from) != b',' {
@@ -72,7 +81,7 @@ fn read_by(
             name,
             first,
             limit,
-            by: Parameter { kind: 1, word: 1 },
+            by: Parameter::Constant(1),
             sizes,
         });
     }
@@ -102,10 +111,10 @@ fn read_parameters(
     items: &mut [u64],
     from: usize,
     last: Number,
-    name: u64,
+    name: Name,
     sizes: Sizes,
 ) -> Statement
-    requires { ⌜ (from ≤ length (now text)) × (4 * length (now text) ≤ length (now items)) ⌝ }
+    requires { ⌜ (from ≤ length (now text)) × (5 * length (now text) ≤ length (now items)) ⌝ }
     ensures { λ r. ⌜ EndsDo (now (text .entry)) from last name sizes r ⌝ }
 {
     let GotParameter::Read {
@@ -132,7 +141,7 @@ fn read_parameters(
 }
 
 pub fn read_do(text: &[u8], items: &mut [u64]) -> Statement
-    requires { ⌜ 4 * length (now text) ≤ length (now items) ⌝ }
+    requires { ⌜ 5 * length (now text) ≤ length (now items) ⌝ }
     ensures { λ r. ⌜ r ≡ answer (readDo (now (text .entry))) ⌝ }
 {
     if !read_tokens::starts_word(text, b"DO") {
@@ -146,11 +155,7 @@ pub fn read_do(text: &[u8], items: &mut [u64]) -> Statement
     else {
         return Statement::Bad;
     };
-    let Token::Read {
-        at: b,
-        word: name,
-        sizes,
-    } = read_tokens::read_name(text, a)
+    let GotName::Read { at: b, name, sizes } = read_tokens::read_name(text, a)
     else {
         return Statement::Bad;
     };

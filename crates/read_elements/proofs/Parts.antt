@@ -13,8 +13,9 @@ use Rattle.rules_text.specs.Trees.{optional, nothing, plus, minus, constant, li
 use Rattle.rules_text.specs.Trees as trees
 use Rattle.rules_text.specs.Tokens.{leftParen, rightParen, star, plusSign, comma, minusSign, bad, give, andThen, after, choose, starts, startsDigit, number, name}
 use Rattle.rules_text.specs.Grammar.{addend, linearOf, subscript, subscripts, place}
+use Rattle.read_tokens.specs.declared.Name.{Name}
 use Rattle.read_tokens.specs.declared.Sizes.{Sizes}
-use Rattle.read_tokens.specs.Words.{capped, nameWord}
+use Rattle.read_tokens.specs.Words.{capped, nameOf, noName}
 use Rattle.read_tokens.specs.Sizes.{sizesOf, both}
 use Rattle.read_tokens.specs.Reading.{constantSize, nameSize}
 use Rattle.read_tokens.specs.Reading as reading
@@ -53,8 +54,8 @@ place-shape =
 abbrev TookNumber : List ℕ → ℕ → ℕ → ℕ → Sizes → Type 0
 TookNumber s from at w z = Took capped constantSize reading.two s from (number (drop from s)) at w z
 
-abbrev TookName : List ℕ → ℕ → ℕ → ℕ → Sizes → Type 0
-TookName s from at w z = Took nameWord nameSize reading.two s from (name (drop from s)) at w z
+abbrev TookName : List ℕ → ℕ → ℕ → Name → Sizes → Type 0
+TookName s from at w z = Took nameOf nameSize reading.five s from (name (drop from s)) at w z
 
 abbrev TookSubscript : List ℕ → ℕ → ℕ → Subscript → Sizes → Type 0
 TookSubscript s from at w z = Took subscriptValue subscriptSizes subscriptWeight s from (subscript (drop from s)) at w z
@@ -147,11 +148,11 @@ module _ (s : List ℕ) (from : ℕ) (le : from ≤ length s) (g : ℕ) (ge : g 
 
 -- ---- a variable with its addend
 
-same-subscript : {a b c d a′ b′ c′ d′ : ℕ} → a ≡ a′ → b ≡ b′ → c ≡ c′ → d ≡ d′
+same-subscript : {a c d a′ c′ d′ : ℕ} {b b′ : Name} → a ≡ a′ → b ≡ b′ → c ≡ c′ → d ≡ d′
     → _≡_ {A = Subscript} (record { times = a; name = b; minus = c; addend = d }) (record { times = a′; name = b′; minus = c′; addend = d′ })
-same-subscript {a} {b} {c} {d} {a′} {b′} {c′} {d′} p q r s =
+same-subscript {a} {c} {d} {a′} {c′} {d′} {b} {b′} p q r s =
     ap (λ (x : ℕ). record { times = x; name = b; minus = c; addend = d }) p
-    ∙ ap (λ (x : ℕ). record { times = a′; name = x; minus = c; addend = d }) q
+    ∙ ap (λ (x : Name). record { times = a′; name = x; minus = c; addend = d }) q
     ∙ ap (λ (x : ℕ). record { times = a′; name = b′; minus = x; addend = d }) r
     ∙ ap (λ (x : ℕ). record { times = a′; name = b′; minus = c′; addend = x }) s
 
@@ -160,14 +161,14 @@ module _ (s : List ℕ) (from : ℕ) (le : from ≤ length s) where
   unfolding linearOf
   linear-no-name b m te ze = refuse (then-bad s from name _ b) le refl
 
-  pub linear-no-addend : {times at w : ℕ} {before z : Sizes} → TookName s from at w z → addend (drop at s) ≡ bad → ReadsLinear s from times before gotSubscript.Bad
+  pub linear-no-addend : {times at : ℕ} {w : Name} {before z : Sizes} → TookName s from at w z → addend (drop at s) ≡ bad → ReadsLinear s from times before gotSubscript.Bad
   unfolding linearOf
   linear-no-addend {times} {at} t b m te ze = refuse (then-none s from name _ (t .upto) (then-bad s at addend _ b)) le refl
 
-  pub linear-read : {times at w end : ℕ} {before z y both₁ both₂ : Sizes} {a : Addend} → TookName s from at w z → Took addendValue addendSizes addendWeight s at (addend (drop at s)) end a y
+  pub linear-read : {times at : ℕ} {w : Name} {end : ℕ} {before z y both₁ both₂ : Sizes} {a : Addend} → TookName s from at w z → Took addendValue addendSizes addendWeight s at (addend (drop at s)) end a y
       → both₁ ≡ both z y → both₂ ≡ both before both₁
       → ReadsLinear s from times before (gotSubscript.Read end (record { times = times; name = w; minus = a .minus; addend = a .value }) both₂)
-  unfolding linearOf subscriptValue subscriptSizes subscriptWeight addendSizes nameSize reading.two
+  unfolding linearOf subscriptValue subscriptSizes subscriptWeight addendSizes nameSize reading.five
   linear-read {times} {at} {w} {end} {before} {z} {y} {both₁} {both₂} {a} t u e f m te ze =
       accept (then-upto s from name _ (t .upto) (then-upto s at addend _ (u .upto) (give-upto s end (linear m (t .tree) (u .tree)) (u .upto .within))))
       (same-subscript te (t .value-is) (ap (λ (x : Addend). x .minus) (u .value-is)) (ap (λ (x : Addend). x .value) (u .value-is)))
@@ -203,13 +204,13 @@ module _ (s : List ℕ) (from : ℕ) (le : from ≤ length s) where
       reads-as (subscript-digit t) (then-reads s from number _ le (t .upto)
       (reads-as (byte-yes s at star _ _ (omega arith) e) (after-reads s at star _ (omega arith) e (h (some (t .tree)) (t .value-is) (t .sizes-is)))))
 
-  pub subscript-constant : {at w : ℕ} {z : Sizes} → TookNumber s from at w z → (getD s at 0 ≡ star → ⊥)
-      → ReadsSubscript s from (subscript (drop from s)) (gotSubscript.Read at (record { times = 0; name = 0; minus = 0; addend = w }) z)
+  pub subscript-constant : {at w : ℕ} {no : Name} {z : Sizes} → TookNumber s from at w z → (getD s at 0 ≡ star → ⊥) → no ≡ noName
+      → ReadsSubscript s from (subscript (drop from s)) (gotSubscript.Read at (record { times = 0; name = no; minus = 0; addend = w }) z)
   unfolding subscriptValue subscriptSizes subscriptWeight constantSize reading.two
-  subscript-constant {at} {w} {z} t n =
+  subscript-constant {at} {w} {no} {z} t n ne =
       accept (upto-as s from (subscript-digit t) (then-upto s from number _ (t .upto)
       (upto-as s at (byte-no s at star _ _ (omega arith) n) (give-upto s at (constant (t .tree)) (t .upto .within)))))
-      (same-subscript refl refl refl (t .value-is)) (t .sizes-is) (omega (arith, t .few)) refl
+      (same-subscript refl ne refl (t .value-is)) (t .sizes-is) (omega (arith, t .few)) refl
 
   -- ---- one or two subscripts in parentheses
 
@@ -279,9 +280,9 @@ module _ (s : List ℕ) (from : ℕ) (le : from ≤ length s) where
   unfolding place
   place-no-name b = refuse (then-bad s from name _ b) le refl
 
-  module _ {at w : ℕ} {z : Sizes} (t : TookName s from at w z) where
+  module _ {at : ℕ} {w : Name} {z : Sizes} (t : TookName s from at w z) where
     pub place-cell : (getD s at 0 ≡ leftParen → ⊥) → ReadsPlace s from (place (drop from s)) (gotPlace.Read at (target.Cell w) z)
-    unfolding place targetValue targetSizes targetWeight nameSize reading.two
+    unfolding place targetValue targetSizes targetWeight nameSize reading.five
     place-cell n =
         accept (then-upto s from name _ (t .upto) (upto-as s at (byte-no s at leftParen _ _ (omega arith) n) (give-upto s at (cell (t .tree)) (t .upto .within))))
         (ap target.Cell (t .value-is)) (t .sizes-is) (omega (arith, t .few)) refl
@@ -294,11 +295,11 @@ module _ (s : List ℕ) (from : ℕ) (le : from ≤ length s) where
     pub place-element : {end : ℕ} {p : Subscripts} {y b : Sizes} → getD s at 0 ≡ leftParen
         → Took subscriptsValue subscriptsSizes subscriptsWeight s at (subscripts (drop at s)) end p y → b ≡ both z y
         → ReadsPlace s from (place (drop from s)) (gotPlace.Read end (target.Element (record { name = w; subscripts = p })) b)
-    unfolding place targetValue targetSizes targetWeight subscriptsSizes subscriptsWeight nameSize reading.two
+    unfolding place targetValue targetSizes targetWeight subscriptsSizes subscriptsWeight nameSize reading.five
     place-element {end} {p} {y} {b} e u be =
         accept (then-upto s from name _ (t .upto) (upto-as s at (byte-yes s at leftParen _ _ (omega arith) e)
         (then-upto s at subscripts _ (u .upto) (give-upto s end (element (t .tree) (u .tree)) (u .upto .within)))))
-        (ap (λ (x : ℕ). target.Element (record { name = x; subscripts = p })) (t .value-is) ∙ ap (λ (x : Subscripts). target.Element (record { name = nameWord (t .tree); subscripts = x })) (u .value-is))
+        (ap (λ (x : Name). target.Element (record { name = x; subscripts = p })) (t .value-is) ∙ ap (λ (x : Subscripts). target.Element (record { name = nameOf (t .tree); subscripts = x })) (u .value-is))
         (be ∙ ap (λ (x : Sizes). both x y) (t .sizes-is) ∙ ap (both (sizesOf (t .tree ∷ []) [] 0)) (u .sizes-is)
         ∙ sizes-join (t .tree ∷ []) (subscriptsNames (u .tree)) [] (subscriptsConstants (u .tree)) 0 0)
         (omega (arith, t .few, u .few)) refl

@@ -12,7 +12,7 @@ use Rattle.rules_text.specs.Trees as trees
 use Rattle.rules_text.specs.Tokens.{Found, plusSign, minusSign}
 use Rattle.rules_text.specs.Grammar.{linearOf}
 use Rattle.read_tokens.specs.declared.Sizes.{Sizes}
-use Rattle.read_tokens.specs.Words.{capped, nameWord}
+use Rattle.read_tokens.specs.Words.{capped, nameOf, noName}
 use Rattle.read_tokens.specs.Sizes.{sizesOf}
 use Rattle.read_tokens.specs.Reading.{Reads}
 use Rattle.read_elements.specs.declared.Addend.{Addend}
@@ -46,21 +46,20 @@ unfoldable pub timesOf : Option Digits → ℕ
 timesOf none = 1
 timesOf (some c) = capped c
 
--- a constant has no name: 0 is the word of none
 unfoldable pub subscriptValue : trees.Subscript → Subscript
-subscriptValue (constant c) = record { times = 0; name = 0; minus = 0; addend = capped c }
-subscriptValue (linear m v a) = record { times = timesOf m; name = nameWord v; minus = addendValue a .minus; addend = addendValue a .value }
+subscriptValue (constant c) = record { times = 0; name = noName; minus = 0; addend = capped c }
+subscriptValue (linear m v a) = record { times = timesOf m; name = nameOf v; minus = addendValue a .minus; addend = addendValue a .value }
 
 abbrev pub noSubscript : Subscript
-noSubscript = record { times = 0; name = 0; minus = 0; addend = 0 }
+noSubscript = record { times = 0; name = noName; minus = 0; addend = 0 }
 
 unfoldable pub subscriptsValue : trees.Subscripts → Subscripts
 subscriptsValue (one s) = record { count = 1; first = subscriptValue s; second = noSubscript }
 subscriptsValue (two s t) = record { count = 2; first = subscriptValue s; second = subscriptValue t }
 
 unfoldable pub targetValue : trees.Target → Target
-targetValue (cell v) = target.Cell (nameWord v)
-targetValue (trees.element v s) = target.Element (record { name = nameWord v; subscripts = subscriptsValue s })
+targetValue (cell v) = target.Cell (nameOf v)
+targetValue (trees.element v s) = target.Element (record { name = nameOf v; subscripts = subscriptsValue s })
 
 -- ---- their sizes
 
@@ -85,11 +84,11 @@ unfoldable pub subscriptWeight : trees.Subscript → ℕ
 subscriptWeight s = 1
 
 unfoldable pub subscriptsWeight : trees.Subscripts → ℕ
-subscriptsWeight s = 9
+subscriptsWeight s = 15
 
 unfoldable pub targetWeight : trees.Target → ℕ
-targetWeight (cell v) = 2
-targetWeight (trees.element v s) = 11
+targetWeight (cell v) = 5
+targetWeight (trees.element v s) = 20
 
 -- ---- what the readers ensure
 

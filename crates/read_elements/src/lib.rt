@@ -4,6 +4,8 @@ ghost use Prim.Native.Nat.{_≤_};
 ghost use lib.ListN.{length, drop};
 ghost use Rattle.rules_text.specs.Grammar.{addend, subscript, subscripts, place};
 ghost use Rattle.read_elements.specs.Values.{signNumber, noSubscript, ReadsAddend, ReadsSubscript, ReadsLinear, ReadsSubscripts, ReadsPlace};
+use read_tokens::GotName;
+use read_tokens::Name;
 use read_tokens::Sizes;
 use read_tokens::Token;
 
@@ -14,8 +16,8 @@ pub struct Addend {
 
 pub struct Subscript {
     pub times: u64,
-    // 0 for none
-    pub name: u64,
+    // `no_name` for none
+    pub name: Name,
     pub minus: u64,
     pub addend: u64,
 }
@@ -27,13 +29,13 @@ pub struct Subscripts {
 }
 
 pub struct Element {
-    pub name: u64,
+    pub name: Name,
     pub subscripts: Subscripts,
 }
 
 // A plain cell or an element.
 pub enum Target {
-    Cell(u64),
+    Cell(Name),
     Element(Element),
 }
 
@@ -91,7 +93,7 @@ fn no_subscript() -> Subscript
 {
     Subscript {
         times: 0,
-        name: 0,
+        name: read_tokens::no_name(),
         minus: 0,
         addend: 0,
     }
@@ -127,9 +129,9 @@ fn read_linear(s: &[u8], from: usize, times: u64, sizes: Sizes) -> GotSubscript
     requires { ⌜ from ≤ length (now s) ⌝ }
     ensures { λ r. ⌜ ReadsLinear (now (s .entry)) from times sizes r ⌝ }
 {
-    let Token::Read {
+    let GotName::Read {
         at: a,
-        word,
+        name,
         sizes: z,
     } = read_tokens::read_name(s, from)
     else {
@@ -147,7 +149,7 @@ fn read_linear(s: &[u8], from: usize, times: u64, sizes: Sizes) -> GotSubscript
         at,
         subscript: Subscript {
             times,
-            name: word,
+            name,
             minus: addend.minus,
             addend: addend.value,
         },
@@ -169,7 +171,7 @@ fn read_subscript(s: &[u8], from: usize) -> GotSubscript
         at,
         subscript: Subscript {
             times: 0,
-            name: 0,
+            name: read_tokens::no_name(),
             minus: 0,
             addend: word,
         },
@@ -232,9 +234,9 @@ pub fn read_place(s: &[u8], from: usize) -> GotPlace
     requires { ⌜ from ≤ length (now s) ⌝ }
     ensures { λ r. ⌜ ReadsPlace (now (s .entry)) from (place (drop from (now (s .entry)))) r ⌝ }
 {
-    let Token::Read {
+    let GotName::Read {
         at: a,
-        word,
+        name,
         sizes: z,
     } = read_tokens::read_name(s, from)
     else {
@@ -243,7 +245,7 @@ pub fn read_place(s: &[u8], from: usize) -> GotPlace
     if read_tokens::byte(s, a) != b'(' {
         return GotPlace::Read {
             at: a,
-            target: Target::Cell(word),
+            target: Target::Cell(name),
             sizes: z,
         };
     }
@@ -257,10 +259,7 @@ pub fn read_place(s: &[u8], from: usize) -> GotPlace
     };
     GotPlace::Read {
         at,
-        target: Target::Element(Element {
-            name: word,
-            subscripts,
-        }),
+        target: Target::Element(Element { name, subscripts }),
         sizes: read_tokens::of_both(z, y),
     }
 }

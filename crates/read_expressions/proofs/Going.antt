@@ -32,7 +32,7 @@ pub record Going (whole : Mode) (again : Expr → Mode) (s a b : List ℕ) (n at
   pub left : parse whole s ≡ ahead at (parse (again acc) (drop at s))
   pub table : take top b ≡ take n a ++ flat acc
   pub top-is : top ≡ n + length (flat acc)
-  pub few : length (flat acc) ≤ 4 * at
+  pub few : length (flat acc) ≤ 5 * at
   pub within : at ≤ length s
   pub kept : length b ≡ length a
   pub sizes-is : z ≡ exprSizes acc

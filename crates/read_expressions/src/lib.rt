@@ -7,7 +7,7 @@ use read_items::Got;
 use read_tokens::Sizes;
 
 pub fn expression(s: &[u8], items: &mut [u64], n: usize) -> Got
-    requires { ⌜ n + 4 * length (now s) ≤ length (now items) ⌝ }
+    requires { ⌜ n + 5 * length (now s) ≤ length (now items) ⌝ }
     ensures { λ r. ⌜ Parsed (now (s .entry)) (now (items .entry)) (now (items .exit)) n (parse Mode.anExpression (now (s .entry))) r ⌝ }
 {
     let c = read_tokens::byte(s, 0);
@@ -46,7 +46,7 @@ pub fn expression(s: &[u8], items: &mut [u64], n: usize) -> Got
 }
 
 fn term(s: &[u8], items: &mut [u64], n: usize) -> Got
-    requires { ⌜ n + 4 * length (now s) ≤ length (now items) ⌝ }
+    requires { ⌜ n + 5 * length (now s) ≤ length (now items) ⌝ }
     ensures { λ r. ⌜ Parsed (now (s .entry)) (now (items .entry)) (now (items .exit)) n (parse Mode.aTerm (now (s .entry))) r ⌝ }
 {
     let Got::Read {
@@ -83,7 +83,7 @@ fn term(s: &[u8], items: &mut [u64], n: usize) -> Got
 }
 
 fn factor(s: &[u8], items: &mut [u64], n: usize) -> Got
-    requires { ⌜ n + 4 * length (now s) ≤ length (now items) ⌝ }
+    requires { ⌜ n + 5 * length (now s) ≤ length (now items) ⌝ }
     ensures { λ r. ⌜ Parsed (now (s .entry)) (now (items .entry)) (now (items .exit)) n (parse Mode.aFactor (now (s .entry))) r ⌝ }
 {
     if read_tokens::byte(s, 0) != b'(' {

@@ -12,11 +12,12 @@ use Rattle.rules_text.specs.Tokens.{comma, wordContinue, wordStop, wordEnd, Rea
 use Rattle.rules_deck.specs.Meaning.{third}
 use Rattle.read_cards.specs.declared.Number.{Number}
 use Rattle.read_tokens.specs.declared.Sizes.{Sizes}
-use Rattle.read_tokens.specs.Words.{capped, nameWord, startsWord}
+use Rattle.read_tokens.specs.Words.{capped, nameOf, nameWords, startsWord}
 use Rattle.read_tokens.specs.Sizes.{sizesOf}
 use Rattle.read_elements.specs.Values.{targetValue}
 use Rattle.read_items.specs.Items.{flat, exprSizes}
 use Rattle.read_forms.specs.declared.Parameter.{Parameter}
+use Rattle.read_forms.specs.declared.Parameter.the-variants as parameter
 use Rattle.read_forms.specs.declared.Statement.{Statement}
 use Rattle.read_forms.specs.declared.Statement.the-variants as statement
 
@@ -24,8 +25,8 @@ use Rattle.read_forms.specs.declared.Statement.the-variants as statement
 
 -- an array's: 1 or 2 dimensions, its name, rows and columns
 unfoldable pub arrayWords : Array → List ℕ
-arrayWords (array v r none) = 1 ∷ nameWord v ∷ capped r ∷ 0 ∷ []
-arrayWords (array v r (some c)) = 2 ∷ nameWord v ∷ capped r ∷ capped c ∷ []
+arrayWords (array v r none) = 1 ∷ (nameWords (nameOf v) ++ (capped r ∷ 0 ∷ []))
+arrayWords (array v r (some c)) = 2 ∷ (nameWords (nameOf v) ++ (capped r ∷ capped c ∷ []))
 
 unfoldable pub allWords : List Array → List ℕ
 allWords [] = []
@@ -52,14 +53,14 @@ asNumber n = record { 0 = n }
 abbrev pub numberValue : Digits → Number
 numberValue n = asNumber (capped n)
 
--- a DO's parameter: 1 and a constant's value, or 2 and a name
+-- a DO's parameter: the grammar lets no other expression be one
 unfoldable pub parameterValue : Expr → Parameter
-parameterValue (con c) = record { kind = 1; word = capped c }
-parameterValue (var v) = record { kind = 2; word = nameWord v }
-parameterValue (elm v s) = record { kind = 0; word = 0 }
-parameterValue (neg e) = record { kind = 0; word = 0 }
-parameterValue (par e) = record { kind = 0; word = 0 }
-parameterValue (bin o a b) = record { kind = 0; word = 0 }
+parameterValue (con c) = parameter.Constant (capped c)
+parameterValue (var v) = parameter.Variable (nameOf v)
+parameterValue (elm v s) = parameter.Constant 0
+parameterValue (neg e) = parameter.Constant 0
+parameterValue (par e) = parameter.Constant 0
+parameterValue (bin o a b) = parameter.Constant 0
 
 unfoldable pub formSizes : Form → Sizes
 formSizes f = sizesOf (formNames f) (formConstants f) (formLevels f)
@@ -67,13 +68,13 @@ formSizes f = sizesOf (formNames f) (formConstants f) (formLevels f)
 unfoldable pub statementOf : Form → Statement
 statementOf (assign t e) = statement.Assign (record { target = targetValue t; count = length (flat e); sizes = formSizes (assign t e) })
 statementOf (goTo n) = statement.GoTo (numberValue n)
-statementOf (computed ns v) = statement.Computed (record { exits = length ns; name = nameWord v; sizes = formSizes (computed ns v) })
+statementOf (computed ns v) = statement.Computed (record { exits = length ns; name = nameOf v; sizes = formSizes (computed ns v) })
 statementOf (ifs e a b c) =
     statement.If (record { count = length (flat e); below = numberValue a; at = numberValue b; above = numberValue c; sizes = formSizes (ifs e a b c) })
 statementOf (loop n v p q r) =
     statement.Do (record {
       last = numberValue n;
-      name = nameWord v;
+      name = nameOf v;
       first = parameterValue p;
       limit = parameterValue q;
       by = parameterValue (third r);

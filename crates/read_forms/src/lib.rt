@@ -11,6 +11,7 @@ use read_cards::Number;
 use read_elements::GotPlace;
 use read_elements::Target;
 use read_items::Got;
+use read_tokens::Name;
 use read_tokens::Sizes;
 use read_tokens::Token;
 
@@ -24,7 +25,7 @@ pub struct Assignment {
 pub struct Computed {
     // numbers in the table
     pub exits: usize,
-    pub name: u64,
+    pub name: Name,
     pub sizes: Sizes,
 }
 
@@ -36,15 +37,15 @@ pub struct If {
     pub sizes: Sizes,
 }
 
-// A constant's value, kind 1, or a name, kind 2.
-pub struct Parameter {
-    pub kind: u64,
-    pub word: u64,
+// A constant's value, or a variable.
+pub enum Parameter {
+    Constant(u64),
+    Variable(Name),
 }
 
 pub struct Do {
     pub last: Number,
-    pub name: u64,
+    pub name: Name,
     pub first: Parameter,
     pub limit: Parameter,
     // the constant 1 where it is not written
@@ -53,7 +54,7 @@ pub struct Do {
 }
 
 pub struct Dimension {
-    // arrays in the table, four words each
+    // arrays in the table, seven words each
     pub arrays: usize,
     pub sizes: Sizes,
 }
@@ -74,7 +75,7 @@ pub enum Statement {
 
 // v=e, v(s)=e or v(s,s)=e: the expression reader is handed the text from where the expression begins.
 pub fn read_assignment(text: &[u8], items: &mut [u64]) -> Statement
-    requires { ⌜ 4 * length (now text) ≤ length (now items) ⌝ }
+    requires { ⌜ 5 * length (now text) ≤ length (now items) ⌝ }
     ensures { λ r. ⌜ Reads (now (items .exit)) (readAssignment (now (text .entry))) r ⌝ }
 {
     let GotPlace::Read {
@@ -180,7 +181,7 @@ fn read_exits(text: &[u8], from: usize, count: usize, sizes: Sizes) -> Statement
 
 // IF(e)n,n,n
 pub fn read_if(text: &[u8], items: &mut [u64]) -> Statement
-    requires { ⌜ 4 * length (now text) ≤ length (now items) ⌝ }
+    requires { ⌜ 5 * length (now text) ≤ length (now items) ⌝ }
     ensures { λ r. ⌜ Reads (now (items .exit)) (readIf (now (text .entry))) r ⌝ }
 {
     if !read_tokens::starts_word(text, b"IF") {

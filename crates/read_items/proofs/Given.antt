@@ -10,8 +10,9 @@ use Rattle.rules_text.specs.Trees.{Expr, con, levels, cell, element}
 use Rattle.rules_text.specs.Trees as trees
 use Rattle.rules_text.specs.Tokens.{Found, found, bad, Reader, give, andThen, startsDigit, number}
 use Rattle.rules_text.specs.Grammar.{place, operandOf, operand}
+use Rattle.read_tokens.specs.declared.Name.{Name}
 use Rattle.read_tokens.specs.declared.Sizes.{Sizes}
-use Rattle.read_tokens.specs.Words.{capped}
+use Rattle.read_tokens.specs.Words.{capped, nameWords}
 use Rattle.read_tokens.specs.Reading.{constantSize}
 use Rattle.read_tokens.specs.Reading as reading
 use Rattle.read_tokens.proofs.Tokens.{number-digit, digit-number}
@@ -33,7 +34,7 @@ pub record Took (s a b : List ℕ) (n : ℕ) (o : Found Expr) (at m : ℕ) (z : 
   pub top : m ≡ n + length (flat tree)
   pub table : take m b ≡ take n a ++ flat tree
   pub within : at ≤ length s
-  pub few : length (flat tree) ≤ 4 * at
+  pub few : length (flat tree) ≤ 5 * at
   pub sizes-is : z ≡ exprSizes tree
   pub low : levels tree ≤ at
 
@@ -98,7 +99,7 @@ parsed-as {s} {a} {b} {n} {o} {p} {r} e h = subst (λ (x : Found Expr). Parsed s
 
 -- one tree of no levels
 leaf : {s a b : List ℕ} {n : ℕ} {o : Found Expr} {at m : ℕ} {z : Sizes} (e : Expr) (ws : List ℕ) → Upto s 0 o at e → Put a b n ws m → flat e ≡ ws
-    → levels e ≡ 0 → z ≡ exprSizes e → length ws ≤ 4 * at → Parsed s a b n o (Read at m z)
+    → levels e ≡ 0 → z ≡ exprSizes e → length ws ≤ 5 * at → Parsed s a b n o (Read at m z)
 leaf {s} {a} {b} {n} {o} {at} {m} {z} e ws u p fe le ze few =
     let same : u .count ≡ at = omega (arith, u .ends) in
     accept (record {
@@ -107,7 +108,7 @@ leaf {s} {a} {b} {n} {o} {at} {m} {z} e ws u p fe le ze few =
       top = p .top ∙ ap (λ (l : List ℕ). n + length l) (sym fe);
       table = p .table ∙ ap (λ (l : List ℕ). take n a ++ l) (sym fe);
       within = u .within;
-      few = subst (λ (l : List ℕ). length l ≤ 4 * at) (sym fe) few;
+      few = subst (λ (l : List ℕ). length l ≤ 5 * at) (sym fe) few;
       sizes-is = ze;
       low = omega (arith, le);
     })
@@ -120,7 +121,7 @@ unfolding targetWords targetValue targetWeight
 target-words (cell v) = refl
 target-words (element v s) = refl
 
-pub place-room : {s : List ℕ} {at : ℕ} {t : Target} {z : Sizes} → TookPlace s at t z → length (targetWords t) ≤ 4 * at
+pub place-room : {s : List ℕ} {at : ℕ} {t : Target} {z : Sizes} → TookPlace s at t z → length (targetWords t) ≤ 5 * at
 place-room {s} {at} {t} {z} k =
     let e : length (targetWords t) ≡ targetWeight (k .tree) = ap (λ (x : Target). length (targetWords x)) (k .value-is) ∙ target-words (k .tree) in
     omega (arith, k .few)
@@ -162,7 +163,7 @@ operand-other {s} e h = parsed-as (operand-place s e) h
 abbrev TookNumber : List ℕ → ℕ → ℕ → Sizes → Type 0
 TookNumber s at w z = chains.Took capped constantSize reading.two s 0 (number s) at w z
 
-pub number-room : {s : List ℕ} {at w : ℕ} {z : Sizes} → TookNumber s at w z → 2 ≤ 4 * at
+pub number-room : {s : List ℕ} {at w : ℕ} {z : Sizes} → TookNumber s at w z → 2 ≤ 5 * at
 unfolding reading.two
 number-room k = omega (arith, k .few)
 
@@ -175,17 +176,17 @@ operand-number {s} {a} {b} {n} {at} {m} {w} {z} k p =
 
 -- ---- a target as an item
 
-module _ {t : Target} {w : ℕ} (e : t ≡ target.Cell w) where
-  pub cell-room : length (targetWords t) ≡ 2
+module _ {t : Target} {n : Name} (e : t ≡ target.Cell n) where
+  pub cell-room : length (targetWords t) ≡ 5
   unfolding targetWords
   cell-room = ap (λ (x : Target). length (targetWords x)) e
 
-  pub put-cell : {a b : List ℕ} {n r : ℕ} → Put a b n (2 ∷ w ∷ []) r → Put a b n (targetWords t) r
+  pub put-cell : {a b : List ℕ} {m r : ℕ} → Put a b m (2 ∷ nameWords n) r → Put a b m (targetWords t) r
   unfolding targetWords
-  put-cell {a} {b} {n} {r} p = subst (λ (x : Target). Put a b n (targetWords x) r) (sym e) p
+  put-cell {a} {b} {m} {r} p = subst (λ (x : Target). Put a b m (targetWords x) r) (sym e) p
 
 module _ {t : Target} {x : Element} (e : t ≡ target.Element x) where
-  pub element-room : length (targetWords t) ≡ 11
+  pub element-room : length (targetWords t) ≡ 20
   unfolding targetWords
   element-room = ap (λ (x : Target). length (targetWords x)) e
 

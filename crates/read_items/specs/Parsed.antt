@@ -38,5 +38,5 @@ pub record Parsed (s a b : List ℕ) (n : ℕ) (o : Found Expr) (r : Got) : Type
   pub says : r ≡ answer n o
   pub table : take (n + length (items o)) b ≡ take n a ++ items o
   pub within : count o ≤ length s
-  pub few : length (items o) ≤ 4 * count o
+  pub few : length (items o) ≤ 5 * count o
   pub low : depth o ≤ count o

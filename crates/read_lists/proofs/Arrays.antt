@@ -8,62 +8,55 @@ use Prim.Native.Nat.{ℕ, _+_, _≤_}
 use native.Mathlib.Omega.{arith}
 use lib.Dec.{eqb}
 use borrow.Author.Tests.{eqb-true, eqb-false}
-use lib.ListN.{length, drop, getD, set, length-set}
+use lib.ListN.{length, drop, getD}
 use Rattle.rules_text.specs.Trees.{Name, Digits, array}
 use Rattle.rules_text.specs.Trees as trees
 use Rattle.rules_text.specs.Tokens.{leftParen, rightParen, comma, Found, found, bad, give, ahead, andThen, after, choose, starts, number, name}
 use Rattle.rules_text.specs.Grammar.{arrayShape}
 use Rattle.rules_text.proofs.Found.{ahead-none}
+use Rattle.read_tokens.specs.declared.Name as code
 use Rattle.read_tokens.specs.declared.Sizes.{Sizes}
-use Rattle.read_tokens.specs.Words.{capped, nameWord}
+use Rattle.read_tokens.specs.Words.{capped, nameOf}
 use Rattle.read_tokens.specs.Sizes.{sizesOf, both}
 use Rattle.read_tokens.specs.Reading.{constantSize, nameSize, endOf, weightOf}
 use Rattle.read_tokens.specs.Reading as reading
 use Rattle.read_tokens.proofs.Measured.{sizes-join}
 use Rattle.read_tokens.proofs.Tokens.{after-none, inside}
 use Rattle.read_tokens.proofs.Chains.{give-upto, after-upto, byte-yes, byte-no, upto-as, then-bad, then-none, Shape, Took, accept, refuse, Leads, then-leads, after-leads, leads-more, leads-upto, leads-bad}
-use Rattle.read_items.specs.Parsed.{Put}
-use Rattle.read_items.proofs.Tables.{put-both, put-more}
 use Rattle.read_forms.proofs.Forms.{after-back, after-then-leads, after-then-bad}
 use Rattle.read_lists.specs.declared.Array.{Array}
 use Rattle.read_lists.specs.declared.GotArray.{GotArray}
 use Rattle.read_lists.specs.declared.GotArray.the-variants.{Read, Bad}
-use Rattle.read_lists.specs.Lists.{arrayValue, arraySizes, fourWords, noWords, ReadsArray, columnsOf, ReadsColumns}
+use Rattle.read_lists.specs.Lists.{arrayValue, arraySizes, sevenWords, noWords, ReadsArray, columnsOf, ReadsColumns}
 
 pub array-shape : Shape Read Bad
 array-shape =
     record { place = λ e. cc; value = λ e. cc; sizes = λ e. cc; apart = λ e. let z : _≡_ {A = ℕ} 0 1 = cc in omega arith }
 
-pub put-array : (a : List ℕ) (n x y z w : ℕ) → n + 4 ≤ length a
-    → Put a (set (set (set (set a n x) (n + 1) y) (n + 2) z) (n + 2 + 1) w) n (x ∷ y ∷ z ∷ w ∷ []) (n + 2 + 2)
-put-array a n x y z w l =
-    put-more (put-both a n x y (omega arith))
-    (put-both (set (set a n x) (n + 1) y) (n + 2) z w (omega (arith, length-set (set a n x) (n + 1) y, length-set a n x)))
-
 abbrev TookNumber : List ℕ → ℕ → ℕ → ℕ → Sizes → Type 0
 TookNumber s from at w z = Took capped constantSize reading.two s from (number (drop from s)) at w z
 
-abbrev TookName : List ℕ → ℕ → ℕ → ℕ → Sizes → Type 0
-TookName s from at w z = Took nameWord nameSize reading.two s from (name (drop from s)) at w z
+abbrev TookName : List ℕ → ℕ → ℕ → code.Name → Sizes → Type 0
+TookName s from at w z = Took nameOf nameSize reading.five s from (name (drop from s)) at w z
 
 abbrev TookNext : List ℕ → ℕ → ℕ → ℕ → Sizes → Type 0
 TookNext s from at w z = Took capped constantSize reading.two s from (after comma number (drop from s)) at w z
 
-same-array : {a b c d a′ b′ c′ d′ : ℕ} → a ≡ a′ → b ≡ b′ → c ≡ c′ → d ≡ d′
+same-array : {a c d a′ c′ d′ : ℕ} {b b′ : code.Name} → a ≡ a′ → b ≡ b′ → c ≡ c′ → d ≡ d′
     → _≡_ {A = Array} (record { dimensions = a; name = b; rows = c; columns = d }) (record { dimensions = a′; name = b′; rows = c′; columns = d′ })
-same-array {a} {b} {c} {d} {a′} {b′} {c′} {d′} p q r s =
+same-array {a} {c} {d} {a′} {c′} {d′} {b} {b′} p q r s =
     ap (λ (x : ℕ). record { dimensions = x; name = b; rows = c; columns = d }) p
-    ∙ ap (λ (x : ℕ). record { dimensions = a′; name = x; rows = c; columns = d }) q
+    ∙ ap (λ (x : code.Name). record { dimensions = a′; name = x; rows = c; columns = d }) q
     ∙ ap (λ (x : ℕ). record { dimensions = a′; name = b′; rows = x; columns = d }) r
     ∙ ap (λ (x : ℕ). record { dimensions = a′; name = b′; rows = c′; columns = x }) s
 
 stay : {A : Type 0} (from : ℕ) (o p : Found A) → o ≡ p → Leads from o from p
 stay from o p e = record { count = 0; is = e ∙ sym (ahead-none p); ends = omega arith }
 
--- an array takes more than one byte
+-- an array takes more than two bytes
 heavier-reads : {s : List ℕ} {from b : ℕ} {o o′ : Found trees.Array} {g : GotArray} → from ≤ length s → Leads from o b o′
-    → reading.Reads Read Bad arrayValue arraySizes noWords s b o′ g → from + 1 ≤ b → ReadsArray s from o g
-unfolding reading.answer endOf weightOf fourWords noWords ahead
+    → reading.Reads Read Bad arrayValue arraySizes noWords s b o′ g → from + 2 ≤ b → ReadsArray s from o g
+unfolding reading.answer endOf weightOf sevenWords noWords ahead
 heavier-reads {s} {from} {b} {o} {o′} {g} le l r f =
     subst (λ (x : Found trees.Array). ReadsArray s from x g) (sym (l .is)) (go o′ r)
   where
@@ -79,7 +72,7 @@ heavier-reads {s} {from} {b} {o} {o′} {g} le l r f =
 
 -- ---- what follows the rows
 
-module _ (s : List ℕ) (from : ℕ) (le : from ≤ length s) (nm rw′ : ℕ) (sizes : Sizes) where
+module _ (s : List ℕ) (from : ℕ) (le : from ≤ length s) (nm : code.Name) (rw′ : ℕ) (sizes : Sizes) where
   pub columns-none : getD s from 0 ≡ rightParen
       → ReadsColumns s from nm rw′ sizes (Read (from + 1) (record { dimensions = 1; name = nm; rows = rw′; columns = 0 }) sizes)
   unfolding columnsOf arrayValue arraySizes noWords
@@ -127,7 +120,7 @@ module _ (s : List ℕ) (from : ℕ) (le : from ≤ length s) where
   unfolding arrayShape
   array-no-name e = refuse (then-bad s from name _ e) le refl
 
-  module _ {a w : ℕ} {z : Sizes} (t : TookName s from a w z) where
+  module _ {a : ℕ} {w : code.Name} {z : Sizes} (t : TookName s from a w z) where
     pub array-not-opened : (getD s a 0 ≡ leftParen → ⊥) → ReadsArray s from (arrayShape (drop from s)) Bad
     unfolding arrayShape
     array-not-opened n = refuse (then-none s from name _ (t .upto) (after-none leftParen (omega arith) s a _ n)) le refl
@@ -145,7 +138,7 @@ module _ (s : List ℕ) (from : ℕ) (le : from ≤ length s) where
 
       pub array-read : {b w′ : ℕ} {z′ y : Sizes} {g : GotArray} → TookNumber s (a + 1) b w′ z′ → y ≡ both z z′ → ReadsColumns s b w w′ y g
           → ReadsArray s from (arrayShape (drop from s)) g
-      unfolding nameSize constantSize reading.two
+      unfolding nameSize constantSize reading.two reading.five
       array-read {b} {w′} {z′} {y} {g} u ye h =
           heavier-reads le (leads-more array-lead (then-leads s (a + 1) number _ (u .upto)))
           (h (t .tree) (u .tree) (t .value-is) (u .value-is)

@@ -54,7 +54,7 @@ module _ {A : Type 0} (r : Reader A) (words : List A → List ℕ) (sizes : List
     pub size : n ≡ length (words acc)
     pub count-is : count ≡ length acc
     pub sizes-is : z ≡ sizes acc
-    pub few : n + 4 * from ≤ 4 * at
+    pub few : n + 5 * from ≤ 5 * at
     pub low : count ≤ at
     pub kept : length b ≡ length a
 
@@ -124,7 +124,7 @@ module _ {A : Type 0} (r : Reader A) (words : List A → List ℕ) (sizes : List
               within = omega (arith, w .ends, w .within);
             })
 
-        pub list-more : getD s next 0 ≡ comma → length new + 4 * at ≤ 4 * next → length b′ ≡ length b → Listing s from a b′ (next + 1) m c y
+        pub list-more : getD s next 0 ≡ comma → length new + 5 * at ≤ 5 * next → length b′ ≡ length b → Listing s from a b′ (next + 1) m c y
         list-more e f k =
             let i = inside comma (omega arith) s next e in
             record {

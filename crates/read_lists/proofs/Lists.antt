@@ -13,8 +13,9 @@ use Rattle.rules_text.specs.Trees.{Name, Digits, array, optional, arrayNames, a
 use Rattle.rules_text.specs.Trees as trees
 use Rattle.rules_text.specs.Tokens.{leftParen, rightParen, comma, wordGoTo, wordDimension, Found, found, bad, give, giveIf, ahead, andThen, allOf, whole, listed, number, name}
 use Rattle.rules_text.specs.Grammar.{rightExits, computedGoTo, arrayShape, dimensions, readComputed, readDimension}
+use Rattle.read_tokens.specs.declared.Name as code
 use Rattle.read_tokens.specs.declared.Sizes.{Sizes}
-use Rattle.read_tokens.specs.Words.{capped, nameWord, startsWord}
+use Rattle.read_tokens.specs.Words.{capped, nameOf, nameWords, startsWord}
 use Rattle.read_tokens.specs.Sizes.{sizesOf, both}
 use Rattle.read_tokens.specs.Reading.{constantSize, nameSize, endOf}
 use Rattle.read_tokens.specs.Reading as reading
@@ -28,7 +29,7 @@ use Rattle.read_forms.proofs.Forms.{here, reads-none, reads-some}
 use Rattle.read_lists.specs.declared.Array.{Array}
 use Rattle.read_lists.specs.declared.GotList.{GotList}
 use Rattle.read_lists.specs.declared.GotList.the-variants.{Read, Bad}
-use Rattle.read_lists.specs.Lists.{arrayValue, arraySizes, fourWords, listWords, answer, ReadsList, numbersWords, numbersSizes, arraysSizes, choiceOf, EndsComputed}
+use Rattle.read_lists.specs.Lists.{arrayValue, arraySizes, sevenWords, listWords, answer, ReadsList, numbersWords, numbersSizes, arraysSizes, choiceOf, EndsComputed}
 
 append-none : {A : Type 0} (l : List A) → l ++ [] ≡ l
 append-none [] = refl
@@ -40,8 +41,8 @@ pub number-takes : {s : List ℕ} {from at w : ℕ} {o : Found Digits} {z : Size
 unfolding reading.two
 number-takes t = omega (arith, t .few)
 
-pub array-takes : {s : List ℕ} {from at : ℕ} {w : Array} {o : Found trees.Array} {z : Sizes} → Took arrayValue arraySizes fourWords s from o at w z → from + 1 ≤ at
-unfolding fourWords
+pub array-takes : {s : List ℕ} {from at : ℕ} {w : Array} {o : Found trees.Array} {z : Sizes} → Took arrayValue arraySizes sevenWords s from o at w z → from + 2 ≤ at
+unfolding sevenWords
 array-takes t = omega (arith, t .few)
 
 -- ---- one more number
@@ -61,7 +62,10 @@ numbers-sizes l e = e
 
 -- ---- one more array
 
-array-words : (x : trees.Array) → arrayWords x ≡ arrayValue x .dimensions ∷ arrayValue x .name ∷ arrayValue x .rows ∷ arrayValue x .columns ∷ []
+abbrev valueWords : Array → List ℕ
+valueWords a = a .dimensions ∷ (nameWords (a .name) ++ (a .rows ∷ a .columns ∷ []))
+
+array-words : (x : trees.Array) → arrayWords x ≡ valueWords (arrayValue x)
 unfolding arrayWords arrayValue
 array-words (array v r none) = refl
 array-words (array v r (some c)) = refl
@@ -72,9 +76,9 @@ all-more [] x = append-none (arrayWords x)
 all-more (y ∷ l) x = ap (λ (m : List ℕ). arrayWords y ++ m) (all-more l x) ∙ sym (append-assoc (arrayWords y) (allWords l) (arrayWords x))
 
 pub arrays-more : (l : List trees.Array) (x : trees.Array) {w : Array} → w ≡ arrayValue x
-    → allWords (l ++ x ∷ []) ≡ allWords l ++ w .dimensions ∷ w .name ∷ w .rows ∷ w .columns ∷ []
+    → allWords (l ++ x ∷ []) ≡ allWords l ++ valueWords w
 arrays-more l x {w} e =
-    all-more l x ∙ ap (λ (m : List ℕ). allWords l ++ m) (array-words x ∙ ap (λ (v : Array). v .dimensions ∷ v .name ∷ v .rows ∷ v .columns ∷ []) (sym e))
+    all-more l x ∙ ap (λ (m : List ℕ). allWords l ++ m) (array-words x ∙ ap valueWords (sym e))
 
 pub arrays-none : allWords [] ≡ []
 unfolding allWords
@@ -141,8 +145,8 @@ module _ {A : Type 0} {words : List A → List ℕ} {sizes : List A → Sizes} {
 
 -- ---- a computed GO TO
 
-abbrev TookName : List ℕ → ℕ → ℕ → ℕ → Sizes → Type 0
-TookName s from at w z = Took nameWord nameSize reading.two s from (name (drop from s)) at w z
+abbrev TookName : List ℕ → ℕ → ℕ → code.Name → Sizes → Type 0
+TookName s from at w z = Took nameOf nameSize reading.five s from (name (drop from s)) at w z
 
 few-exits : (ns : List Digits) → length ns < 2 → rightExits ns ≡ false
 unfolding rightExits
@@ -181,7 +185,7 @@ module _ (s : List ℕ) (from exits : ℕ) where
       pub choice-no-name : name (drop (from + 1 + 1) s) ≡ bad → EndsComputed s from exits statement.Bad
       choice-no-name e ns b ee te = reads-none (whole-bad (length s) (leads-bad (choice-lead ns) (then-bad s (from + 1 + 1) name _ e)))
 
-      module _ {at w : ℕ} {z : Sizes} (t : TookName s (from + 1 + 1) at w z) where
+      module _ {at : ℕ} {w : code.Name} {z : Sizes} (t : TookName s (from + 1 + 1) at w z) where
         choice-at : (ns : List Digits) → Leads 0 (ahead from (choiceOf ns (drop from s))) at (giveIf (rightExits ns) (computed ns (t .tree)) (drop at s))
         choice-at ns = leads-more (choice-lead ns) (then-leads s (from + 1 + 1) name _ (t .upto))
 
@@ -214,8 +218,8 @@ module _ (s : List ℕ) (from exits : ℕ) where
         choice-read q g l ns b ee te =
             reads-some (computed ns (t .tree)) (whole-some (right ns (right-exits ns (subst (λ (x : ℕ). 2 ≤ x) ee g) (subst (λ (x : ℕ). x ≤ 10) ee l))) q)
             (ap (λ (x : ℕ). statement.Computed (record { exits = x; name = w; sizes = z })) ee
-            ∙ ap (λ (x : ℕ). statement.Computed (record { exits = length ns; name = x; sizes = z })) (t .value-is)
-            ∙ ap (λ (x : Sizes). statement.Computed (record { exits = length ns; name = nameWord (t .tree); sizes = x })) (t .sizes-is))
+            ∙ ap (λ (x : code.Name). statement.Computed (record { exits = length ns; name = x; sizes = z })) (t .value-is)
+            ∙ ap (λ (x : Sizes). statement.Computed (record { exits = length ns; name = nameOf (t .tree); sizes = x })) (t .sizes-is))
             te
 
 pub computed-no-word : {b : List ℕ} (s : List ℕ) → startsWord wordGoTo s ≡ false → Reads b (readComputed s) statement.Bad

@@ -9,8 +9,9 @@ use Rattle.rules_text.specs.Trees.{Name, Digits, array, optional, arrayNames, a
 use Rattle.rules_text.specs.Trees as trees
 use Rattle.rules_text.specs.Tokens.{rightParen, comma, Found, found, bad, Reader, give, giveIf, ahead, andThen, after, choose, starts, allOf, number, name}
 use Rattle.rules_text.specs.Grammar.{rightExits}
+use Rattle.read_tokens.specs.declared.Name as code
 use Rattle.read_tokens.specs.declared.Sizes.{Sizes}
-use Rattle.read_tokens.specs.Words.{capped, nameWord}
+use Rattle.read_tokens.specs.Words.{capped, nameOf}
 use Rattle.read_tokens.specs.Sizes.{sizesOf}
 use Rattle.read_tokens.specs.Reading as reading
 use Rattle.read_forms.specs.declared.Statement.{Statement}
@@ -24,20 +25,20 @@ use Rattle.read_lists.specs.declared.GotList.the-variants.{Read, Bad}
 -- ---- one array
 
 unfoldable pub arrayValue : trees.Array → Array
-arrayValue (array v r none) = record { dimensions = 1; name = nameWord v; rows = capped r; columns = 0 }
-arrayValue (array v r (some c)) = record { dimensions = 2; name = nameWord v; rows = capped r; columns = capped c }
+arrayValue (array v r none) = record { dimensions = 1; name = nameOf v; rows = capped r; columns = 0 }
+arrayValue (array v r (some c)) = record { dimensions = 2; name = nameOf v; rows = capped r; columns = capped c }
 
 unfoldable pub arraySizes : trees.Array → Sizes
 arraySizes (array v r c) = sizesOf (v ∷ []) (r ∷ optional c) 0
 
-unfoldable pub fourWords : trees.Array → ℕ
-fourWords a = 4
+unfoldable pub sevenWords : trees.Array → ℕ
+sevenWords a = 7
 
 unfoldable pub noWords : trees.Array → ℕ
 noWords a = 0
 
 abbrev pub ReadsArray : List ℕ → ℕ → Found trees.Array → GotArray → Type 0
-ReadsArray s from o r = reading.Reads gotArray.Read gotArray.Bad arrayValue arraySizes fourWords s from o r
+ReadsArray s from o r = reading.Reads gotArray.Read gotArray.Bad arrayValue arraySizes sevenWords s from o r
 
 -- ---- a list, whose words stand first in the table
 
@@ -78,9 +79,9 @@ columnsOf v r =
     choose (starts comma) (after comma (andThen number (λ c. after rightParen (give (array v r (some c))))))
     (after rightParen (give (array v r none)))
 
-abbrev pub ReadsColumns : List ℕ → ℕ → ℕ → ℕ → Sizes → GotArray → Type 0
+abbrev pub ReadsColumns : List ℕ → ℕ → code.Name → ℕ → Sizes → GotArray → Type 0
 ReadsColumns s from name rows sizes g =
-    (v : Name) (r : Digits) → name ≡ nameWord v → rows ≡ capped r → sizes ≡ sizesOf (v ∷ []) (r ∷ []) 0
+    (v : Name) (r : Digits) → name ≡ nameOf v → rows ≡ capped r → sizes ≡ sizesOf (v ∷ []) (r ∷ []) 0
     → reading.Reads gotArray.Read gotArray.Bad arrayValue arraySizes noWords s from (columnsOf v r (drop from s)) g
 
 -- what follows the numbers ns

@@ -1,9 +1,10 @@
 // Forms with a list: GOTO(n,..,n),v and DIMENSIONv(c),v(c,c)..
-ghost use mathlib.Core.List.{[], _∷_};
+ghost use mathlib.Core.List.{[], _∷_, _++_};
 ghost use Prim.Native.Nat.{_+_, _*_, _≤_};
 ghost use lib.ListN.{length, drop};
 ghost use Rattle.rules_text.specs.Tokens.{listed, number};
 ghost use Rattle.rules_text.specs.Grammar.{arrayShape, readComputed, readDimension};
+ghost use Rattle.read_tokens.specs.Words.{nameWords};
 ghost use Rattle.read_items.specs.Parsed.{Put};
 ghost use Rattle.read_forms.specs.Statements.{Reads};
 ghost use Rattle.read_lists.specs.Lists.{ReadsArray, ReadsColumns, ReadsNumbers, ReadsArrays, EndsComputed};
@@ -12,12 +13,14 @@ use limits::MOST_EXITS;
 use read_forms::Computed;
 use read_forms::Dimension;
 use read_forms::Statement;
+use read_tokens::GotName;
+use read_tokens::Name;
 use read_tokens::Sizes;
 use read_tokens::Token;
 
 pub struct Array {
     pub dimensions: u64,
-    pub name: u64,
+    pub name: Name,
     pub rows: u64,
     // 0 for one dimension
     pub columns: u64,
@@ -46,9 +49,9 @@ fn read_array(text: &[u8], from: usize) -> GotArray
     requires { ⌜ from ≤ length (now text) ⌝ }
     ensures { λ r. ⌜ ReadsArray (now (text .entry)) from (arrayShape (drop from (now (text .entry)))) r ⌝ }
 {
-    let Token::Read {
+    let GotName::Read {
         at: a,
-        word: name,
+        name,
         sizes: z,
     } = read_tokens::read_name(text, from)
     else {
@@ -69,7 +72,7 @@ fn read_array(text: &[u8], from: usize) -> GotArray
 }
 
 // What follows an array's rows: columns or none, and the closing parenthesis.
-fn read_columns(text: &[u8], from: usize, name: u64, rows: u64, sizes: Sizes) -> GotArray
+fn read_columns(text: &[u8], from: usize, name: Name, rows: u64, sizes: Sizes) -> GotArray
     requires { ⌜ from ≤ length (now text) ⌝ }
     ensures { λ r. ⌜ ReadsColumns (now (text .entry)) from name rows sizes r ⌝ }
 {
@@ -109,19 +112,15 @@ fn read_columns(text: &[u8], from: usize, name: u64, rows: u64, sizes: Sizes) ->
 }
 
 fn put_array(items: &mut [u64], n: usize, array: Array) -> usize
-    requires { ⌜ n + 4 ≤ length (now items) ⌝ }
-    ensures { λ r. ⌜ Put (now (items .entry)) (now (items .exit)) n (array .dimensions ∷ array .name ∷ array .rows ∷ array .columns ∷ []) r ⌝ }
+    requires { ⌜ n + 7 ≤ length (now items) ⌝ }
+    ensures { λ r. ⌜ Put (now (items .entry)) (now (items .exit)) n (array .dimensions ∷ (nameWords (array .name) ++ (array .rows ∷ array .columns ∷ []))) r ⌝ }
 {
-    items[n] = array.dimensions;
-    items[n + 1] = array.name;
-    let b = n + 2;
-    items[b] = array.rows;
-    items[b + 1] = array.columns;
-    b + 2
+    let b = read_items::put_named(items, n, array.dimensions, array.name);
+    read_items::put_two(items, b, array.rows, array.columns)
 }
 
 fn read_numbers(text: &[u8], from: usize, items: &mut [u64]) -> GotList
-    requires { ⌜ (from ≤ length (now text)) × (4 * length (now text) ≤ length (now items)) ⌝ }
+    requires { ⌜ (from ≤ length (now text)) × (5 * length (now text) ≤ length (now items)) ⌝ }
     ensures { λ r. ⌜ ReadsNumbers (now (text .entry)) (now (items .exit)) from (listed number (drop from (now (text .entry)))) r ⌝ }
 {
     let mut at = from;
@@ -150,7 +149,7 @@ fn read_numbers(text: &[u8], from: usize, items: &mut [u64]) -> GotList
 }
 
 fn read_arrays(text: &[u8], from: usize, items: &mut [u64]) -> GotList
-    requires { ⌜ (from ≤ length (now text)) × (4 * length (now text) ≤ length (now items)) ⌝ }
+    requires { ⌜ (from ≤ length (now text)) × (5 * length (now text) ≤ length (now items)) ⌝ }
     ensures { λ r. ⌜ ReadsArrays (now (text .entry)) (now (items .exit)) from (listed arrayShape (drop from (now (text .entry)))) r ⌝ }
 {
     let mut at = from;
@@ -193,12 +192,7 @@ fn read_choice(text: &[u8], from: usize, exits: usize) -> Statement
     if read_tokens::byte(text, a) != b',' {
         return Statement::Bad;
     }
-    let Token::Read {
-        at,
-        word: name,
-        sizes,
-    } = read_tokens::read_name(text, a + 1)
-    else {
+    let GotName::Read { at, name, sizes } = read_tokens::read_name(text, a + 1) else {
         return Statement::Bad;
     };
     if at != text.len() {
@@ -214,7 +208,7 @@ fn read_choice(text: &[u8], from: usize, exits: usize) -> Statement
 }
 
 pub fn read_computed(text: &[u8], items: &mut [u64]) -> Statement
-    requires { ⌜ 4 * length (now text) ≤ length (now items) ⌝ }
+    requires { ⌜ 5 * length (now text) ≤ length (now items) ⌝ }
     ensures { λ r. ⌜ Reads (now (items .exit)) (readComputed (now (text .entry))) r ⌝ }
 {
     if !read_tokens::starts_word(text, b"GOTO") {
@@ -235,7 +229,7 @@ pub fn read_computed(text: &[u8], items: &mut [u64]) -> Statement
 }
 
 pub fn read_dimension(text: &[u8], items: &mut [u64]) -> Statement
-    requires { ⌜ 4 * length (now text) ≤ length (now items) ⌝ }
+    requires { ⌜ 5 * length (now text) ≤ length (now items) ⌝ }
     ensures { λ r. ⌜ Reads (now (items .exit)) (readDimension (now (text .entry))) r ⌝ }
 {
     if !read_tokens::starts_word(text, b"DIMENSION") {

@@ -25,7 +25,7 @@ pub fn is_form(s: Statement) -> bool
 }
 
 pub fn read(text: &[u8], items: &mut [u64]) -> Statement
-    requires { ⌜ 4 * length (now text) ≤ length (now items) ⌝ }
+    requires { ⌜ 5 * length (now text) ≤ length (now items) ⌝ }
     ensures { λ r. ⌜ Reads (now (items .exit)) (formOf (now (text .entry))) r ⌝ }
 {
     let assigned = read_forms::read_assignment(text, items);

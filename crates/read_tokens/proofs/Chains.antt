@@ -11,11 +11,13 @@ use lib.Seq.{drop-drop}
 use borrow.Author.Tests.{eq-eqb, ne-eqb}
 use Rattle.rules_text.specs.Tokens.{Found, found, bad, Reader, give, ahead, follow, andThen, after, afterWord, allOf, choose, starts, digitRun, nameRun, number, name}
 use Rattle.read_tokens.specs.declared.Sizes.{Sizes}
+use Rattle.read_tokens.specs.declared.Name as code
 use Rattle.read_tokens.specs.declared.Token.the-variants.{Read, Bad}
+use Rattle.read_tokens.specs.declared.GotName.the-variants as gotName
 use Rattle.rules_text.proofs.Found.{ahead-ahead}
-use Rattle.read_tokens.specs.Words.{capped, nameWord, startsWord}
+use Rattle.read_tokens.specs.Words.{capped, nameOf, startsWord}
 use Rattle.read_tokens.specs.Sizes.{constantSizes, nameSizes}
-use Rattle.read_tokens.specs.Reading.{endOf, weightOf, answer, Reads, constantSize, nameSize, two, ReadsNumber, ReadsName}
+use Rattle.read_tokens.specs.Reading.{endOf, weightOf, answer, Reads, constantSize, nameSize, two, five, ReadsNumber, ReadsName}
 use Rattle.read_tokens.proofs.Measured.{sizes-constant, sizes-name}
 use Rattle.read_tokens.proofs.Tokens.{number-none, number-some, name-none, name-some, digits-le, name-le, part-length, part-first, starts-is, after-some, inside, word-some}
 
@@ -103,7 +105,7 @@ pub record Took {A W : Type 0} (value : A → W) (sizes : A → Sizes) (weight :
   pub upto : Upto s from o at tree
   pub value-is : v ≡ value tree
   pub sizes-is : z ≡ sizes tree
-  pub few : weight tree + 4 * from ≤ 4 * at
+  pub few : weight tree + 5 * from ≤ 5 * at
 
 module _ {A W R : Type 0} {read : ℕ → W → Sizes → R} {none : R} {value : A → W} {sizes : A → Sizes} {weight : A → ℕ} {s : List ℕ} {from : ℕ} {o : Found A} {r : R} where
   pub took : {at : ℕ} {v : W} {z : Sizes} → Shape read none → Reads read none value sizes weight s from o r → r ≡ read at v z
@@ -132,7 +134,7 @@ module _ {A W R : Type 0} {read : ℕ → W → Sizes → R} {none : R} {value :
       go (found a k) e g = absurd (sh .apart (sym q ∙ g))
       go bad e g = e
 
-  pub accept : {at : ℕ} {v : W} {z : Sizes} {a : A} → Upto s from o at a → v ≡ value a → z ≡ sizes a → weight a + 4 * from ≤ 4 * at → r ≡ read at v z
+  pub accept : {at : ℕ} {v : W} {z : Sizes} {a : A} → Upto s from o at a → v ≡ value a → z ≡ sizes a → weight a + 5 * from ≤ 5 * at → r ≡ read at v z
       → Reads read none value sizes weight s from o r
   unfolding answer endOf weightOf
   accept {at} {v} {z} {a} u ve ze fe q =
@@ -160,11 +162,20 @@ token-shape =
       apart = λ e. let z : _≡_ {A = ℕ} 0 1 = cc in omega arith;
     }
 
+pub name-shape : Shape gotName.Read gotName.Bad
+name-shape =
+    record {
+      place = λ e. cc;
+      value = λ e. cc;
+      sizes = λ e. cc;
+      apart = λ e. let z : _≡_ {A = ℕ} 0 1 = cc in omega arith;
+    }
+
 module _ (s : List ℕ) (from k : ℕ) (le : from ≤ length s) where
   pub number-refused : k ≡ digitRun (drop from s) → k ≡ 0 → ReadsNumber s from (number (drop from s)) Bad
   number-refused e z = refuse (number-none (drop from s) (sym e ∙ z)) le refl
 
-  pub name-refused : k ≡ nameRun (drop from s) → k ≡ 0 → ReadsName s from (name (drop from s)) Bad
+  pub name-refused : k ≡ nameRun (drop from s) → k ≡ 0 → ReadsName s from (name (drop from s)) gotName.Bad
   name-refused e z = refuse (name-none (drop from s) (sym e ∙ z)) le refl
 
   pub fits : k ≤ length (drop from s) → from + k ≤ length s
@@ -187,9 +198,9 @@ module _ (s : List ℕ) (from k : ℕ) (le : from ≤ length s) where
       accept (record { count = k; is = is; ends = refl; within = fits l }) we
       (ze ∙ sym (sizes-constant (take k (drop from s)) ∙ ap constantSizes (part-length s from k l))) (omega arith) refl
 
-  pub name-accepted : {w c : ℕ} {z : Sizes} → k ≡ nameRun (drop from s) → (k ≡ 0 → ⊥) → w ≡ nameWord (take k (drop from s)) → c ≡ getD s from 0 → z ≡ nameSizes c k
-      → ReadsName s from (name (drop from s)) (Read (from + k) w z)
-  unfolding two nameSize
+  pub name-accepted : {w : code.Name} {c : ℕ} {z : Sizes} → k ≡ nameRun (drop from s) → (k ≡ 0 → ⊥) → w ≡ nameOf (take k (drop from s)) → c ≡ getD s from 0 → z ≡ nameSizes c k
+      → ReadsName s from (name (drop from s)) (gotName.Read (from + k) w z)
+  unfolding five nameSize
   name-accepted {w} {c} {z} e n we ce ze =
       let l : k ≤ length (drop from s) = subst (λ (x : ℕ). x ≤ length (drop from s)) (sym e) (name-le (drop from s)) in
       let is : name (drop from s) ≡ found (take k (drop from s)) k = subst (λ (x : ℕ). name (drop from s) ≡ found (take x (drop from s)) x) (sym e) (name-some (drop from s) (λ q. n (e ∙ q))) in

@@ -1,4 +1,4 @@
--- The laws of a run's value and of a name's eight bytes.
+-- The laws of a run's value and of a name's words.
 -- Assumes nothing.
 use mathlib.Core.Path.{_≡_, refl, sym, ap, _∙_}
 use mathlib.Core.List.{List, [], _∷_, _++_}
@@ -13,7 +13,8 @@ use lib.Seq.{drop-cons, getD-take, length-take-le}
 use borrow.Author.Tests.{leb-true, leb-false}
 use Rattle.rules_text.specs.Trees.{valueFrom}
 use Rattle.rules_deck.specs.Translation.{filled}
-use Rattle.read_tokens.specs.Words.{most, bytesFrom}
+use Rattle.read_tokens.specs.Words.{most, bytesFrom, nameWord, nameOf}
+use Rattle.read_tokens.specs.declared.Name as code
 
 -- ---- the value
 
@@ -89,3 +90,10 @@ pub other-default : (l : List ℕ) (i d e : ℕ) → i < length l → getD l i d
 other-default [] i d e h = absurd (omega arith)
 other-default (c ∷ l) zero d e h = refl
 other-default (c ∷ l) (suc i) d e h = other-default l i d e (omega arith)
+
+-- ---- a name's words
+
+pub name-is : {a b c d : ℕ} (v : List ℕ) → a ≡ nameWord v → b ≡ nameWord (drop 8 v) → c ≡ nameWord (drop 16 v) → d ≡ nameWord (drop 24 v)
+    → _≡_ {A = code.Name} (record { 0 = a; 1 = b; 2 = c; 3 = d }) (nameOf v)
+unfolding nameOf
+name-is v e f g h = cc

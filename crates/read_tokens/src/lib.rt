@@ -2,12 +2,12 @@
 ghost use mathlib.Core.Path.{_≡_};
 ghost use mathlib.Core.List.{[]};
 ghost use Prim.Native.Nat.{_+_, _-_, _≤_, _<_, max, min};
-ghost use mathlib.Core.Bool.{_&&_, cond};
-ghost use lib.Dec.{leb};
+ghost use mathlib.Core.Bool.{_&&_, cond, not};
+ghost use lib.Dec.{eqb, leb};
 ghost use lib.ListN.{length, take, drop, getD};
 ghost use Rattle.rules_object.specs.Check.{isLetter, isDigit};
 ghost use Rattle.rules_text.specs.Tokens.{isLetterOrDigit, run, digitRun, nameRun, number, name};
-ghost use Rattle.read_tokens.specs.Words.{most, capped, nameWord, startsWord};
+ghost use Rattle.read_tokens.specs.Words.{most, capped, nameWord, nameOf, noName, nameAt, sameWords, startsWord};
 ghost use Rattle.read_tokens.specs.Sizes.{sizesOf, both, constantSizes, nameSizes};
 ghost use Rattle.read_tokens.specs.Reading.{ReadsNumber, ReadsName};
 
@@ -19,6 +19,12 @@ pub struct Sizes {
     pub constant: usize,
     pub levels: usize,
 }
+
+// How many words a name has.
+pub const NAME_WORDS: usize = 4;
+
+// A name of at most thirty-two bytes, blank-filled: eight bytes in a word, the first of them highest.
+pub struct Name(pub u64, pub u64, pub u64, pub u64);
 
 // The byte at a place, and 0, which no form has, past the end.
 pub fn byte(s: &[u8], at: usize) -> u8
@@ -82,7 +88,7 @@ fn letters_or_digits(s: &[u8], from: usize) -> usize
 }
 
 // How many bytes the name takes that stands at a place, 0 where none does.
-pub fn name(s: &[u8], from: usize) -> usize
+fn name_run(s: &[u8], from: usize) -> usize
     ensures { λ r. ⌜ r ≡ nameRun (drop from (now (s .entry))) ⌝ }
 {
     if from < s.len() {
@@ -128,18 +134,67 @@ fn blank_filled(s: &[u8], from: usize, k: usize, i: usize) -> u64
     if i < k { s[from + i] as u64 } else { 32 }
 }
 
-// A name's first eight bytes, blank-filled, as one number.
-pub fn name_word(s: &[u8], from: usize, k: usize) -> u64
-    requires { ⌜ from + k ≤ length (now s) ⌝ }
-    ensures { λ r. ⌜ r ≡ nameWord (take k (drop from (now (s .entry)))) ⌝ }
+// Eight bytes of a name, blank-filled, as one number: those after its first `skip`.
+fn name_word(s: &[u8], from: usize, k: usize, skip: usize) -> u64
+    requires { ⌜ (from + k ≤ length (now s)) × (skip ≤ 24) ⌝ }
+    ensures { λ r. ⌜ r ≡ nameWord (drop skip (take k (drop from (now (s .entry))))) ⌝ }
 {
     let mut w: u64 = 0;
     let mut i = 0;
     while i < 8 {
-        w = w * 256 + blank_filled(s, from, k, i);
+        w = w * 256 + blank_filled(s, from, k, skip + i);
         i += 1;
     }
     w
+}
+
+// The name of k bytes that stands at a place.
+fn name_of(s: &[u8], from: usize, k: usize) -> Name
+    requires { ⌜ from + k ≤ length (now s) ⌝ }
+    ensures { λ r. ⌜ r ≡ nameOf (take k (drop from (now (s .entry)))) ⌝ }
+{
+    Name(
+        name_word(s, from, k, 0),
+        name_word(s, from, k, 8),
+        name_word(s, from, k, 16),
+        name_word(s, from, k, 24),
+    )
+}
+
+pub fn no_name() -> Name
+    ensures { λ r. ⌜ r ≡ noName ⌝ }
+{
+    Name(0, 0, 0, 0)
+}
+
+// Whether it is one: no name's first word is 0.
+pub fn is_name(n: Name) -> bool
+    ensures { λ r. ⌜ r ≡ not (eqb (n .0) 0) ⌝ }
+{
+    n.0 != 0
+}
+
+pub fn same_name(a: Name, b: Name) -> bool
+    ensures { λ r. ⌜ r ≡ sameWords a b ⌝ }
+{
+    if a.0 != b.0 {
+        return false;
+    }
+    if a.1 != b.1 {
+        return false;
+    }
+    if a.2 != b.2 {
+        return false;
+    }
+    a.3 == b.3
+}
+
+// The name whose words stand in a table from a place on.
+pub fn name_at(table: &[u64], at: usize) -> Name
+    requires { ⌜ at + 4 ≤ length (now table) ⌝ }
+    ensures { λ r. ⌜ r ≡ nameAt (now (table .entry)) at ⌝ }
+{
+    Name(table[at], table[at + 1], table[at + 2], table[at + 3])
 }
 
 pub fn starts_word(s: &[u8], word: &[u8]) -> bool
@@ -221,9 +276,14 @@ pub fn of_name(c: u8, k: usize) -> Sizes
     }
 }
 
-// A number or a name: the place after it, its word and its sizes.
+// A number: the place after it, its word and its sizes.
 pub enum Token {
     Read { at: usize, word: u64, sizes: Sizes },
+    Bad,
+}
+
+pub enum GotName {
+    Read { at: usize, name: Name, sizes: Sizes },
     Bad,
 }
 
@@ -242,17 +302,17 @@ pub fn read_number(s: &[u8], from: usize) -> Token
     }
 }
 
-pub fn read_name(s: &[u8], from: usize) -> Token
+pub fn read_name(s: &[u8], from: usize) -> GotName
     requires { ⌜ from ≤ length (now s) ⌝ }
     ensures { λ r. ⌜ ReadsName (now (s .entry)) from (name (drop from (now (s .entry)))) r ⌝ }
 {
-    let k = name(s, from);
+    let k = name_run(s, from);
     if k == 0 {
-        return Token::Bad;
+        return GotName::Bad;
     }
-    Token::Read {
+    GotName::Read {
         at: from + k,
-        word: name_word(s, from, k),
+        name: name_of(s, from, k),
         sizes: of_name(byte(s, from), k),
     }
 }

@@ -9,7 +9,8 @@ use lib.ListN.{take}
 use Rattle.rules_shared.proofs.EachLaws.{each-one}
 use Rattle.rules_deck.specs.Deck.{Declared, width}
 use Rattle.rules_deck.specs.Translation.{array, arraySize}
-use Rattle.read_tokens.specs.Words.{most, nameWord}
+use Rattle.read_tokens.specs.Words.{most, nameOf, nameWords}
+use Rattle.read_tokens.specs.declared.Name as code
 use Rattle.read_items.specs.Parsed.{Put}
 use Rattle.take_draft.specs.Names.{heldWords}
 use Rattle.take_name_table.specs.declared.Grown.the-variants.{Names, Full}
@@ -39,7 +40,7 @@ exact x y e h = omega (arith, e, h)
 above : (x y : ℕ) → x ≡ min y most → 4096 < x → 4096 < y
 above x y e h = omega (arith, e, h)
 
-module _ (t : List ℕ) (n cells word rows columns : ℕ) where
+module _ (t : List ℕ) (n cells : ℕ) (word : code.Name) (rows columns : ℕ) where
   -- a size that is over the limit
   over : ((a : Declared) → rows ≡ min (a .dims .rows) most → columns ≡ min (a .dims .columns) most → 1 ≤ a .dims .rows → 4096 < cells + arraySize (a .dims))
       → TakesArray t t n cells word rows columns Full
@@ -74,16 +75,16 @@ module _ (t : List ℕ) (n cells word rows columns : ℕ) where
       }
 
   pub array-takes : (t′ : List ℕ) (w : ℕ) → rows ≤ 4096 → columns ≤ 4096 → w ≡ width columns → cells + rows * w ≤ 4096 → n < 100
-      → Put t t′ (4 * n) (word ∷ cells ∷ rows ∷ columns ∷ []) (4 * n + 4) → TakesArray t t′ n cells word rows columns (Names (n + 1) (cells + rows * w))
+      → Put t t′ (7 * n) (nameWords word ++ (cells ∷ rows ∷ columns ∷ [])) (7 * n + 7) → TakesArray t t′ n cells word rows columns (Names (n + 1) (cells + rows * w))
   array-takes t′ w hr hc ew fc fn put =
       record {
         within = (omega arith, fc);
         is = λ held a l ta e er ec some.
             let size = size-is w hr hc ew a er ec in
-            let four : 4 * (n + 1) ≡ 4 * n + 4 = omega arith in
-            let words : take (4 * (n + 1)) t′ ≡ take (4 * n) t ++ heldWords cells (array a ∷ []) =
-            ap (λ (k : ℕ). take k t′) four ∙ put .table ∙ ap (λ (x : ℕ). take (4 * n) t ++ (x ∷ cells ∷ rows ∷ columns ∷ [])) e
-            ∙ ap (λ (x : ℕ). take (4 * n) t ++ (nameWord (a .name) ∷ cells ∷ x ∷ columns ∷ [])) (exact rows (a .dims .rows) er hr)
-            ∙ ap (λ (x : ℕ). take (4 * n) t ++ (nameWord (a .name) ∷ cells ∷ a .dims .rows ∷ x ∷ [])) (exact columns (a .dims .columns) ec hc) in
+            let four : 7 * (n + 1) ≡ 7 * n + 7 = omega arith in
+            let words : take (7 * (n + 1)) t′ ≡ take (7 * n) t ++ heldWords cells (array a ∷ []) =
+            ap (λ (k : ℕ). take k t′) four ∙ put .table ∙ ap (λ (x : code.Name). take (7 * n) t ++ (nameWords x ++ (cells ∷ rows ∷ columns ∷ []))) e
+            ∙ ap (λ (x : ℕ). take (7 * n) t ++ (nameWords (nameOf (a .name)) ++ (cells ∷ x ∷ columns ∷ []))) (exact rows (a .dims .rows) er hr)
+            ∙ ap (λ (x : ℕ). take (7 * n) t ++ (nameWords (nameOf (a .name)) ++ (cells ∷ a .dims .rows ∷ x ∷ []))) (exact columns (a .dims .columns) ec hc) in
             lists-more (array a ∷ []) l words (omega arith) (omega (arith, size)) (omega arith) fc (each-one ta) (each-one some);
       }

@@ -15,7 +15,8 @@ use Rattle.rules_deck.specs.Deck.{declare}
 use Rattle.rules_deck.specs.Translation.{Held}
 use Rattle.rules_deck.specs.Judge.{someCells, rightArrays}
 use Rattle.rules_text.proofs.Readers.{both-true}
-use Rattle.read_tokens.specs.Words.{most, capped}
+use Rattle.read_tokens.specs.declared.Name as code
+use Rattle.read_tokens.specs.Words.{most, capped, nameAt}
 use Rattle.read_forms.specs.Statements.{arrayWords, allWords}
 use Rattle.take_draft.specs.Names.{Lists, Told, namesFit}
 use Rattle.take_name_table.specs.declared.Grown.{Grown}
@@ -28,12 +29,12 @@ use Rattle.take_arrays.proofs.Judging.{word-at, named-at, Parted, parte
 
 -- ---- the words of an array that passes 15
 
-rows-at : (a : Array) (more : List ℕ) → getD (arrayWords a ++ more) 2 0 ≡ min (declare a .dims .rows) most
+rows-at : (a : Array) (more : List ℕ) → getD (arrayWords a ++ more) 5 0 ≡ min (declare a .dims .rows) most
 unfolding arrayWords capped
 rows-at (array v r none) more = refl
 rows-at (array v r (some c)) more = refl
 
-columns-at : (a : Array) (more : List ℕ) → getD (arrayWords a ++ more) 3 0 ≡ min (declare a .dims .columns) most
+columns-at : (a : Array) (more : List ℕ) → getD (arrayWords a ++ more) 6 0 ≡ min (declare a .dims .columns) most
 unfolding arrayWords capped
 columns-at (array v r none) more = refl
 columns-at (array v r (some c)) more = refl
@@ -67,7 +68,7 @@ whole held declared i p x =
     ∙ ap (λ (l : List Held). held ++ l) (sym (brought-both (p .before ++ (x .here ∷ [])) (x .after)))
     ∙ ap (λ (l : List Array). held ++ brought l) (sym (parted-more p x .are))
 
-module _ (arrays t₀ : List ℕ) (n₀ cells₀ m : ℕ) (h : 4 * m ≡ length arrays) where
+module _ (arrays t₀ : List ℕ) (n₀ cells₀ m : ℕ) (h : 7 * m ≡ length arrays) where
   pub declaring-start : n₀ ≤ 100 → cells₀ ≤ 4096 → Declaring arrays t₀ n₀ cells₀ m t₀ 0 n₀ cells₀
   unfolding parted-start
   declaring-start fn fc =
@@ -84,9 +85,9 @@ module _ (arrays t₀ : List ℕ) (n₀ cells₀ m : ℕ) (h : 4 * m ≡ length 
             };
       }
 
-  module _ {t : List ℕ} {i n cells : ℕ} (d : Declaring arrays t₀ n₀ cells₀ m t i n cells) (l : i < m) where
+  module _ {t : List ℕ} {i n cells : ℕ} {nm : code.Name} (d : Declaring arrays t₀ n₀ cells₀ m t i n cells) (l : i < m) (ne : nm ≡ nameAt arrays (7 * i + 1)) where
     abbrev One : List ℕ → Grown → Type 0
-    One t′ r = TakesArray t t′ n cells (getD arrays (4 * i + 1) 0) (getD arrays (4 * i + 2) 0) (getD arrays (4 * i + 3) 0) r
+    One t′ r = TakesArray t t′ n cells nm (getD arrays (7 * i + 5) 0) (getD arrays (7 * i + 6) 0) r
 
     -- the array here, in the book
     one-is : {t′ : List ℕ} {r : Grown} → One t′ r → (held : List Held) (declared : List Array) → arrays ≡ allWords declared → Each Told (arrayNames declared)
@@ -98,9 +99,9 @@ module _ (arrays t₀ : List ℕ) (n₀ cells₀ m : ℕ) (h : 4 * m ≡ length 
         let passes = sym (right-more held (p .before) (x .here) (x .after)) ∙ ap (rightArrays false (held ++ brought (p .before))) (sym (x .is)) ∙ c .right in
         let here = both-true (rightArray (held ++ brought (p .before)) (x .here)) (rightArrays false (held ++ brought (p .before ++ (x .here ∷ []))) (x .after)) passes .0 in
         let cells-some = both-true (someCells (x .here)) _ here .0 in
-        one .is (held ++ brought (p .before)) (declare (x .here)) (c .lists) (ts .1) (named-at (p .before) (x .here) (x .after) ws (p .count))
-        (word-at (p .before) (x .here) (x .after) ws (p .count) 2 ∙ rows-at (x .here) (allWords (x .after)))
-        (word-at (p .before) (x .here) (x .after) ws (p .count) 3 ∙ columns-at (x .here) (allWords (x .after)))
+        one .is (held ++ brought (p .before)) (declare (x .here)) (c .lists) (ts .1) (named-at (p .before) (x .here) (x .after) ws (p .count) ne)
+        (word-at (p .before) (x .here) (x .after) ws (p .count) 5 ∙ rows-at (x .here) (allWords (x .after)))
+        (word-at (p .before) (x .here) (x .after) ws (p .count) 6 ∙ columns-at (x .here) (allWords (x .after)))
         (some-rows (x .here) cells-some)
 
     pub declaring-full : {t′ : List ℕ} {r : Grown} → One t′ r → r ≡ Full → Declares arrays t₀ t′ n₀ cells₀ Full

@@ -14,57 +14,62 @@ use Rattle.rules_text.specs.Trees.{Name, Array, array, arrayNames}
 use Rattle.rules_deck.specs.Deck.{declare}
 use Rattle.rules_deck.specs.Translation.{Held}
 use Rattle.rules_deck.specs.Judge.{endsInF, seen, someCells, rightArrays}
-use Rattle.read_tokens.specs.Words.{nameWord}
+use Rattle.read_tokens.specs.Words.{nameOf, nameAt}
 use Rattle.read_forms.specs.Statements.{arrayWords, allWords}
 use Rattle.take_draft.specs.Names.{Lists, Told}
 use Rattle.take_name_table.proofs.Tests.{and-false}
 use Rattle.take_arrays.specs.One.{brought, someWords, EndsInF, IsNew, rightArray, RightArray}
 use Rattle.take_arrays.specs.Arrays.{Dimensions}
-use Rattle.take_arrays.proofs.News.{words-length, words-both, names-both, some-is, name-is}
+use Rattle.read_tokens.specs.declared.Name as code
+use Rattle.take_arrays.proofs.News.{name-drop, words-length, words-both, names-both, some-is, name-is}
 
 -- ---- the words of the array at index i
 
 module _ {arrays : List ℕ} {i : ℕ} (before : List Array) (a : Array) (after : List Array) (w : arrays ≡ allWords before ++ allWords (a ∷ after)) (c : i ≡ length before) where
-  pub word-at : (k : ℕ) → getD arrays (4 * i + k) 0 ≡ getD (arrayWords a ++ allWords after) k 0
+  pub word-at : (k : ℕ) → getD arrays (7 * i + k) 0 ≡ getD (arrayWords a ++ allWords after) k 0
   unfolding allWords
   word-at k =
-      let l : length (allWords before) ≡ 4 * i = let e = words-length before in omega (arith, e, c) in
-      sym (getD-drop (4 * i) arrays k 0) ∙ ap (λ (x : List ℕ). getD (drop (4 * i) x) k 0) w
-      ∙ ap (λ (x : List ℕ). getD x k 0) (drop-at (allWords before) (allWords (a ∷ after)) (4 * i) l)
+      let l : length (allWords before) ≡ 7 * i = let e = words-length before in omega (arith, e, c) in
+      sym (getD-drop (7 * i) arrays k 0) ∙ ap (λ (x : List ℕ). getD (drop (7 * i) x) k 0) w
+      ∙ ap (λ (x : List ℕ). getD x k 0) (drop-at (allWords before) (allWords (a ∷ after)) (7 * i) l)
 
-  pub first-at : getD arrays (4 * i) 0 ≡ getD (arrayWords a ++ allWords after) 0 0
-  first-at = ap (λ (x : ℕ). getD arrays x 0) (sym (add-zero (4 * i))) ∙ word-at 0
+  pub first-at : getD arrays (7 * i) 0 ≡ getD (arrayWords a ++ allWords after) 0 0
+  first-at = ap (λ (x : ℕ). getD arrays x 0) (sym (add-zero (7 * i))) ∙ word-at 0
 
-  pub named-at : getD arrays (4 * i + 1) 0 ≡ nameWord (declare a .name)
-  named-at = word-at 1 ∙ name-is a (allWords after)
+  pub named-at : {x : code.Name} → x ≡ nameAt arrays (7 * i + 1) → x ≡ nameOf (declare a .name)
+  unfolding allWords
+  named-at e =
+      let l : length (allWords before) ≡ 7 * i = let k = words-length before in omega (arith, k, c) in
+      e ∙ sym (name-drop arrays (7 * i) 1) ∙ ap (λ (x : List ℕ). nameAt (drop (7 * i) x) 1) w
+      ∙ ap (λ (x : List ℕ). nameAt x 1) (drop-at (allWords before) (allWords (a ∷ after)) (7 * i) l) ∙ name-is a (allWords after)
 
-  some-at : someWords (getD arrays (4 * i) 0) (getD arrays (4 * i + 2) 0) (getD arrays (4 * i + 3) 0) ≡ someCells a
+  some-at : someWords (getD arrays (7 * i) 0) (getD arrays (7 * i + 5) 0) (getD arrays (7 * i + 6) 0) ≡ someCells a
   some-at =
-      ap (λ (x : ℕ). someWords x (getD arrays (4 * i + 2) 0) (getD arrays (4 * i + 3) 0)) first-at
-      ∙ ap (λ (x : ℕ). someWords (getD (arrayWords a ++ allWords after) 0 0) x (getD arrays (4 * i + 3) 0)) (word-at 2)
-      ∙ ap (λ (x : ℕ). someWords (getD (arrayWords a ++ allWords after) 0 0) (getD (arrayWords a ++ allWords after) 2 0) x) (word-at 3)
+      ap (λ (x : ℕ). someWords x (getD arrays (7 * i + 5) 0) (getD arrays (7 * i + 6) 0)) first-at
+      ∙ ap (λ (x : ℕ). someWords (getD (arrayWords a ++ allWords after) 0 0) x (getD arrays (7 * i + 6) 0)) (word-at 5)
+      ∙ ap (λ (x : ℕ). someWords (getD (arrayWords a ++ allWords after) 0 0) (getD (arrayWords a ++ allWords after) 5 0) x) (word-at 6)
       ∙ some-is a (allWords after)
 
 module _ (arrays : List ℕ) (i : ℕ) (t : List ℕ) (n : ℕ) where
   abbrev someHere : Bool
-  someHere = someWords (getD arrays (4 * i) 0) (getD arrays (4 * i + 2) 0) (getD arrays (4 * i + 3) 0)
+  someHere = someWords (getD arrays (7 * i) 0) (getD arrays (7 * i + 5) 0) (getD arrays (7 * i + 6) 0)
 
   pub one-empty : (r : Bool) → r ≡ someHere → r ≡ false → RightArray arrays i t n false
   one-empty r e p held cells before a after l w c told ta =
       let some = sym (some-at before a after w c) ∙ sym e ∙ p in
       sym (ap (λ (b : Bool). b && (not (seen (held ++ brought before) (declare a .name)) && not (endsInF (declare a .name)))) some)
 
-  pub one-seen : (r : Bool) → IsNew arrays i t n (getD arrays (4 * i + 1) 0) r → r ≡ false → RightArray arrays i t n false
-  one-seen r h p held cells before a after l w c told ta =
-      let new = sym (h held cells before (allWords (a ∷ after)) (declare a .name) l w c told ta (named-at before a after w c)) ∙ p in
+  pub one-seen : {x : code.Name} (r : Bool) → x ≡ nameAt arrays (7 * i + 1) → IsNew arrays i t n x r → r ≡ false → RightArray arrays i t n false
+  one-seen r xe h p held cells before a after l w c told ta =
+      let new = sym (h held cells before (allWords (a ∷ after)) (declare a .name) l w c told ta (named-at before a after w c xe)) ∙ p in
       sym (ap (λ (b : Bool). someCells a && (b && not (endsInF (declare a .name)))) new ∙ and-false (someCells a) false refl)
 
-  pub one-last : (q r f : Bool) → q ≡ someHere → q ≡ true → IsNew arrays i t n (getD arrays (4 * i + 1) 0) r → r ≡ true
-      → EndsInF (getD arrays (4 * i + 1) 0) f → RightArray arrays i t n (not f)
-  one-last q r f e p h pr ef held cells before a after l w c told ta =
+  pub one-last : {x : code.Name} (q r f : Bool) → x ≡ nameAt arrays (7 * i + 1) → q ≡ someHere → q ≡ true → IsNew arrays i t n x r → r ≡ true
+      → EndsInF x f → RightArray arrays i t n (not f)
+  one-last q r f xe e p h pr ef held cells before a after l w c told ta =
       let some = sym (some-at before a after w c) ∙ sym e ∙ p in
-      let new = sym (h held cells before (allWords (a ∷ after)) (declare a .name) l w c told ta (named-at before a after w c)) ∙ pr in
-      ap not (ef (declare a .name) ta (named-at before a after w c))
+      let new = sym (h held cells before (allWords (a ∷ after)) (declare a .name) l w c told ta (named-at before a after w c xe)) ∙ pr in
+      ap not (ef (declare a .name) ta (named-at before a after w c xe))
       ∙ sym (ap (λ (b : Bool). b && (not (seen (held ++ brought before) (declare a .name)) && not (endsInF (declare a .name)))) some
       ∙ ap (λ (b : Bool). b && not (endsInF (declare a .name))) new)
 
@@ -94,7 +99,7 @@ pub record Next (declared : List Array) (i : ℕ) (p : Parted declared i) : Type
 parted-words : {declared : List Array} {i : ℕ} (p : Parted declared i) (arrays : List ℕ) → arrays ≡ allWords declared → arrays ≡ allWords (p .before) ++ allWords (p .left)
 parted-words p arrays w = w ∙ ap allWords (p .are) ∙ words-both (p .before) (p .left)
 
-parted-count : {declared : List Array} {i : ℕ} (p : Parted declared i) (arrays : List ℕ) (m : ℕ) → arrays ≡ allWords declared → 4 * m ≡ length arrays → m ≡ i + length (p .left)
+parted-count : {declared : List Array} {i : ℕ} (p : Parted declared i) (arrays : List ℕ) (m : ℕ) → arrays ≡ allWords declared → 7 * m ≡ length arrays → m ≡ i + length (p .left)
 parted-count p arrays m w h =
     let a : length arrays ≡ length (allWords (p .before) ++ allWords (p .left)) = ap length (parted-words p arrays w) in
     let b = length-append (allWords (p .before)) (allWords (p .left)) in
@@ -103,14 +108,14 @@ parted-count p arrays m w h =
     let c = p .count in
     omega (arith, a, b, x, y, c, h)
 
-pub parted-next : {declared : List Array} {i : ℕ} (p : Parted declared i) (arrays : List ℕ) (m : ℕ) → arrays ≡ allWords declared → 4 * m ≡ length arrays → i < m → Next declared i p
+pub parted-next : {declared : List Array} {i : ℕ} (p : Parted declared i) (arrays : List ℕ) (m : ℕ) → arrays ≡ allWords declared → 7 * m ≡ length arrays → i < m → Next declared i p
 parted-next {declared} {i} p arrays m w h l = go (p .left) refl
   where
     go : (x : List Array) → p .left ≡ x → Next declared i p
     go [] e = absurd (let c = parted-count p arrays m w h in let z : length (p .left) ≡ 0 = ap length e in omega (arith, c, z, l))
     go (a ∷ after) e = record { here = a; after = after; is = e }
 
-pub parted-end : {declared : List Array} {i : ℕ} (p : Parted declared i) (arrays : List ℕ) (m : ℕ) → arrays ≡ allWords declared → 4 * m ≡ length arrays → m ≤ i → p .left ≡ []
+pub parted-end : {declared : List Array} {i : ℕ} (p : Parted declared i) (arrays : List ℕ) (m : ℕ) → arrays ≡ allWords declared → 7 * m ≡ length arrays → m ≤ i → p .left ≡ []
 parted-end {declared} {i} p arrays m w h l = go (p .left) refl
   where
     go : (x : List Array) → p .left ≡ x → x ≡ []
@@ -165,7 +170,7 @@ pub record Checking (arrays t : List ℕ) (n m i : ℕ) : Type 0 where
   pub within : i ≤ m
   pub part : (held : List Held) (cells : ℕ) (declared : List Array) → Lists held t n cells → arrays ≡ allWords declared → Each Told (arrayNames declared) → Judged held declared i
 
-module _ (arrays t : List ℕ) (n m : ℕ) (h : 4 * m ≡ length arrays) where
+module _ (arrays t : List ℕ) (n m : ℕ) (h : 7 * m ≡ length arrays) where
   pub checking-start : Checking arrays t n m 0
   unfolding parted-start
   checking-start =

@@ -3,13 +3,15 @@
 use mathlib.Core.Path.{_≡_, refl, sym, ap, _∙_, subst}
 use Prim.Native.Nat.{ℕ, zero, suc, _+_, _-_, _*_, _/_, _%_, _≤_, _<_}
 use native.Mathlib.Omega.{arith}
+use mathlib.Core.Bool.{Bool}
 use mathlib.Core.List.{List, [], _∷_, _++_, append-nil, append-assoc}
 use lib.Dec.{eqb}
 use lib.ListN.{length, take, replicate}
 use Rattle.rules_shared.specs.Lists.{Each, each-more}
 use Rattle.rules_text.specs.Trees.{Name}
 use Rattle.rules_deck.specs.Judge.{endsInF}
-use Rattle.read_tokens.specs.Words.{bytesFrom, nameWord}
+use Rattle.read_tokens.specs.Words.{bytesFrom, nameWord, nameOf}
+use Rattle.read_tokens.specs.declared.Name as code
 use Rattle.take_draft.specs.Names.{Told}
 use Rattle.take_arrays.specs.One.{EndsInF}
 
@@ -105,9 +107,16 @@ strip-more word w s p v t e = go (s v t e .count) (s v t e .is)
     go zero i = absurd (bare v w t i .byte p)
     go (suc k) i = record { count = k; is = half w (bytesFrom 0 (v ++ blanks k)) (i ∙ blank-byte v k) }
 
-pub strip-end : (word w : ℕ) → Stripping word w → (w % 256 ≡ 32 → ⊥) → EndsInF word (eqb (w % 256) 70)
+abbrev pub EndsWord : ℕ → Bool → Type 0
+EndsWord word r = (v : Name) → Told v → word ≡ nameWord v → r ≡ endsInF v
+
+pub strip-end : (word w : ℕ) → Stripping word w → (w % 256 ≡ 32 → ⊥) → EndsWord word (eqb (w % 256) 70)
 strip-end word w s n v t e = go (s v t e .count) (s v t e .is)
   where
     go : (k : ℕ) → w ≡ bytesFrom 0 (v ++ blanks k) → eqb (w % 256) 70 ≡ endsInF v
     go zero i = bare v w t i .ends
     go (suc k) i = absurd (n (ap (λ (x : ℕ). x % 256) (i ∙ blank-byte v k) ∙ low-byte (bytesFrom 0 (v ++ blanks k)) 32 (omega arith)))
+
+pub first-ends : (name : code.Name) {r : Bool} → EndsWord (name .0) r → EndsInF name r
+unfolding nameOf
+first-ends name h v t e = h v t (ap (λ (n : code.Name). n .0) e)

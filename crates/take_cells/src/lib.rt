@@ -8,7 +8,7 @@ use take_name_table::Grown;
 
 // 16
 pub fn right_operands(first: &[u64], items: &[u64], table: &[u64], n: usize) -> bool
-    requires { ⌜ Worded (now first) × (Worded (now items) × (4 * n ≤ length (now table))) ⌝ }
+    requires { ⌜ Worded (now first) × (Worded (now items) × (7 * n ≤ length (now table))) ⌝ }
     ensures { λ r. ⌜ RightBoth (now (first .entry)) (now (items .entry)) (now (table .entry)) n r ⌝ }
 {
     if !take_references::references_right(first, table, n) {
@@ -24,7 +24,7 @@ pub fn take_operands(
     n: usize,
     cells: usize,
 ) -> Grown
-    requires { ⌜ Worded (now first) × (Worded (now items) × ((length (now table) ≡ 400) × ((n ≤ 100) × (cells ≤ 4096)))) ⌝ }
+    requires { ⌜ Worded (now first) × (Worded (now items) × ((length (now table) ≡ 700) × ((n ≤ 100) × (cells ≤ 4096)))) ⌝ }
     ensures { λ r. ⌜ TakesBoth (now (first .entry)) (now (items .entry)) (now (table .entry)) (now (table .exit)) n cells r ⌝ }
 {
     let Grown::Names { names: a, cells: b } = take_names::appear(first, table, n, cells) else {

@@ -15,7 +15,8 @@ use Rattle.rules_text.specs.Trees.{Name, Digits, valueOf, Form, goTo, computed,
 use Rattle.rules_deck.specs.Translation.{Held, isName, holds, cellOf, Tables}
 use Rattle.rules_deck.specs.Judge.{right13}
 use Rattle.rules_text.proofs.Readers.{both-true}
-use Rattle.read_tokens.specs.Words.{capped, nameWord}
+use Rattle.read_tokens.specs.Words.{capped, nameOf}
+use Rattle.read_tokens.specs.declared.Name as code
 use Rattle.take_draft.specs.declared.Counts.{Counts}
 use Rattle.take_draft.specs.Parts.{Item, formFirst, formEnding}
 use Rattle.take_draft.specs.Names.{Told, Known, dimsHeld}
@@ -31,7 +32,7 @@ use Rattle.take_instructions.proofs.Both.{emits-both, full-then}
 use Rattle.take_plans.specs.declared.Plan.{Plan}
 use Rattle.take_plans.specs.Plans.{formPlan}
 use Rattle.take_plans.proofs.ByKind.{plan-kind, at-assign, at-go-to, at-computed, at-if, at-do, at-stop, at-end}
-use Rattle.take_marks.specs.Marks.{cellWord}
+use Rattle.take_marks.specs.Marks.{cellName}
 use Rattle.take_code.specs.Endings.{doesOf, EmitsEnding}
 
 -- ---- DOEs
@@ -111,15 +112,15 @@ module _ {p : Plan} {names elements words words′ : List ℕ} {n : Counts} {r :
 plain-told : {held : List Held} {v : Name} → Known held (Item.plain v ∷ []) → Told v × (holds (isName v) held ≡ true)
 plain-told {held} {v} h = (each-head {P = Told} (h .told), each-head {P = λ (w : Name). holds (isName w) held ≡ true} (h .plains))
 
-name-is : {p : Plan} (ns : List Digits) (v : Name) → p ≡ formPlan (computed ns v) → cellWord (p .target) ≡ nameWord v
-unfolding formPlan cellWord
-name-is ns v e = ap (λ (y : Plan). cellWord (y .target)) e
+name-is : {p : Plan} (ns : List Digits) (v : Name) → p ≡ formPlan (computed ns v) → cellName (p .target) ≡ nameOf v
+unfolding formPlan cellName
+name-is ns v e = ap (λ (y : Plan). cellName (y .target)) e
 
 listed-is : {p : Plan} (ns : List Digits) (v : Name) → p ≡ formPlan (computed ns v) → p .listed ≡ length ns
 unfolding formPlan
 listed-is ns v e = ap (λ (y : Plan). y .listed) e
 
-module _ {p : Plan} {names words middle words′ : List ℕ} {n : Counts} {a : Emitted} {name : ℕ} (z : p .kind ≡ 2) (w : name ≡ cellWord (p .target))
+module _ {p : Plan} {names words middle words′ : List ℕ} {n : Counts} {a : Emitted} {name : code.Name} (z : p .kind ≡ 2) (w : name ≡ cellName (p .target))
     (s : EmitsLoad name names words middle n a) where
   pub choose-full : a ≡ emitted.Full → (elements : List ℕ) → EmitsEnding p names elements words elements words′ n emitted.Full
   unfolding formLast

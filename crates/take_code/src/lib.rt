@@ -19,11 +19,11 @@ use take_plans::Plan;
 
 // A computed GO TO's variable and branch.
 fn choose_exit(p: Plan, names: &[u64], code: &mut [u32], n: Counts) -> Emitted
-    requires { ⌜ (length (now names) ≡ 400) × ((length (now code) ≡ 4096) × (Fit n × (p .kind ≡ 2))) ⌝ }
+    requires { ⌜ (length (now names) ≡ 700) × ((length (now code) ≡ 4096) × (Fit n × (p .kind ≡ 2))) ⌝ }
     ensures { λ r. ⌜ Grows 0 n r × ((elements : List ℕ) → EmitsEnding p (now (names .entry)) elements (now (code .entry)) elements (now (code .exit)) n r) ⌝ }
 {
     let target = p.target;
-    let name = take_marks::cell_word(target);
+    let name = take_marks::cell_name(target);
     let Emitted::Counts(m) = take_operands::load(name, names, code, n) else {
         return Emitted::Full;
     };
@@ -31,7 +31,7 @@ fn choose_exit(p: Plan, names: &[u64], code: &mut [u32], n: Counts) -> Emitted
 }
 
 fn end(p: Plan, names: &[u64], elements: &mut [u32], code: &mut [u32], n: Counts) -> Emitted
-    requires { ⌜ (length (now names) ≡ 400) × ((length (now elements) ≡ 2304) × ((length (now code) ≡ 4096) × Fit n)) ⌝ }
+    requires { ⌜ (length (now names) ≡ 700) × ((length (now elements) ≡ 2304) × ((length (now code) ≡ 4096) × Fit n)) ⌝ }
     ensures { λ r. ⌜ Grows (doesOf p) n r × EmitsEnding p (now (names .entry)) (now (elements .entry)) (now (code .entry)) (now (elements .exit)) (now (code .exit)) n r ⌝ }
 {
     if p.kind == ASSIGNMENT {

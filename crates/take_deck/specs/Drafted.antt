@@ -19,7 +19,7 @@ use Rattle.take_deck.specs.declared.Drafted.the-variants as drafted
 pub record Begins (k : ℕ) (deck items : List ℕ) (lent : Words) : Type 0 where
   pub punched : List Punched
   pub are : carded (house1401 k) deck ≡ statements punched
-  pub items-long : 2651 ≤ length items
+  pub items-long : 3320 ≤ length items
   pub room : Room lent
 
 -- o is what the book reads

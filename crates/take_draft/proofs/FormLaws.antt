@@ -16,7 +16,7 @@ use Rattle.rules_deck.proofs.TestLaws.{only, among-left, among-right, among-app
 use Rattle.read_elements.specs.Values.{targetValue}
 use Rattle.read_items.specs.Items.{targetWords}
 use Rattle.read_forms.specs.Statements.{parameterValue}
-use Rattle.take_draft.specs.Parts.{itemsOf, itemWords, itemsWords, itemPlain, itemsPlain, itemReferences, itemsReferences, itemNames, itemsNames, itemConstants, itemsConstants, rightItems, targetItem, formFirst, formItems}
+use Rattle.take_draft.specs.Parts.{itemsOf, itemWords, itemsWords, parameterWords, itemPlain, itemsPlain, itemReferences, itemsReferences, itemNames, itemsNames, itemConstants, itemsConstants, rightItems, targetItem, formFirst, formItems}
 use Rattle.take_draft.proofs.FormParts.{plain-append, references-append, names-append, constants-append, expr-plain, expr-references, expr-names, expr-constants}
 
 -- ---- a target, a parameter
@@ -26,8 +26,8 @@ unfolding targetWords targetValue
 target-words (cell v) = refl
 target-words (element v s) = refl
 
-pub parameter-words : (p : Expr) → IsParameter p → parameterValue p .kind ∷ parameterValue p .word ∷ [] ≡ itemsWords (itemsOf p)
-unfolding parameterValue
+pub parameter-words : (p : Expr) → IsParameter p → parameterWords (parameterValue p) ≡ itemsWords (itemsOf p)
+unfolding parameterValue parameterWords
 parameter-words (con c) IsParameter.constant = refl
 parameter-words (var v) IsParameter.name = refl
 

@@ -56,7 +56,7 @@ asWords names constants elements dos loops code rows jumps =
 
 -- how long they are
 pub record Room (lent : Words) : Type 0 where
-  pub names-long : length (lent .names) ≡ 400
+  pub names-long : length (lent .names) ≡ 700
   pub constants-long : length (lent .constants) ≡ 256
   pub elements-long : length (lent .elements) ≡ 2304
   pub dos-long : length (lent .dos) ≡ 256

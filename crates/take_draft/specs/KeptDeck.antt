@@ -16,7 +16,7 @@ use Rattle.take_draft.specs.Kept.{Words}
 use Rattle.take_draft.specs.Sketch.{deckRows, deckJumps, loopsFrom, plainCode, openEntry}
 
 pub record KeptDeck (house : House) (deck : List Statement) (lent : Words) (n : Counts) : Type 0 where
-  pub names-are : take (4 * n .names) (lent .names) ≡ heldWords 0 (heldOf deck)
+  pub names-are : take (7 * n .names) (lent .names) ≡ heldWords 0 (heldOf deck)
   pub names-count : n .names ≡ nameCount (heldOf deck)
   pub cells-count : n .cells ≡ cellCount (heldOf deck)
   pub constants-are : take (n .constants) (lent .constants) ≡ translate house deck .constants

@@ -1,8 +1,8 @@
--- The table of names: four words an entry, in cell order: the name's eight bytes, its first cell, rows and columns. Hidden cells only count.
+-- The table of names: seven words an entry, in cell order: the name's four, its first cell, rows and columns. Hidden cells only count.
 -- Assumes nothing.
 use mathlib.Core.Path.{_≡_}
 use Prim.Native.Nat.{ℕ, suc, _+_, _*_, _≤_, _<_}
-use mathlib.Core.List.{List, [], _∷_}
+use mathlib.Core.List.{List, [], _∷_, _++_}
 use mathlib.Core.Bool.{Bool, true, _&&_}
 use lib.Dec.{leb}
 use lib.ListN.{length, take}
@@ -13,14 +13,16 @@ use Rattle.rules_deck.specs.Deck.{Dims, Declared, dimsIn}
 use Rattle.rules_deck.specs.Translation.{Held, name, array, hidden, arraySize, cellCount, isName, holds}
 use Rattle.rules_deck.specs.Judge.{nameCount, Reference, rightReference}
 use Rattle.rules_deck.specs.Cells.{namesHeld, arraysHeld}
-use Rattle.read_tokens.specs.Words.{nameWord}
+use Rattle.read_tokens.specs.Words.{nameOf, nameWords}
 use Rattle.take_draft.specs.Parts.{Item, itemsNames, itemsConstants, itemsPlain, itemsReferences}
+
+abbrev pub entryWords : Name → ℕ → ℕ → ℕ → List ℕ
+entryWords v first rows columns = nameWords (nameOf v) ++ (first ∷ rows ∷ columns ∷ [])
 
 abbrev pub heldWords : ℕ → List Held → List ℕ
 heldWords at [] = []
-heldWords at (name v ∷ held) = nameWord v ∷ at ∷ 0 ∷ 0 ∷ heldWords (suc at) held
-heldWords at (array a ∷ held) =
-    nameWord (a .name) ∷ at ∷ a .dims .rows ∷ a .dims .columns ∷ heldWords (at + arraySize (a .dims)) held
+heldWords at (name v ∷ held) = entryWords v at 0 0 ++ heldWords (suc at) held
+heldWords at (array a ∷ held) = entryWords (a .name) at (a .dims .rows) (a .dims .columns) ++ heldWords (at + arraySize (a .dims)) held
 heldWords at (hidden q ∷ held) = heldWords (at + 2) held
 
 -- the dimensions that stand in the table
@@ -43,7 +45,7 @@ SomeRows a = 1 ≤ a .dims .rows
 
 -- the table and its counts hold what has cells so far
 pub record Lists (held : List Held) (table : List ℕ) (names cells : ℕ) : Type 0 where
-  pub words : take (4 * names) table ≡ heldWords 0 held
+  pub words : take (7 * names) table ≡ heldWords 0 held
   pub names-are : names ≡ nameCount held
   pub cells-are : cells ≡ cellCount held
   pub names-fit : names ≤ limits .names

@@ -12,9 +12,11 @@ use Rattle.rules_deck.specs.Meaning.{third}
 use Rattle.rules_shared.specs.Lists.{all}
 use Rattle.rules_deck.specs.Translation.{Held, isArray, holds, cellOf, elementEntry, storeCode}
 use Rattle.rules_deck.specs.Judge.{Reference, rightReference}
-use Rattle.read_tokens.specs.Words.{capped, nameWord}
+use Rattle.read_tokens.specs.Words.{capped, nameOf, nameWords}
 use Rattle.read_elements.specs.Values.{subscriptsValue}
 use Rattle.read_items.specs.Items.{subscriptsWords, opItem}
+use Rattle.read_forms.specs.declared.Parameter.{Parameter}
+use Rattle.read_forms.specs.declared.Parameter.the-variants as parameter
 
 -- ---- an expression's operands and operations, in postfix order
 
@@ -36,14 +38,19 @@ itemsOf (bin o a b) = (itemsOf a ++ itemsOf b) ++ (apply o ∷ [])
 -- as the reader leaves it
 abbrev pub itemWords : Item → List ℕ
 itemWords (value c) = 1 ∷ capped c ∷ []
-itemWords (plain v) = 2 ∷ nameWord v ∷ []
-itemWords (place v s) = 4 ∷ nameWord v ∷ subscriptsWords (subscriptsValue s)
+itemWords (plain v) = 2 ∷ nameWords (nameOf v)
+itemWords (place v s) = 4 ∷ (nameWords (nameOf v) ++ subscriptsWords (subscriptsValue s))
 itemWords negate = 10 ∷ []
 itemWords (apply o) = opItem o ∷ []
 
 abbrev pub itemsWords : List Item → List ℕ
 itemsWords [] = []
 itemsWords (i ∷ is) = itemWords i ++ itemsWords is
+
+-- a DO's parameter as an item
+unfoldable pub parameterWords : Parameter → List ℕ
+parameterWords (parameter.Constant c) = 1 ∷ c ∷ []
+parameterWords (parameter.Variable n) = 2 ∷ nameWords n
 
 -- the plain names, a subscript's too
 abbrev pub itemPlain : Item → List Name

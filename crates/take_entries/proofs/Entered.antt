@@ -25,7 +25,7 @@ use Rattle.read_items.specs.Parsed.{Put}
 use Rattle.take_draft.specs.Names.{Lists, Exact, dimsHeld}
 use Rattle.take_name_table.specs.declared.Entry.{Entry}
 use Rattle.take_name_table.specs.Lookups.{CellOf, ArrayOf}
-use Rattle.take_draft.proofs.NameWords.{some-word}
+use Rattle.take_draft.proofs.NameWords.{first-word}
 use Rattle.take_entries.specs.declared.Linear.{Linear}
 use Rattle.take_entries.specs.Places.{linearWords, entryWords, Signed, Clear, subscriptWords, LinearOf, SecondOf, PutsElement}
 
@@ -60,7 +60,7 @@ word w = refl
 -- ---- a subscript
 
 module _ (table : List ℕ) (count : ℕ) {s : Subscript} {times plus : ℕ} (t : times ≡ s .times % 2 ^ 32) (g : Signed (s .minus) (s .addend) plus) where
-  pub of-constant : s .name ≡ 0 → LinearOf table count s (record { times = times; cell = 0; plus = plus })
+  pub of-constant : s .name .0 ≡ 0 → LinearOf table count s (record { times = times; cell = 0; plus = plus })
   unfolding subscriptValue
   of-constant z held cells dims (constant c) l e k =
       let x = exact c (each-head (k .exact)) in
@@ -68,11 +68,11 @@ module _ (table : List ℕ) (count : ℕ) {s : Subscript} {times plus : ℕ} (t 
       let a : s .addend ≡ capped c = ap (λ (x : Subscript). x .addend) e in
       let n : s .minus ≡ 0 = ap (λ (x : Subscript). x .minus) e in
       three (t ∙ ap (λ (x : Subscript). x .times % 2 ^ 32) e) refl (g .plus n (omega (arith, x, y, a)) ∙ a ∙ x ∙ word (valueOf c))
-  of-constant z held cells dims (linear m v a) l e k = absurd (some-word v (each-head (k .told)) (sym (ap (λ (x : Subscript). x .name) e) ∙ z))
+  of-constant z held cells dims (linear m v a) l e k = absurd (first-word v (each-head (k .told)) (sym (ap (λ (x : Subscript). x .name .0) e) ∙ z))
 
-  pub of-name : {r : ℕ} → (s .name ≡ 0 → ⊥) → CellOf table count (s .name) r → LinearOf table count s (record { times = times; cell = r; plus = plus })
+  pub of-name : {r : ℕ} → (s .name .0 ≡ 0 → ⊥) → CellOf table count (s .name) r → LinearOf table count s (record { times = times; cell = r; plus = plus })
   unfolding subscriptValue
-  of-name z f held cells dims (constant c) l e k = absurd (z (ap (λ (x : Subscript). x .name) e))
+  of-name z f held cells dims (constant c) l e k = absurd (z (ap (λ (x : Subscript). x .name .0) e))
   of-name {r} z f held cells dims (linear m v a) l e k =
       let b = each-both (optional m) (k .exact) in
       three (t ∙ ap (λ (x : Subscript). x .times % 2 ^ 32) e ∙ times-are m (b .0))

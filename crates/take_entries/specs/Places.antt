@@ -13,7 +13,7 @@ use Rattle.rules_text.specs.Trees.{Name, subscriptNames, subscriptConstants, su
 use Rattle.rules_deck.specs.Deck.{Dims}
 use Rattle.rules_deck.specs.Translation.{Held, isName, holds, subscriptEntry, secondEntry, elementEntry}
 use Rattle.rules_deck.specs.Judge.{Reference, rightReference}
-use Rattle.read_tokens.specs.Words.{nameWord}
+use Rattle.read_tokens.specs.Words.{nameOf}
 use Rattle.read_elements.specs.declared.Subscript.{Subscript}
 use Rattle.read_elements.specs.declared.Subscripts.{Subscripts}
 use Rattle.read_elements.specs.declared.Element.{Element}
@@ -66,5 +66,5 @@ SecondOf table count subscripts r =
 abbrev pub PutsElement : List ℕ → ℕ → Element → List ℕ → List ℕ → ℕ → Type 0
 PutsElement table count element a b n =
     (held : List Held) (cells : ℕ) (v : Name) (s : trees.Subscripts) → Lists held table count cells
-    → element ≡ record { name = nameWord v; subscripts = subscriptsValue s } → KnownItem held (place v s)
+    → element ≡ record { name = nameOf v; subscripts = subscriptsValue s } → KnownItem held (place v s)
     → take (9 * n + 9) b ≡ take (9 * n) a ++ elementWords (elementEntry held (dimsHeld held) v s)

@@ -113,12 +113,12 @@ fn put_entry(
 
 // A constant has multiplier 0 and cell 0.
 fn linear_of(table: &[u64], count: usize, subscript: Subscript) -> Linear
-    requires { ⌜ 4 * count ≤ length (now table) ⌝ }
+    requires { ⌜ 7 * count ≤ length (now table) ⌝ }
     ensures { λ r. ⌜ LinearOf (now (table .entry)) count subscript r ⌝ }
 {
     let times = low(subscript.times);
     let plus = signed(subscript.minus, subscript.addend);
-    if subscript.name == 0 {
+    if !read_tokens::is_name(subscript.name) {
         return Linear {
             times,
             cell: 0,
@@ -131,7 +131,7 @@ fn linear_of(table: &[u64], count: usize, subscript: Subscript) -> Linear
 
 // One dimension has second subscript 0, 0, 1.
 fn second_of(table: &[u64], count: usize, subscripts: Subscripts) -> Linear
-    requires { ⌜ 4 * count ≤ length (now table) ⌝ }
+    requires { ⌜ 7 * count ≤ length (now table) ⌝ }
     ensures { λ r. ⌜ SecondOf (now (table .entry)) count subscripts r ⌝ }
 {
     if subscripts.count == 1 {
@@ -156,7 +156,7 @@ fn width(columns: u32) -> u32
 
 // The entry of a reference, at index n: each reference has its own.
 pub fn put_element(table: &[u64], count: usize, element: Element, elements: &mut [u32], n: usize)
-    requires { ⌜ (4 * count ≤ length (now table)) × (9 * n + 9 ≤ length (now elements)) ⌝ }
+    requires { ⌜ (7 * count ≤ length (now table)) × (9 * n + 9 ≤ length (now elements)) ⌝ }
     ensures { λ _. ⌜ PutsElement (now (table .entry)) count element (now (elements .entry)) (now (elements .exit)) n ⌝ }
 {
     let array = take_name_table::array_of(table, count, element.name);

@@ -14,7 +14,7 @@ use Rattle.take_instructions.specs.Emits.{Emits, EmitsWith}
 
 -- lengths of the lent tables
 pub record Lent (names constants elements code : List ℕ) : Type 0 where
-  pub names-long : length names ≡ 400
+  pub names-long : length names ≡ 700
   pub constants-long : length constants ≡ 256
   pub elements-long : length elements ≡ 2304
   pub code-long : length code ≡ 4096

@@ -18,7 +18,9 @@ use Rattle.read_items.specs.Parsed.{Put}
 use Rattle.read_items.proofs.Tables.{put-more}
 use Rattle.read_forms.specs.Statements.{asNumber}
 use Rattle.take_plans.specs.declared.Plan.{Plan}
-use Rattle.take_marks.specs.Marks.{numbersOf, Low, Jumping, cellWord, setOf}
+use Rattle.read_tokens.specs.declared.Name.{Name}
+use Rattle.read_tokens.specs.Words.{noName}
+use Rattle.take_marks.specs.Marks.{numbersOf, Low, Jumping, cellName, setOf}
 
 -- ---- a list of numbers
 
@@ -115,20 +117,20 @@ put-none a n = record { top = omega arith; table = sym (append-nil (take n a)) }
 
 -- ---- the name that is set
 
-pub cell-is : {t : Target} {w : ℕ} → t ≡ Cell w → w ≡ cellWord t
-unfolding cellWord
-cell-is e = sym (ap cellWord e)
+pub cell-is : {t : Target} {n : Name} → t ≡ Cell n → n ≡ cellName t
+unfolding cellName
+cell-is e = sym (ap cellName e)
 
-pub element-is : {t : Target} {e : _} → t ≡ Element e → 0 ≡ cellWord t
-unfolding cellWord
-element-is e = sym (ap cellWord e)
+pub element-is : {t : Target} {e : _} {n : Name} → t ≡ Element e → n ≡ noName → n ≡ cellName t
+unfolding cellName
+element-is e z = z ∙ sym (ap cellName e)
 
 module _ (p : Plan) where
-  pub set-0 : p .kind ≡ 0 → cellWord (p .target) ≡ setOf p
+  pub set-0 : p .kind ≡ 0 → cellName (p .target) .0 ≡ setOf p
   unfolding setOf
   set-0 z = let a : eqb (p .kind) 0 ≡ true = eq-eqb (p .kind) 0 z in rw a
 
-  pub set-4 : p .kind ≡ 4 → cellWord (p .target) ≡ setOf p
+  pub set-4 : p .kind ≡ 4 → cellName (p .target) .0 ≡ setOf p
   unfolding setOf
   set-4 z =
       let a : eqb (p .kind) 0 ≡ false = ne-eqb (p .kind) 0 (λ e. omega arith) in

@@ -7,6 +7,8 @@ use mathlib.Core.List.{List, [], _∷_}
 use lib.Dec.{eqb}
 use lib.ListN.{length, take}
 use Rattle.rules_shared.specs.Lists.{Each}
+use Rattle.read_tokens.specs.declared.Name.{Name}
+use Rattle.read_tokens.specs.Words.{noName}
 use Rattle.read_elements.specs.declared.Target.{Target}
 use Rattle.read_elements.specs.declared.Target.the-variants.{Cell, Element}
 use Rattle.take_plans.specs.declared.Plan.{Plan}
@@ -26,10 +28,10 @@ pub record Jumping (p : Plan) (items jumps : List ℕ) (j : ℕ) : Type 0 where
   pub listed : p .kind ≡ 2 → p .listed ≤ length items
   pub room : j + length (numbersOf p items) ≤ length jumps
 
-unfoldable pub cellWord : Target → ℕ
-cellWord (Cell w) = w
-cellWord (Element e) = 0
+unfoldable pub cellName : Target → Name
+cellName (Cell n) = n
+cellName (Element e) = noName
 
--- 0 for none
+-- its first word, 0 for none
 unfoldable pub setOf : Plan → ℕ
-setOf p = cond (eqb (p .kind) 0) (cellWord (p .target)) (cond (eqb (p .kind) 4) (cellWord (p .target)) 0)
+setOf p = cond (eqb (p .kind) 0) (cellName (p .target) .0) (cond (eqb (p .kind) 4) (cellName (p .target) .0) 0)

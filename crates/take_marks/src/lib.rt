@@ -5,9 +5,10 @@ ghost use Prim.Native.Nat.{_+_, _*_, _≤_, _<_};
 ghost use lib.ListN.{length, take};
 ghost use Rattle.rules_shared.specs.Lists.{Each};
 ghost use Rattle.read_items.specs.Parsed.{Put};
-ghost use Rattle.take_marks.specs.Marks.{numbersOf, Low, Jumping, cellWord, setOf};
+ghost use Rattle.take_marks.specs.Marks.{numbersOf, Low, Jumping, cellName, setOf};
 use read_cards::Number;
 use read_elements::Target;
+use read_tokens::Name;
 use take_kinds::ASSIGNMENT;
 use take_kinds::COMPUTED;
 use take_kinds::DO;
@@ -84,25 +85,27 @@ pub fn put_jumps(p: Plan, items: &[u64], jumps: &mut [u32], from: usize) -> usiz
 
 // ---- the row
 
-pub fn cell_word(target: Target) -> u64
-    ensures { λ r. ⌜ r ≡ cellWord target ⌝ }
+pub fn cell_name(target: Target) -> Name
+    ensures { λ r. ⌜ r ≡ cellName target ⌝ }
 {
     match target {
-        Target::Cell(word) => word,
-        Target::Element(_) => 0,
+        Target::Cell(name) => name,
+        Target::Element(_) => read_tokens::no_name(),
     }
 }
 
-// The name that a statement sets, 0 for none.
+// The first word of the name that a statement sets, 0 for none.
 pub fn set_of(p: Plan) -> u64
     ensures { λ r. ⌜ r ≡ setOf p ⌝ }
 {
     let target = p.target;
     if p.kind == ASSIGNMENT {
-        return cell_word(target);
+        let name = cell_name(target);
+        return name.0;
     }
     if p.kind == DO {
-        return cell_word(target);
+        let name = cell_name(target);
+        return name.0;
     }
     0
 }

@@ -19,8 +19,7 @@ use Rattle.rules_deck.specs.Judge.{nameCount}
 use Rattle.rules_text.proofs.CardsLaws.{cases}
 use Rattle.rules_deck.specs.Cells.{namesHeld, arraysHeld}
 use Rattle.rules_deck.proofs.MapNames.{names-append}
-use Rattle.read_tokens.specs.Words.{nameWord}
-use Rattle.take_draft.specs.Names.{heldWords, Told, SomeRows, Lists, namesFit}
+use Rattle.take_draft.specs.Names.{entryWords, heldWords, Told, SomeRows, Lists, namesFit}
 use Rattle.take_name_table.proofs.Tests.{and-false}
 
 -- ---- counts, words and arrays of two lists
@@ -41,10 +40,10 @@ words-from b at at′ e = ap (λ (x : ℕ). heldWords x b) e
 pub words-append : (a b : List Held) (at : ℕ) → heldWords at (a ++ b) ≡ heldWords at a ++ heldWords (at + cellCount a) b
 words-append [] b at = words-from b at (at + 0) (omega arith)
 words-append (name v ∷ a) b at =
-    ap (λ (l : List ℕ). nameWord v ∷ at ∷ 0 ∷ 0 ∷ l)
+    ap (λ (l : List ℕ). entryWords v at 0 0 ++ l)
     (words-append a b (suc at) ∙ ap (λ (l : List ℕ). heldWords (suc at) a ++ l) (words-from b (suc at + cellCount a) (at + (1 + cellCount a)) (omega arith)))
 words-append (array x ∷ a) b at =
-    ap (λ (l : List ℕ). nameWord (x .name) ∷ at ∷ x .dims .rows ∷ x .dims .columns ∷ l)
+    ap (λ (l : List ℕ). entryWords (x .name) at (x .dims .rows) (x .dims .columns) ++ l)
     (words-append a b (at + arraySize (x .dims))
     ∙ ap (λ (l : List ℕ). heldWords (at + arraySize (x .dims)) a ++ l) (words-from b (at + arraySize (x .dims) + cellCount a) (at + (arraySize (x .dims) + cellCount a)) (omega arith)))
 words-append (hidden q ∷ a) b at =
@@ -59,7 +58,7 @@ arrays-append (hidden q ∷ a) b = arrays-append a b
 
 -- ---- the table grows
 
-pub lists-more : {held : List Held} {t t′ : List ℕ} {n n′ cells cells′ : ℕ} (more : List Held) → Lists held t n cells → take (4 * n′) t′ ≡ take (4 * n) t ++ heldWords cells more
+pub lists-more : {held : List Held} {t t′ : List ℕ} {n n′ cells cells′ : ℕ} (more : List Held) → Lists held t n cells → take (7 * n′) t′ ≡ take (7 * n) t ++ heldWords cells more
     → n′ ≡ n + nameCount more → cells′ ≡ cells + cellCount more → n′ ≤ limits .names → cells′ ≤ limits .cells → Each Told (namesHeld more) → Each SomeRows (arraysHeld more)
     → Lists (held ++ more) t′ n′ cells′
 lists-more {held} {t} {t′} {n} {n′} {cells} {cells′} more l w en ec fn fc told rows =
@@ -79,7 +78,7 @@ lists-more {held} {t} {t′} {n} {n′} {cells} {cells′} more l w en ec fn fc 
 -- a DO's hidden cells only count
 pub lists-hidden : {held : List Held} {t : List ℕ} {n cells : ℕ} (q : ℕ) → Lists held t n cells → cells + 2 ≤ 4096 → Lists (held ++ (hidden q ∷ [])) t n (cells + 2)
 lists-hidden {held} {t} {n} {cells} q l h =
-    lists-more (hidden q ∷ []) l (sym (append-nil (take (4 * n) t))) (omega arith) (omega arith) (l .names-fit) h each-none each-none
+    lists-more (hidden q ∷ []) l (sym (append-nil (take (7 * n) t))) (omega arith) (omega arith) (l .names-fit) h each-none each-none
 
 -- ---- over a limit
 

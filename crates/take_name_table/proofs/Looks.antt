@@ -15,7 +15,8 @@ use Rattle.rules_deck.specs.Deck.{sameName, Dims, width}
 use Rattle.rules_deck.specs.Translation.{Held, name, array, hidden, arraySize, cellCount, isName, isArray, firstCell, holds, cellOf, baseOf}
 use Rattle.rules_deck.specs.Judge.{nameCount, Reference, rightCount, rightReference}
 use Rattle.rules_deck.specs.Cells.{arraysHeld}
-use Rattle.read_tokens.specs.Words.{nameWord}
+use Rattle.read_tokens.specs.Words.{nameOf, noName}
+use Rattle.read_tokens.specs.declared.Name as code
 use Rattle.take_draft.specs.Names.{heldWords, dimsHeld, Told, SomeRows, Lists}
 use Rattle.take_name_table.specs.Find.{firstEntry}
 use Rattle.take_name_table.specs.Lookups.{isKind, Holds, CellOf, ArrayOf}
@@ -23,38 +24,38 @@ use Rattle.take_name_table.proofs.Spots.{PlainAt, ArrayAt, spot-plain, 
 
 -- ---- the entry of a name
 
-table-is : {held : List Held} {t : List ℕ} {n cells : ℕ} → Lists held t n cells → heldWords 0 held ++ drop (4 * n) t ≡ t
-table-is {held} {t} {n} l = ap (λ (x : List ℕ). x ++ drop (4 * n) t) (sym (l .words)) ∙ take-append-drop (4 * n) t
+table-is : {held : List Held} {t : List ℕ} {n cells : ℕ} → Lists held t n cells → heldWords 0 held ++ drop (7 * n) t ≡ t
+table-is {held} {t} {n} l = ap (λ (x : List ℕ). x ++ drop (7 * n) t) (sym (l .words)) ∙ take-append-drop (7 * n) t
 
 module _ {held : List Held} {t : List ℕ} {n cells : ℕ} (l : Lists held t n cells) where
   pub plain-spot : (v : Name) → Told v → PlainAt t n held 0 v
   plain-spot v tv =
       subst (λ (m : ℕ). PlainAt t m held 0 v) (sym (l .names-are))
-      (subst (λ (x : List ℕ). PlainAt x (nameCount held) held 0 v) (table-is l) (spot-plain v tv (drop (4 * n) t) held 0 (l .told) (l .rows)))
+      (subst (λ (x : List ℕ). PlainAt x (nameCount held) held 0 v) (table-is l) (spot-plain v tv (drop (7 * n) t) held 0 (l .told) (l .rows)))
 
   pub array-spot : (v : Name) → Told v → ArrayAt t n held 0 v
   array-spot v tv =
       subst (λ (m : ℕ). ArrayAt t m held 0 v) (sym (l .names-are))
-      (subst (λ (x : List ℕ). ArrayAt x (nameCount held) held 0 v) (table-is l) (spot-array v tv (drop (4 * n) t) held 0 (l .told) (l .rows)))
+      (subst (λ (x : List ℕ). ArrayAt x (nameCount held) held 0 v) (table-is l) (spot-array v tv (drop (7 * n) t) held 0 (l .told) (l .rows)))
 
-  pub no-spot : (k : Bool) → firstEntry k 0 n t ≡ n
+  pub no-spot : (k : Bool) → firstEntry k noName n t ≡ n
   no-spot k =
-      subst (λ (m : ℕ). firstEntry k 0 m t ≡ m) (sym (l .names-are))
-      (subst (λ (x : List ℕ). firstEntry k 0 (nameCount held) x ≡ nameCount held) (table-is l) (spot-nothing k (drop (4 * n) t) held 0 (l .told)))
+      subst (λ (m : ℕ). firstEntry k noName m t ≡ m) (sym (l .names-are))
+      (subst (λ (x : List ℕ). firstEntry k noName (nameCount held) x ≡ nameCount held) (table-is l) (spot-nothing k (drop (7 * n) t) held 0 (l .told)))
 
 -- ---- whether it is held
 
-pub holds-is : (k : Bool) (t : List ℕ) (n word i : ℕ) → i ≡ firstEntry k word n t → Holds t n word k (ltb i n)
+pub holds-is : (k : Bool) (t : List ℕ) (n : ℕ) (word : code.Name) (i : ℕ) → i ≡ firstEntry k word n t → Holds t n word k (ltb i n)
 holds-is k t n word i e =
     record {
-      is = λ held cells v l tv p. ap (λ (j : ℕ). ltb j n) (e ∙ ap (λ (w : ℕ). firstEntry k w n t) p) ∙ kind k held cells v l tv;
+      is = λ held cells v l tv p. ap (λ (j : ℕ). ltb j n) (e ∙ ap (λ (w : code.Name). firstEntry k w n t) p) ∙ kind k held cells v l tv;
       none = λ held cells l p.
           let h = no-spot l k in
-          let g : firstEntry k word n t ≡ firstEntry k 0 n t = ap (λ (w : ℕ). firstEntry k w n t) p in
+          let g : firstEntry k word n t ≡ firstEntry k noName n t = ap (λ (w : code.Name). firstEntry k w n t) p in
           le-ltb i n (omega (arith, e, h, g));
     }
   where
-    kind : (k : Bool) (held : List Held) (cells : ℕ) (v : Name) → Lists held t n cells → Told v → ltb (firstEntry k (nameWord v) n t) n ≡ holds (isKind k v) held
+    kind : (k : Bool) (held : List Held) (cells : ℕ) (v : Name) → Lists held t n cells → Told v → ltb (firstEntry k (nameOf v) n t) n ≡ holds (isKind k v) held
     kind true held cells v l tv = array-spot l v tv .test
     kind false held cells v l tv = plain-spot l v tv .test
 
@@ -75,16 +76,16 @@ cell-low v (hidden q ∷ held) e = let h = cell-low v held e in omega (arith, h)
 gone : (i n : ℕ) (b : Bool) → n ≤ i → ltb i n ≡ b → b ≡ true → ⊥
 gone i n b l e p = false≢true (sym (le-ltb i n l) ∙ e ∙ p)
 
-pub cell-none : (t : List ℕ) (n word i : ℕ) → i ≡ firstEntry false word n t → n ≤ i → CellOf t n word 0
+pub cell-none : (t : List ℕ) (n : ℕ) (word : code.Name) (i : ℕ) → i ≡ firstEntry false word n t → n ≤ i → CellOf t n word 0
 cell-none t n word i e le =
     record {
       low = omega arith;
       is = λ held cells v l tv p h.
-          let found = ap (λ (j : ℕ). ltb j n) (e ∙ ap (λ (w : ℕ). firstEntry false w n t) p) ∙ plain-spot l v tv .test in
+          let found = ap (λ (j : ℕ). ltb j n) (e ∙ ap (λ (w : code.Name). firstEntry false w n t) p) ∙ plain-spot l v tv .test in
           absurd (gone i n (holds (isName v) held) le found h);
     }
 
-pub cell-found : (t : List ℕ) (n word i r : ℕ) → i ≡ firstEntry false word n t → (r ≤ 4095) × (getD t (4 * i + 1) 0 ≤ 4095 → r ≡ getD t (4 * i + 1) 0)
+pub cell-found : (t : List ℕ) (n : ℕ) (word : code.Name) (i r : ℕ) → i ≡ firstEntry false word n t → (r ≤ 4095) × (getD t (7 * i + 4) 0 ≤ 4095 → r ≡ getD t (7 * i + 4) 0)
     → CellOf t n word r
 unfolding cellOf
 cell-found t n word i r e g =
@@ -92,8 +93,8 @@ cell-found t n word i r e g =
       low = let h = g .0 in omega (arith, h);
       is = λ held cells v l tv p h.
           let s = plain-spot l v tv in
-          let j : i ≡ firstEntry false (nameWord v) n t = e ∙ ap (λ (w : ℕ). firstEntry false w n t) p in
-          let q : getD t (4 * i + 1) 0 ≡ firstCell (isName v) held = ap (λ (x : ℕ). getD t (4 * x + 1) 0) j ∙ s .first-is h ∙ zero-add (firstCell (isName v) held) in
+          let j : i ≡ firstEntry false (nameOf v) n t = e ∙ ap (λ (w : code.Name). firstEntry false w n t) p in
+          let q : getD t (7 * i + 4) 0 ≡ firstCell (isName v) held = ap (λ (x : ℕ). getD t (7 * x + 4) 0) j ∙ s .first-is h ∙ zero-add (firstCell (isName v) held) in
           let low = cell-low v held h in
           let c = l .cells-are in
           let f = l .cells-fit in
@@ -182,22 +183,22 @@ reference-held held e h = go (holds (isArray (e .name)) held) refl
     go true p = refl
     go false p = absurd (false≢true (sym (reference-none held e p) ∙ h))
 
-pub array-none : (t : List ℕ) (n word i : ℕ) → i ≡ firstEntry true word n t → n ≤ i → ArrayOf t n word (record { first = 0; rows = 0; columns = 0 })
+pub array-none : (t : List ℕ) (n : ℕ) (word : code.Name) (i : ℕ) → i ≡ firstEntry true word n t → n ≤ i → ArrayOf t n word (record { first = 0; rows = 0; columns = 0 })
 array-none t n word i e le =
     record {
       first-low = omega arith;
       rows-low = omega arith;
       columns-low = omega arith;
       is = λ held cells x l tv p h.
-          let found = ap (λ (j : ℕ). ltb j n) (e ∙ ap (λ (w : ℕ). firstEntry true w n t) p) ∙ array-spot l (x .name) tv .test in
+          let found = ap (λ (j : ℕ). ltb j n) (e ∙ ap (λ (w : code.Name). firstEntry true w n t) p) ∙ array-spot l (x .name) tv .test in
           absurd (gone i n (holds (isArray (x .name)) held) le found (reference-held held x h));
     }
 
 abbrev pub Took : ℕ → ℕ → Type 0
 Took r word = (r ≤ 4096) × (word ≤ 4096 → r ≡ word)
 
-pub array-found : (t : List ℕ) (n word i f r c : ℕ) → i ≡ firstEntry true word n t
-    → Took f (getD t (4 * i + 1) 0) → Took r (getD t (4 * i + 2) 0) → Took c (getD t (4 * i + 3) 0)
+pub array-found : (t : List ℕ) (n : ℕ) (word : code.Name) (i f r c : ℕ) → i ≡ firstEntry true word n t
+    → Took f (getD t (7 * i + 4) 0) → Took r (getD t (7 * i + 5) 0) → Took c (getD t (7 * i + 6) 0)
     → ArrayOf t n word (record { first = f; rows = r; columns = c })
 unfolding baseOf
 array-found t n word i f r c e tf tr tc =
@@ -208,13 +209,13 @@ array-found t n word i f r c e tf tr tc =
       is = λ held cells x l tv p h.
           let held-is = reference-held held x h in
           let s = array-spot l (x .name) tv in
-          let j : i ≡ firstEntry true (nameWord (x .name)) n t = e ∙ ap (λ (w : ℕ). firstEntry true w n t) p in
+          let j : i ≡ firstEntry true (nameOf (x .name)) n t = e ∙ ap (λ (w : code.Name). firstEntry true w n t) p in
           let low = array-low (x .name) held (l .rows) held-is in
           let fits : cellCount held ≤ 4096 = let a = l .cells-are in let b = l .cells-fit in omega (arith, a, b) in
-          let qf : getD t (4 * i + 1) 0 ≡ firstCell (isArray (x .name)) held =
-          ap (λ (y : ℕ). getD t (4 * y + 1) 0) j ∙ s .first-is held-is ∙ zero-add (firstCell (isArray (x .name)) held) in
-          let qr : getD t (4 * i + 2) 0 ≡ dimsHeld held (x .name) .rows = ap (λ (y : ℕ). getD t (4 * y + 2) 0) j ∙ s .rows-are held-is in
-          let qc : getD t (4 * i + 3) 0 ≡ dimsHeld held (x .name) .columns = ap (λ (y : ℕ). getD t (4 * y + 3) 0) j ∙ s .columns-are held-is in
+          let qf : getD t (7 * i + 4) 0 ≡ firstCell (isArray (x .name)) held =
+          ap (λ (y : ℕ). getD t (7 * y + 4) 0) j ∙ s .first-is held-is ∙ zero-add (firstCell (isArray (x .name)) held) in
+          let qr : getD t (7 * i + 5) 0 ≡ dimsHeld held (x .name) .rows = ap (λ (y : ℕ). getD t (7 * y + 5) 0) j ∙ s .rows-are held-is in
+          let qc : getD t (7 * i + 6) 0 ≡ dimsHeld held (x .name) .columns = ap (λ (y : ℕ). getD t (7 * y + 6) 0) j ∙ s .columns-are held-is in
           record {
             first-is = tf .1 (let y = low .first-low in omega (arith, y, qf, fits)) ∙ qf;
             rows-are = tr .1 (let y = low .rows-low in omega (arith, y, qr, fits)) ∙ qr;

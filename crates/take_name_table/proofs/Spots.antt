@@ -14,43 +14,49 @@ use Rattle.rules_deck.specs.Deck.{sameName, Dims}
 use Rattle.rules_deck.specs.Translation.{Held, name, array, hidden, arraySize, isName, isArray, firstCell, holds}
 use Rattle.rules_deck.specs.Judge.{nameCount}
 use Rattle.rules_deck.specs.Cells.{namesHeld, arraysHeld}
-use Rattle.read_tokens.specs.Words.{nameWord}
+use Rattle.read_tokens.specs.Words.{nameOf, noName, nameWords, sameWords}
+use Rattle.read_tokens.specs.declared.Name as code
 use Rattle.take_draft.specs.Names.{heldWords, dimsHeld, Told, SomeRows}
 use Rattle.take_name_table.specs.Find.{ofKind, isEntry, firstEntry}
 use Rattle.take_name_table.proofs.Tests.{and-true, and-false}
-use Rattle.take_draft.proofs.NameWords.{word-test, some-word}
+use Rattle.take_draft.proofs.NameWords.{name-test, no-name}
 
 -- entry i of n, if it is one of them, and what it says
 pub record Spot (words : List ℕ) (n i : ℕ) (found : Bool) (first rows columns : ℕ) : Type 0 where
   pub within : i ≤ n
   pub test : ltb i n ≡ found
-  pub first-is : found ≡ true → getD words (4 * i + 1) 0 ≡ first
-  pub rows-are : found ≡ true → getD words (4 * i + 2) 0 ≡ rows
-  pub columns-are : found ≡ true → getD words (4 * i + 3) 0 ≡ columns
+  pub first-is : found ≡ true → getD words (7 * i + 4) 0 ≡ first
+  pub rows-are : found ≡ true → getD words (7 * i + 5) 0 ≡ rows
+  pub columns-are : found ≡ true → getD words (7 * i + 6) 0 ≡ columns
 
 spot-none : (words : List ℕ) (f r c : ℕ) → Spot words 0 0 false f r c
 spot-none words f r c =
     record { within = omega arith; test = refl; first-is = λ e. absurd (false≢true e); rows-are = λ e. absurd (false≢true e); columns-are = λ e. absurd (false≢true e) }
 
-past : (x a b d : ℕ) (ws : List ℕ) (i k : ℕ) → getD (x ∷ a ∷ b ∷ d ∷ ws) (4 * suc i + k) 0 ≡ getD ws (4 * i + k) 0
-past x a b d ws i k = let e : 4 * suc i + k ≡ suc (suc (suc (suc (4 * i + k)))) = omega arith in ap (λ (j : ℕ). getD (x ∷ a ∷ b ∷ d ∷ ws) j 0) e
+abbrev entry : code.Name → ℕ → ℕ → ℕ → List ℕ → List ℕ
+entry x a b d ws = nameWords x ++ (a ∷ b ∷ d ∷ ws)
+
+past : (x : code.Name) (a b d : ℕ) (ws : List ℕ) (i k : ℕ) → getD (entry x a b d ws) (7 * suc i + k) 0 ≡ getD ws (7 * i + k) 0
+past x a b d ws i k =
+    let e : 7 * suc i + k ≡ suc (suc (suc (suc (suc (suc (suc (7 * i + k))))))) = omega arith in
+    ap (λ (j : ℕ). getD (entry x a b d ws) j 0) e
 
 lt-suc : (i n : ℕ) (b : Bool) → ltb i n ≡ b → ltb (suc i) (suc n) ≡ b
 lt-suc i n true e = lt-ltb (suc i) (suc n) (let h = ltb-true i n e in omega (arith, h))
 lt-suc i n false e = le-ltb (suc i) (suc n) (let h = ltb-false i n e in omega (arith, h))
 
 -- one entry more before them
-spot-step : (t : Bool) (x a b d : ℕ) {ws : List ℕ} {n i : ℕ} {found : Bool} {f r c : ℕ} → Spot ws n i found f r c
-    → Spot (x ∷ a ∷ b ∷ d ∷ ws) (suc n) (cond t 0 (suc i)) (t || found) (cond t a f) (cond t b r) (cond t d c)
+spot-step : (t : Bool) (x : code.Name) (a b d : ℕ) {ws : List ℕ} {n i : ℕ} {found : Bool} {f r c : ℕ} → Spot ws n i found f r c
+    → Spot (entry x a b d ws) (suc n) (cond t 0 (suc i)) (t || found) (cond t a f) (cond t b r) (cond t d c)
 spot-step true x a b d {ws} {n} {i} {found} {f} {r} {c} s =
     record { within = omega arith; test = lt-ltb 0 (suc n) (omega arith); first-is = λ e. refl; rows-are = λ e. refl; columns-are = λ e. refl }
 spot-step false x a b d {ws} {n} {i} {found} {f} {r} {c} s =
     record {
       within = let h = s .within in omega (arith, h);
       test = lt-suc i n found (s .test);
-      first-is = λ e. past x a b d ws i 1 ∙ s .first-is e;
-      rows-are = λ e. past x a b d ws i 2 ∙ s .rows-are e;
-      columns-are = λ e. past x a b d ws i 3 ∙ s .columns-are e;
+      first-is = λ e. past x a b d ws i 4 ∙ s .first-is e;
+      rows-are = λ e. past x a b d ws i 5 ∙ s .rows-are e;
+      columns-are = λ e. past x a b d ws i 6 ∙ s .columns-are e;
     }
 
 -- what it says, in other words
@@ -60,9 +66,9 @@ spot-as {words} {n} {i} {j} {found} {found′} {f} {f′} {r} {r′} {c} {c′} 
     record {
       within = let h = s .within in omega (arith, h, ei);
       test = ap (λ (k : ℕ). ltb k n) (sym ei) ∙ s .test ∙ e;
-      first-is = λ p. ap (λ (k : ℕ). getD words (4 * k + 1) 0) (sym ei) ∙ s .first-is (e ∙ p) ∙ ef;
-      rows-are = λ p. ap (λ (k : ℕ). getD words (4 * k + 2) 0) (sym ei) ∙ s .rows-are (e ∙ p) ∙ er;
-      columns-are = λ p. ap (λ (k : ℕ). getD words (4 * k + 3) 0) (sym ei) ∙ s .columns-are (e ∙ p) ∙ ec;
+      first-is = λ p. ap (λ (k : ℕ). getD words (7 * k + 4) 0) (sym ei) ∙ s .first-is (e ∙ p) ∙ ef;
+      rows-are = λ p. ap (λ (k : ℕ). getD words (7 * k + 5) 0) (sym ei) ∙ s .rows-are (e ∙ p) ∙ er;
+      columns-are = λ p. ap (λ (k : ℕ). getD words (7 * k + 6) 0) (sym ei) ∙ s .columns-are (e ∙ p) ∙ ec;
     }
 
 -- ---- a test of the first entry
@@ -89,11 +95,11 @@ index-as s t i e = ap (λ (b : Bool). cond b 0 (suc i)) (sym e)
 -- ---- the entry of a name in n entries from the cell `at` on
 
 abbrev pub PlainAt : List ℕ → ℕ → List Held → ℕ → Name → Type 0
-PlainAt words n held at v = Spot words n (firstEntry false (nameWord v) n words) (holds (isName v) held) (at + firstCell (isName v) held) 0 0
+PlainAt words n held at v = Spot words n (firstEntry false (nameOf v) n words) (holds (isName v) held) (at + firstCell (isName v) held) 0 0
 
 abbrev pub ArrayAt : List ℕ → ℕ → List Held → ℕ → Name → Type 0
 ArrayAt words n held at v =
-    Spot words n (firstEntry true (nameWord v) n words) (holds (isArray v) held) (at + firstCell (isArray v) held) (dimsHeld held v .rows) (dimsHeld held v .columns)
+    Spot words n (firstEntry true (nameOf v) n words) (holds (isArray v) held) (at + firstCell (isArray v) held) (dimsHeld held v .rows) (dimsHeld held v .columns)
 
 module _ (v : Name) (tv : Told v) (rest : List ℕ) where
   pub spot-plain : (held : List Held) (at : ℕ) → Each Told (namesHeld held) → Each SomeRows (arraysHeld held)
@@ -103,8 +109,8 @@ module _ (v : Name) (tv : Told v) (rest : List ℕ) where
   spot-plain (name w ∷ held) at (each-more tw told) some =
       let t = sameName w v in
       let s = spot-plain held (suc at) told some in
-      let e : isEntry false (nameWord v) (heldWords at (name w ∷ held) ++ rest) ≡ t = and-true (eqb (nameWord w) (nameWord v)) true refl ∙ word-test w v tw tv in
-      spot-as (spot-step t (nameWord w) at 0 0 s) (index-as _ t _ e) refl (first t (firstCell (isName v) held)) (cond-same t 0) (cond-same t 0)
+      let e : isEntry false (nameOf v) (heldWords at (name w ∷ held) ++ rest) ≡ t = and-true (sameWords (nameOf w) (nameOf v)) true refl ∙ name-test w v tw tv in
+      spot-as (spot-step t (nameOf w) at 0 0 s) (index-as _ t _ e) refl (first t (firstCell (isName v) held)) (cond-same t 0) (cond-same t 0)
     where
       first : (t : Bool) (f : ℕ) → cond t at (suc at + f) ≡ at + cond t 0 (1 + f)
       first true f = omega arith
@@ -112,9 +118,9 @@ module _ (v : Name) (tv : Told v) (rest : List ℕ) where
   spot-plain (array a ∷ held) at (each-more tw told) (each-more r some) =
       let n = arraySize (a .dims) in
       let s = spot-plain held (at + n) told some in
-      let e : isEntry false (nameWord v) (heldWords at (array a ∷ held) ++ rest) ≡ false =
-      and-false (eqb (nameWord (a .name)) (nameWord v)) _ (ne-eqb (a .dims .rows) 0 (λ z. omega (arith, r, z))) in
-      spot-as (spot-step false (nameWord (a .name)) at (a .dims .rows) (a .dims .columns) s) (index-as _ false _ e) refl (omega arith) refl refl
+      let e : isEntry false (nameOf v) (heldWords at (array a ∷ held) ++ rest) ≡ false =
+      and-false (sameWords (nameOf (a .name)) (nameOf v)) _ (ne-eqb (a .dims .rows) 0 (λ z. omega (arith, r, z))) in
+      spot-as (spot-step false (nameOf (a .name)) at (a .dims .rows) (a .dims .columns) s) (index-as _ false _ e) refl (omega arith) refl refl
   spot-plain (hidden q ∷ held) at told some = spot-as (spot-plain held (at + 2) told some) refl refl (omega arith) refl refl
 
   pub spot-array : (held : List Held) (at : ℕ) → Each Told (namesHeld held) → Each SomeRows (arraysHeld held)
@@ -123,29 +129,29 @@ module _ (v : Name) (tv : Told v) (rest : List ℕ) where
   spot-array [] at told some = spot-none rest (at + 0) 0 0
   spot-array (name w ∷ held) at (each-more tw told) some =
       let s = spot-array held (suc at) told some in
-      let e : isEntry true (nameWord v) (heldWords at (name w ∷ held) ++ rest) ≡ false = and-false (eqb (nameWord w) (nameWord v)) false refl in
-      spot-as (spot-step false (nameWord w) at 0 0 s) (index-as _ false _ e) refl (omega arith) refl refl
+      let e : isEntry true (nameOf v) (heldWords at (name w ∷ held) ++ rest) ≡ false = and-false (sameWords (nameOf w) (nameOf v)) false refl in
+      spot-as (spot-step false (nameOf w) at 0 0 s) (index-as _ false _ e) refl (omega arith) refl refl
   spot-array (array a ∷ held) at (each-more tw told) (each-more r some) =
       let n = arraySize (a .dims) in
       let t = sameName (a .name) v in
       let s = spot-array held (at + n) told some in
-      let e : isEntry true (nameWord v) (heldWords at (array a ∷ held) ++ rest) ≡ t =
-      and-true (eqb (nameWord (a .name)) (nameWord v)) _ (le-leb 1 (a .dims .rows) r) ∙ word-test (a .name) v tw tv in
-      spot-as (spot-step t (nameWord (a .name)) at (a .dims .rows) (a .dims .columns) s) (index-as _ t _ e) refl (cond-plus t at n (firstCell (isArray v) held))
+      let e : isEntry true (nameOf v) (heldWords at (array a ∷ held) ++ rest) ≡ t =
+      and-true (sameWords (nameOf (a .name)) (nameOf v)) _ (le-leb 1 (a .dims .rows) r) ∙ name-test (a .name) v tw tv in
+      spot-as (spot-step t (nameOf (a .name)) at (a .dims .rows) (a .dims .columns) s) (index-as _ t _ e) refl (cond-plus t at n (firstCell (isArray v) held))
       (cond-rows t (a .dims) (dimsHeld held v)) (cond-columns t (a .dims) (dimsHeld held v))
   spot-array (hidden q ∷ held) at told some = spot-as (spot-array held (at + 2) told some) refl refl (omega arith) refl refl
 
--- ---- no entry has the word 0
+-- ---- no entry is without a name
 
-skip : (k : Bool) (n : ℕ) (words : List ℕ) (m : ℕ) → isEntry k 0 words ≡ false → firstEntry k 0 n (drop 4 words) ≡ m → firstEntry k 0 (suc n) words ≡ suc m
+skip : (k : Bool) (n : ℕ) (words : List ℕ) (m : ℕ) → isEntry k noName words ≡ false → firstEntry k noName n (drop 7 words) ≡ m → firstEntry k noName (suc n) words ≡ suc m
 unfolding firstEntry
-skip k n words m e h = ap (λ (b : Bool). cond b 0 (suc (firstEntry k 0 n (drop 4 words)))) e ∙ ap suc h
+skip k n words m e h = ap (λ (b : Bool). cond b 0 (suc (firstEntry k noName n (drop 7 words)))) e ∙ ap suc h
 
-no-word : (k : Bool) (w : Name) (r : ℕ) → Told w → (eqb (nameWord w) 0 && ofKind k r) ≡ false
-no-word k w r t = ap (λ (b : Bool). b && ofKind k r) (ne-eqb (nameWord w) 0 (some-word w t))
+no-word : (k : Bool) (w : Name) (r : ℕ) → Told w → (sameWords (nameOf w) noName && ofKind k r) ≡ false
+no-word k w r t = ap (λ (b : Bool). b && ofKind k r) (no-name w t)
 
 pub spot-nothing : (k : Bool) (rest : List ℕ) (held : List Held) (at : ℕ) → Each Told (namesHeld held)
-    → firstEntry k 0 (nameCount held) (heldWords at held ++ rest) ≡ nameCount held
+    → firstEntry k noName (nameCount held) (heldWords at held ++ rest) ≡ nameCount held
 unfolding firstEntry
 spot-nothing k rest [] at told = refl
 spot-nothing k rest (name w ∷ held) at (each-more tw told) =

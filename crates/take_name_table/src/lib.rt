@@ -1,11 +1,29 @@
-// The table of names, four words an entry: a name's eight bytes, its first cell, rows and columns. Lookups, and an entry written.
+// The table of names, seven words an entry: a name's four, its first cell, rows and columns. Lookups, and an entry written.
 ghost use mathlib.Core.Path.{_≡_};
-ghost use mathlib.Core.List.{[], _∷_};
+ghost use mathlib.Core.List.{[], _∷_, _++_};
 ghost use Prim.Native.Nat.{_+_, _*_, _≤_};
 ghost use lib.ListN.{length, drop};
+ghost use Rattle.read_tokens.specs.Words.{nameWords};
 ghost use Rattle.read_items.specs.Parsed.{Put};
 ghost use Rattle.take_name_table.specs.Find.{ofKind, isEntry, firstEntry, itemLength};
 ghost use Rattle.take_name_table.specs.Lookups.{Holds, CellOf, ArrayOf};
+
+use read_items::ELEMENT_ITEM;
+use read_items::NAME_ITEM;
+use read_tokens::Name;
+use read_tokens::NAME_WORDS;
+
+pub const ENTRY_WORDS: usize = NAME_WORDS + 3;
+
+// Where an element's item has how many subscripts there are, and each of the two.
+pub const COUNT_AT: usize = NAME_ITEM;
+pub const FIRST_AT: usize = COUNT_AT + 1;
+pub const SECOND_AT: usize = FIRST_AT + NAME_WORDS + 3;
+
+// Where an entry has its first cell, its rows and its columns.
+pub const FIRST: usize = NAME_WORDS;
+pub const ROWS: usize = NAME_WORDS + 1;
+pub const COLUMNS: usize = NAME_WORDS + 2;
 
 const CELLS: u64 = limits::CELLS as u64;
 
@@ -31,24 +49,24 @@ fn of_kind(arrays: bool, rows: u64) -> bool
     rows == 0
 }
 
-fn is_entry(table: &[u64], at: usize, name: u64, arrays: bool) -> bool
-    requires { ⌜ at + 4 ≤ length (now table) ⌝ }
+fn is_entry(table: &[u64], at: usize, name: Name, arrays: bool) -> bool
+    requires { ⌜ at + 7 ≤ length (now table) ⌝ }
     ensures { λ r. ⌜ r ≡ isEntry arrays name (drop at (now (table .entry))) ⌝ }
 {
-    if table[at] != name {
+    if !read_tokens::same_name(read_tokens::name_at(table, at), name) {
         return false;
     }
-    of_kind(arrays, table[at + 2])
+    of_kind(arrays, table[at + ROWS])
 }
 
 // The index of the first entry of the name as an array, or as a plain name; n where there is none.
-pub fn find(table: &[u64], n: usize, name: u64, arrays: bool) -> usize
-    requires { ⌜ 4 * n ≤ length (now table) ⌝ }
+pub fn find(table: &[u64], n: usize, name: Name, arrays: bool) -> usize
+    requires { ⌜ 7 * n ≤ length (now table) ⌝ }
     ensures { λ r. ⌜ r ≡ firstEntry arrays name n (now (table .entry)) ⌝ }
 {
     let mut i = 0;
     while i < n {
-        if is_entry(table, 4 * i, name, arrays) {
+        if is_entry(table, ENTRY_WORDS * i, name, arrays) {
             return i;
         }
         i += 1;
@@ -56,8 +74,8 @@ pub fn find(table: &[u64], n: usize, name: u64, arrays: bool) -> usize
     n
 }
 
-pub fn holds(table: &[u64], n: usize, name: u64, arrays: bool) -> bool
-    requires { ⌜ 4 * n ≤ length (now table) ⌝ }
+pub fn holds(table: &[u64], n: usize, name: Name, arrays: bool) -> bool
+    requires { ⌜ 7 * n ≤ length (now table) ⌝ }
     ensures { λ r. ⌜ Holds (now (table .entry)) n name arrays r ⌝ }
 {
     find(table, n, name, arrays) < n
@@ -75,20 +93,20 @@ fn small(word: u64, most: u64) -> u32
 }
 
 // The cell of a plain name that the table holds.
-pub fn cell_of(table: &[u64], n: usize, name: u64) -> u32
-    requires { ⌜ 4 * n ≤ length (now table) ⌝ }
+pub fn cell_of(table: &[u64], n: usize, name: Name) -> u32
+    requires { ⌜ 7 * n ≤ length (now table) ⌝ }
     ensures { λ r. ⌜ CellOf (now (table .entry)) n name r ⌝ }
 {
     let i = find(table, n, name, false);
     if n <= i {
         return 0;
     }
-    small(table[4 * i + 1], 4095)
+    small(table[ENTRY_WORDS * i + FIRST], 4095)
 }
 
 // The array of a reference that passes 16.
-pub fn array_of(table: &[u64], n: usize, name: u64) -> Entry
-    requires { ⌜ 4 * n ≤ length (now table) ⌝ }
+pub fn array_of(table: &[u64], n: usize, name: Name) -> Entry
+    requires { ⌜ 7 * n ≤ length (now table) ⌝ }
     ensures { λ r. ⌜ ArrayOf (now (table .entry)) n name r ⌝ }
 {
     let i = find(table, n, name, true);
@@ -99,10 +117,10 @@ pub fn array_of(table: &[u64], n: usize, name: u64) -> Entry
             columns: 0,
         };
     }
-    let at = 4 * i;
-    let first = small(table[at + 1], CELLS);
-    let rows = small(table[at + 2], CELLS);
-    let columns = small(table[at + 3], CELLS);
+    let at = ENTRY_WORDS * i;
+    let first = small(table[at + FIRST], CELLS);
+    let rows = small(table[at + ROWS], CELLS);
+    let columns = small(table[at + COLUMNS], CELLS);
     Entry {
         first,
         rows,
@@ -114,23 +132,23 @@ pub fn item_length(kind: u64) -> usize
     ensures { λ r. ⌜ r ≡ itemLength kind ⌝ }
 {
     if kind == 4 {
-        return 11;
+        return ELEMENT_ITEM;
     }
-    if kind < 3 {
+    if kind == 2 {
+        return NAME_ITEM;
+    }
+    if kind == 1 {
         return 2;
     }
     1
 }
 
 // Writes the entry at index n.
-pub fn put_entry(table: &mut [u64], n: usize, name: u64, first: u64, rows: u64, columns: u64)
-    requires { ⌜ 4 * n + 4 ≤ length (now table) ⌝ }
-    ensures { λ r. ⌜ Put (now (table .entry)) (now (table .exit)) (4 * n) (name ∷ first ∷ rows ∷ columns ∷ []) (4 * n + 4) ⌝ }
+pub fn put_entry(table: &mut [u64], n: usize, name: Name, first: u64, rows: u64, columns: u64)
+    requires { ⌜ 7 * n + 7 ≤ length (now table) ⌝ }
+    ensures { λ r. ⌜ Put (now (table .entry)) (now (table .exit)) (7 * n) (nameWords name ++ (first ∷ rows ∷ columns ∷ [])) (7 * n + 7) ⌝ }
 {
-    let at = 4 * n;
-    table[at] = name;
-    table[at + 1] = first;
-    let b = at + 2;
-    table[b] = rows;
-    table[b + 1] = columns;
+    let a = read_items::put_name(table, ENTRY_WORDS * n, name);
+    let b = read_items::put_two(table, a, first, rows);
+    table[b] = columns;
 }

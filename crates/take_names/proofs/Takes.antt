@@ -10,7 +10,8 @@ use Rattle.rules_shared.specs.Lists.{Each, each-none, each-more}
 use Rattle.rules_shared.proofs.EachLaws.{each-one, each-both}
 use Rattle.rules_text.specs.Trees.{Name, Subscript, constant, linear, Subscripts, one, two, subscriptNames, subscriptsNames}
 use Rattle.rules_deck.specs.Translation.{Held, name, appear}
-use Rattle.read_tokens.specs.Words.{nameWord}
+use Rattle.read_tokens.specs.Words.{nameOf, noName, nameWords, nameAt}
+use Rattle.read_tokens.specs.declared.Name as code
 use Rattle.read_elements.specs.Values.{subscriptValue, subscriptsValue}
 use Rattle.read_items.specs.Parsed.{Put}
 use Rattle.take_draft.specs.Parts.{Item, value, plain, place, negate, apply, itemWords, itemNames, itemPlain}
@@ -20,7 +21,7 @@ use Rattle.take_name_table.specs.declared.Grown.the-variants.{Names, Full}
 use Rattle.take_name_table.specs.Lookups.{Holds}
 use Rattle.take_name_table.specs.Appears.{Appeared, Within}
 use Rattle.take_names.specs.Takes.{TakesName, TakesAny, TakesItem}
-use Rattle.take_draft.proofs.NameWords.{some-word}
+use Rattle.take_draft.proofs.NameWords.{first-word}
 use Rattle.take_name_table.proofs.Fronts.{no-operand, kind-is}
 use Rattle.take_name_table.proofs.Growth.{count-append, cells-append, lists-more, over-names, over-cells, over-appear, appear-append}
 
@@ -29,12 +30,12 @@ within-names w e = subst (λ (x : Grown). Within x) e w
 
 -- ---- one name
 
-module _ (t : List ℕ) (n cells word : ℕ) (r : Bool) (h : Holds t n word false r) where
+module _ (t : List ℕ) (n cells : ℕ) (word : code.Name) (r : Bool) (h : Holds t n word false r) where
   -- it is held, or it comes at the end
-  kept : (held : List Held) (v : Name) → Lists held t n cells → word ≡ nameWord v → Told v → r ≡ true → held ≡ appear held (v ∷ [])
+  kept : (held : List Held) (v : Name) → Lists held t n cells → word ≡ nameOf v → Told v → r ≡ true → held ≡ appear held (v ∷ [])
   kept held v l e tv p = ap (λ (b : Bool). cond b held (held ++ (name v ∷ []))) (sym p ∙ h .is held cells v l tv e)
 
-  comes : (held : List Held) (v : Name) → Lists held t n cells → word ≡ nameWord v → Told v → r ≡ false → held ++ (name v ∷ []) ≡ appear held (v ∷ [])
+  comes : (held : List Held) (v : Name) → Lists held t n cells → word ≡ nameOf v → Told v → r ≡ false → held ++ (name v ∷ []) ≡ appear held (v ∷ [])
   comes held v l e tv p = ap (λ (b : Bool). cond b held (held ++ (name v ∷ []))) (sym p ∙ h .is held cells v l tv e)
 
   pub take-same : r ≡ true → n ≤ 100 → cells ≤ 4096 → TakesName t t n cells word (Names n cells)
@@ -58,28 +59,34 @@ module _ (t : List ℕ) (n cells word : ℕ) (r : Bool) (h : Holds t n word fals
             (over-cells (held ++ (name v ∷ [])) (let a = l .cells-are in let b = cells-append held (name v ∷ []) in omega (arith, a, b, fc)));
       }
 
-  pub take-new : (t′ : List ℕ) → r ≡ false → n < 100 → cells < 4096 → Put t t′ (4 * n) (word ∷ cells ∷ 0 ∷ 0 ∷ []) (4 * n + 4)
+  pub take-new : (t′ : List ℕ) → r ≡ false → n < 100 → cells < 4096 → Put t t′ (7 * n) (nameWords word ++ (cells ∷ 0 ∷ 0 ∷ [])) (7 * n + 7)
       → TakesName t t′ n cells word (Names (n + 1) (cells + 1))
   take-new t′ p fn fc put =
       record {
         within = (omega arith, omega arith);
         is = λ held v l e tv.
-            let four : 4 * (n + 1) ≡ 4 * n + 4 = omega arith in
-            let words : take (4 * (n + 1)) t′ ≡ take (4 * n) t ++ heldWords cells (name v ∷ []) =
-            ap (λ (k : ℕ). take k t′) four ∙ put .table ∙ ap (λ (w : ℕ). take (4 * n) t ++ (w ∷ cells ∷ 0 ∷ 0 ∷ [])) e in
+            let seven : 7 * (n + 1) ≡ 7 * n + 7 = omega arith in
+            let words : take (7 * (n + 1)) t′ ≡ take (7 * n) t ++ heldWords cells (name v ∷ []) =
+            ap (λ (k : ℕ). take k t′) seven ∙ put .table ∙ ap (λ (w : code.Name). take (7 * n) t ++ (nameWords w ++ (cells ∷ 0 ∷ 0 ∷ []))) e in
             subst (λ (x : List Held). Lists x t′ (n + 1) (cells + 1)) (comes held v l e tv p)
             (lists-more (name v ∷ []) l words (omega arith) (omega arith) (omega arith) (omega arith) (each-one tv) each-none);
       }
 
-pub none-word : (t : List ℕ) (n cells word : ℕ) → word ≡ 0 → n ≤ 100 → cells ≤ 4096 → TakesAny t t n cells word (Names n cells)
-none-word t n cells word z fn fc = record { within = (fn, fc); is = λ held v l e tv. absurd (some-word v tv (sym e ∙ z)); none = λ held l e. l }
+pub none-word : (t : List ℕ) (n cells : ℕ) (word : code.Name) → word .0 ≡ 0 → n ≤ 100 → cells ≤ 4096 → TakesAny t t n cells word (Names n cells)
+none-word t n cells word z fn fc = record { within = (fn, fc); is = λ held v l e tv. absurd (first-word v tv (ap (λ (x : code.Name). x .0) (sym e) ∙ z)); none = λ held l e. l }
 
-pub some-name : (t t′ : List ℕ) (n cells word : ℕ) (r : Grown) → (word ≡ 0 → ⊥) → TakesName t t′ n cells word r → TakesAny t t′ n cells word r
-some-name t t′ n cells word r z h = record { within = h .within; is = h .is; none = λ held l e. absurd (z e) }
+pub some-name : (t t′ : List ℕ) (n cells : ℕ) (word : code.Name) (r : Grown) → (word .0 ≡ 0 → ⊥) → TakesName t t′ n cells word r → TakesAny t t′ n cells word r
+some-name t t′ n cells word r z h = record { within = h .within; is = h .is; none = λ held l e. absurd (z (ap (λ (x : code.Name). x .0) e)) }
+
+pub name-as : {t t′ : List ℕ} {n cells : ℕ} {x y : code.Name} {r : Grown} → x ≡ y → TakesName t t′ n cells x r → TakesName t t′ n cells y r
+name-as {t} {t′} {n} {cells} {x} {y} {r} e h = subst (λ (w : code.Name). TakesName t t′ n cells w r) e h
+
+pub any-as : {t t′ : List ℕ} {n cells : ℕ} {x y : code.Name} {r : Grown} → x ≡ y → TakesAny t t′ n cells x r → TakesAny t t′ n cells y r
+any-as {t} {t′} {n} {cells} {x} {y} {r} e h = subst (λ (w : code.Name). TakesAny t t′ n cells w r) e h
 
 -- ---- a subscript's name
 
-subscript-takes : {t t′ : List ℕ} {n cells word : ℕ} {r : Grown} (x : Subscript) (held : List Held) → TakesAny t t′ n cells word r
+subscript-takes : {t t′ : List ℕ} {n cells : ℕ} {word : code.Name} {r : Grown} (x : Subscript) (held : List Held) → TakesAny t t′ n cells word r
     → word ≡ subscriptValue x .name → Each Told (subscriptNames x) → Lists held t n cells → Appeared (appear held (subscriptNames x)) t′ r
 unfolding subscriptValue
 subscript-takes (constant c) held h e told l = h .none held l e
@@ -88,12 +95,12 @@ subscript-takes (linear m v a) held h e (each-more tv none) l = h .is held v l e
 -- ---- one operand
 
 module _ (items t : List ℕ) (n cells : ℕ) where
-  pub takes-plain : (t′ : List ℕ) (r : Grown) → getD items 0 0 ≡ 2 → TakesName t t′ n cells (getD items 1 0) r → TakesItem items t t′ n cells r
+  pub takes-plain : (t′ : List ℕ) (r : Grown) → getD items 0 0 ≡ 2 → TakesName t t′ n cells (nameAt items 1) r → TakesItem items t t′ n cells r
   takes-plain t′ r k h = record { within = h .within; is = go }
     where
       go : (held : List Held) (i : Item) (more : List ℕ) → Lists held t n cells → items ≡ itemWords i ++ more → Each Told (itemNames i) → Appeared (appear held (itemPlain i)) t′ r
       go held (value c) more l e told = absurd (let z = kind-is (value c) more e 2 k in omega (arith, z))
-      go held (plain v) more l e (each-more tv none) = h .is held v l (ap (λ (x : List ℕ). getD x 1 0) e) tv
+      go held (plain v) more l e (each-more tv none) = h .is held v l (ap (λ (x : List ℕ). nameAt x 1) e) tv
       go held (place v s) more l e told = absurd (let z = kind-is (place v s) more e 2 k in omega (arith, z))
       go held negate more l e told = absurd (let z = kind-is negate more e 2 k in omega (arith, z))
       go held (apply o) more l e told = absurd (no-operand o more 2 (omega arith) (kind-is (apply o) more e 2 k))
@@ -112,7 +119,7 @@ module _ (items t : List ℕ) (n cells : ℕ) where
   -- what an element's subscripts take
   abbrev Subscribed : List ℕ → Grown → Type 0
   Subscribed t′ r =
-      (held : List Held) (s : Subscripts) → Lists held t n cells → getD items 4 0 ≡ subscriptsValue s .first .name → getD items 8 0 ≡ subscriptsValue s .second .name
+      (held : List Held) (s : Subscripts) → Lists held t n cells → nameAt items 7 ≡ subscriptsValue s .first .name → nameAt items 14 ≡ subscriptsValue s .second .name
       → Each Told (subscriptsNames s) → Appeared (appear held (subscriptsNames s)) t′ r
 
   -- is all that it takes
@@ -122,16 +129,16 @@ module _ (items t : List ℕ) (n cells : ℕ) where
       go : (held : List Held) (i : Item) (more : List ℕ) → Lists held t n cells → items ≡ itemWords i ++ more → Each Told (itemNames i) → Appeared (appear held (itemPlain i)) t′ r
       go held (value c) more l e told = absurd (let z = kind-is (value c) more e 4 k in omega (arith, z))
       go held (plain v) more l e told = absurd (let z = kind-is (plain v) more e 4 k in omega (arith, z))
-      go held (place v s) more l e (each-more tv told) = f held s l (ap (λ (x : List ℕ). getD x 4 0) e) (ap (λ (x : List ℕ). getD x 8 0) e) told
+      go held (place v s) more l e (each-more tv told) = f held s l (ap (λ (x : List ℕ). nameAt x 7) e) (ap (λ (x : List ℕ). nameAt x 14) e) told
       go held negate more l e told = absurd (let z = kind-is negate more e 4 k in omega (arith, z))
       go held (apply o) more l e told = absurd (no-operand o more 4 (omega arith) (kind-is (apply o) more e 4 k))
 
-  pub takes-full : (t′ : List ℕ) (r : Grown) → getD items 0 0 ≡ 4 → TakesAny t t′ n cells (getD items 4 0) r → r ≡ Full → TakesItem items t t′ n cells Full
+  pub takes-full : (t′ : List ℕ) (r : Grown) → getD items 0 0 ≡ 4 → TakesAny t t′ n cells (nameAt items 7) r → r ≡ Full → TakesItem items t t′ n cells Full
   unfolding subscriptsValue
   takes-full t′ r k h e = takes-place t′ Full k tt full
     where
-      stopped : TakesAny t t′ n cells (getD items 4 0) Full
-      stopped = subst (λ (x : Grown). TakesAny t t′ n cells (getD items 4 0) x) e h
+      stopped : TakesAny t t′ n cells (nameAt items 7) Full
+      stopped = subst (λ (x : Grown). TakesAny t t′ n cells (nameAt items 7) x) e h
 
       full : Subscribed t′ Full
       full held (one x) l e₁ e₂ told = subscript-takes x held stopped e₁ told l
@@ -139,13 +146,13 @@ module _ (items t : List ℕ) (n cells : ℕ) where
           subst (λ (z : List Held). namesFit z ≡ false) (sym (appear-append (subscriptNames x) (subscriptNames y) held))
           (over-appear (subscriptNames y) (appear held (subscriptNames x)) (subscript-takes x held stopped e₁ (each-both (subscriptNames x) told .0) l))
 
-  pub takes-both : (t₁ t₂ : List ℕ) (a b : ℕ) (q r : Grown) → getD items 0 0 ≡ 4 → TakesAny t t₁ n cells (getD items 4 0) q → q ≡ Names a b
-      → TakesAny t₁ t₂ a b (getD items 8 0) r → TakesItem items t t₂ n cells r
+  pub takes-both : (t₁ t₂ : List ℕ) (a b : ℕ) (q r : Grown) → getD items 0 0 ≡ 4 → TakesAny t t₁ n cells (nameAt items 7) q → q ≡ Names a b
+      → TakesAny t₁ t₂ a b (nameAt items 14) r → TakesItem items t t₂ n cells r
   unfolding subscriptsValue
   takes-both t₁ t₂ a b q r k h e g = takes-place t₂ r k (g .within) both
     where
-      first : TakesAny t t₁ n cells (getD items 4 0) (Names a b)
-      first = subst (λ (x : Grown). TakesAny t t₁ n cells (getD items 4 0) x) e h
+      first : TakesAny t t₁ n cells (nameAt items 7) (Names a b)
+      first = subst (λ (x : Grown). TakesAny t t₁ n cells (nameAt items 7) x) e h
 
       both : Subscribed t₂ r
       both held (one x) l e₁ e₂ told = g .none (appear held (subscriptNames x)) (subscript-takes x held first e₁ told l) e₂

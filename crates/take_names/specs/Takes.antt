@@ -6,22 +6,23 @@ use mathlib.Core.List.{List, [], _∷_, _++_}
 use Rattle.rules_text.specs.Trees.{Name}
 use Rattle.rules_deck.specs.Translation.{Held, appear}
 use Rattle.rules_shared.specs.Lists.{Each}
-use Rattle.read_tokens.specs.Words.{nameWord}
+use Rattle.read_tokens.specs.Words.{nameOf, noName}
+use Rattle.read_tokens.specs.declared.Name as code
 use Rattle.take_draft.specs.Parts.{Item, itemWords, itemsWords, itemNames, itemsNames, itemPlain, itemsPlain}
 use Rattle.take_draft.specs.Names.{Lists, Told}
 use Rattle.take_name_table.specs.declared.Grown.{Grown}
 use Rattle.take_name_table.specs.Appears.{Appeared, Within}
 
 -- a plain name has its cell
-pub record TakesName (before after : List ℕ) (n cells word : ℕ) (r : Grown) : Type 0 where
+pub record TakesName (before after : List ℕ) (n cells : ℕ) (name : code.Name) (r : Grown) : Type 0 where
   pub within : Within r
-  pub is : (held : List Held) (v : Name) → Lists held before n cells → word ≡ nameWord v → Told v → Appeared (appear held (v ∷ [])) after r
+  pub is : (held : List Held) (v : Name) → Lists held before n cells → name ≡ nameOf v → Told v → Appeared (appear held (v ∷ [])) after r
 
 -- so has the name of a subscript, if it has one
-pub record TakesAny (before after : List ℕ) (n cells word : ℕ) (r : Grown) : Type 0 where
+pub record TakesAny (before after : List ℕ) (n cells : ℕ) (name : code.Name) (r : Grown) : Type 0 where
   pub within : Within r
-  pub is : (held : List Held) (v : Name) → Lists held before n cells → word ≡ nameWord v → Told v → Appeared (appear held (v ∷ [])) after r
-  pub none : (held : List Held) → Lists held before n cells → word ≡ 0 → Appeared held after r
+  pub is : (held : List Held) (v : Name) → Lists held before n cells → name ≡ nameOf v → Told v → Appeared (appear held (v ∷ [])) after r
+  pub none : (held : List Held) → Lists held before n cells → name ≡ noName → Appeared held after r
 
 -- the plain names of the operand that some words start with
 pub record TakesItem (items before after : List ℕ) (n cells : ℕ) (r : Grown) : Type 0 where

@@ -6,10 +6,13 @@ ghost use Rattle.take_draft.specs.Parts.{Worded};
 ghost use Rattle.take_names.specs.Takes.{TakesName, TakesAny, TakesItem, Appears};
 use limits::CELLS;
 use limits::NAMES;
+use read_tokens::Name;
+use take_name_table::FIRST_AT;
 use take_name_table::Grown;
+use take_name_table::SECOND_AT;
 
-fn take_name(table: &mut [u64], n: usize, cells: usize, name: u64) -> Grown
-    requires { ⌜ (length (now table) ≡ 400) × ((n ≤ 100) × (cells ≤ 4096)) ⌝ }
+fn take_name(table: &mut [u64], n: usize, cells: usize, name: Name) -> Grown
+    requires { ⌜ (length (now table) ≡ 700) × ((n ≤ 100) × (cells ≤ 4096)) ⌝ }
     ensures { λ r. ⌜ TakesName (now (table .entry)) (now (table .exit)) n cells name r ⌝ }
 {
     if take_name_table::holds(table, n, name, false) {
@@ -28,36 +31,37 @@ fn take_name(table: &mut [u64], n: usize, cells: usize, name: u64) -> Grown
     }
 }
 
-fn take_any(table: &mut [u64], n: usize, cells: usize, name: u64) -> Grown
-    requires { ⌜ (length (now table) ≡ 400) × ((n ≤ 100) × (cells ≤ 4096)) ⌝ }
+fn take_any(table: &mut [u64], n: usize, cells: usize, name: Name) -> Grown
+    requires { ⌜ (length (now table) ≡ 700) × ((n ≤ 100) × (cells ≤ 4096)) ⌝ }
     ensures { λ r. ⌜ TakesAny (now (table .entry)) (now (table .exit)) n cells name r ⌝ }
 {
-    if name == 0 {
+    if !read_tokens::is_name(name) {
         return Grown::Names { names: n, cells };
     }
     take_name(table, n, cells, name)
 }
 
 fn take_item(items: &[u64], table: &mut [u64], n: usize, cells: usize) -> Grown
-    requires { ⌜ (Worded (now items) × (0 < length (now items))) × ((length (now table) ≡ 400) × ((n ≤ 100) × (cells ≤ 4096))) ⌝ }
+    requires { ⌜ (Worded (now items) × (0 < length (now items))) × ((length (now table) ≡ 700) × ((n ≤ 100) × (cells ≤ 4096))) ⌝ }
     ensures { λ r. ⌜ TakesItem (now (items .entry)) (now (table .entry)) (now (table .exit)) n cells r ⌝ }
 {
     let kind = items[0];
     if kind == 2 {
-        return take_name(table, n, cells, items[1]);
+        return take_name(table, n, cells, read_tokens::name_at(items, 1));
     }
     if kind != 4 {
         return Grown::Names { names: n, cells };
     }
-    let Grown::Names { names: a, cells: b } = take_any(table, n, cells, items[4]) else {
+    let first = read_tokens::name_at(items, FIRST_AT + 1);
+    let Grown::Names { names: a, cells: b } = take_any(table, n, cells, first) else {
         return Grown::Full;
     };
-    take_any(table, a, b, items[8])
+    take_any(table, a, b, read_tokens::name_at(items, SECOND_AT + 1))
 }
 
 // The plain names of some operands, subscripts' too, each taking a cell where it first appears.
 pub fn appear(items: &[u64], table: &mut [u64], n: usize, cells: usize) -> Grown
-    requires { ⌜ Worded (now items) × ((length (now table) ≡ 400) × ((n ≤ 100) × (cells ≤ 4096))) ⌝ }
+    requires { ⌜ Worded (now items) × ((length (now table) ≡ 700) × ((n ≤ 100) × (cells ≤ 4096))) ⌝ }
     ensures { λ r. ⌜ Appears (now (items .entry)) (now (table .entry)) (now (table .exit)) n cells r ⌝ }
 {
     let mut at = 0;

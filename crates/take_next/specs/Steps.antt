@@ -30,7 +30,7 @@ pub record Ahead (k : ℕ) (deck : List ℕ) (card : ℕ) (items : List ℕ) (le
   pub accepted : Accepted deck
   pub digits-some : 1 ≤ k
   pub digits-few : k ≤ 9
-  pub items-long : 2651 ≤ length items
+  pub items-long : 3320 ≤ length items
   pub room : Room lent
   pub fit : Fit n
   pub few : n .statements + length (toCome deck card) ≤ 400

@@ -10,6 +10,8 @@ use Rattle.number.specs.Number.{add, sub, mul, div}
 use Rattle.rules_object.specs.Operations.{LDE, OP, NEG}
 use Rattle.rules_shared.proofs.EachLaws.{each-head}
 use Rattle.rules_deck.specs.Translation.{elementEntry}
+use Rattle.read_tokens.specs.declared.Name as code
+use Rattle.read_tokens.specs.Words.{nameAt}
 use Rattle.read_elements.specs.declared.Subscript.{Subscript}
 use Rattle.read_elements.specs.declared.Element.{Element}
 use Rattle.take_draft.specs.declared.Counts.{Counts}
@@ -20,7 +22,7 @@ use Rattle.take_name_table.specs.Find.{itemLength}
 use Rattle.take_name_table.proofs.Fronts.{front, front-long}
 use Rattle.take_instructions.specs.declared.Emitted.{Emitted}
 use Rattle.take_instructions.specs.Emits.{Appends}
-use Rattle.take_operands.specs.Operands.{ElementAt, EmitsConstant, EmitsRefer, EmitsLoad, EmitsItem}
+use Rattle.take_operands.specs.Operands.{subscriptAt, ElementAt, EmitsConstant, EmitsRefer, EmitsLoad, EmitsItem}
 use Rattle.take_instructions.proofs.One.{itself, one}
 
 -- ---- its words are there
@@ -47,24 +49,20 @@ kind-low {items} {x} w h e =
 
 -- ---- an element
 
-pub element-is : {items : List ℕ} {a b : Subscript}
-    → a ≡ record { times = getD items 3 0; name = getD items (3 + 1) 0; minus = getD items (3 + 2) 0; addend = getD items (3 + 3) 0 }
-    → b ≡ record { times = getD items 7 0; name = getD items (7 + 1) 0; minus = getD items (7 + 2) 0; addend = getD items (7 + 3) 0 }
-    → ElementAt items (record { name = getD items 1 0; subscripts = record { count = getD items 2 0; first = a; second = b } })
-element-is {items} {a} {b} p q v s more e =
-    let made : (x y : Subscript) → Element = λ x y. record { name = getD items 1 0; subscripts = record { count = getD items 2 0; first = x; second = y } } in
+pub subscript-is : (items : List ℕ) (at : ℕ) {name : code.Name} → name ≡ nameAt items (at + 1)
+    → _≡_ {A = Subscript} (record { times = getD items at 0; name = name; minus = getD items (at + 5) 0; addend = getD items (at + 6) 0 }) (subscriptAt items at)
+subscript-is items at e = ap (λ (n : code.Name). record { times = getD items at 0; name = n; minus = getD items (at + 5) 0; addend = getD items (at + 6) 0 }) e
+
+pub load-as : {names ws ws′ : List ℕ} {n : Counts} {r : Emitted} {x y : code.Name} → x ≡ y → EmitsLoad x names ws ws′ n r → EmitsLoad y names ws ws′ n r
+load-as {names} {ws} {ws′} {n} {r} {x} {y} e h = subst (λ (w : code.Name). EmitsLoad w names ws ws′ n r) e h
+
+pub element-is : {items : List ℕ} {name : code.Name} {a b : Subscript} → name ≡ nameAt items 1 → a ≡ subscriptAt items 6 → b ≡ subscriptAt items 13
+    → ElementAt items (record { name = name; subscripts = record { count = getD items 5 0; first = a; second = b } })
+element-is {items} {name} {a} {b} n p q v s more e =
+    let made : (w : code.Name) (x y : Subscript) → Element = λ w x y. record { name = w; subscripts = record { count = getD items 5 0; first = x; second = y } } in
     let read : List ℕ → Element =
-    λ l.
-    record {
-      name = getD l 1 0;
-      subscripts =
-          record {
-            count = getD l 2 0;
-            first = record { times = getD l 3 0; name = getD l 4 0; minus = getD l 5 0; addend = getD l 6 0 };
-            second = record { times = getD l 7 0; name = getD l 8 0; minus = getD l 9 0; addend = getD l 10 0 };
-          };
-    } in
-    ap (λ (x : Subscript). made x b) p ∙ ap (λ (y : Subscript). made (record { times = getD items 3 0; name = getD items (3 + 1) 0; minus = getD items (3 + 2) 0; addend = getD items (3 + 3) 0 }) y) q ∙ ap read e
+    λ l. record { name = nameAt l 1; subscripts = record { count = getD l 5 0; first = subscriptAt l 6; second = subscriptAt l 13 } } in
+    ap (λ (w : code.Name). made w a b) n ∙ ap (λ (x : Subscript). made (nameAt items 1) x b) p ∙ ap (λ (y : Subscript). made (nameAt items 1) (subscriptAt items 6) y) q ∙ ap read e
 
 -- ---- which instruction it is
 
@@ -82,9 +80,9 @@ module _ {items names constants elements ws ws′ : List ℕ} {n : Counts} {r : 
   item-constant z f held (apply mul) more T l t e k = absurd (let q : getD items 0 0 ≡ 8 = ap (λ (x : List ℕ). getD x 0 0) e in omega (arith, q, z))
   item-constant z f held (apply div) more T l t e k = absurd (let q : getD items 0 0 ≡ 9 = ap (λ (x : List ℕ). getD x 0 0) e in omega (arith, q, z))
 
-  pub item-name : getD items 0 0 ≡ 2 → EmitsLoad (getD items 1 0) names ws ws′ n r → EmitsItem items names constants elements ws constants elements ws′ n r
+  pub item-name : getD items 0 0 ≡ 2 → EmitsLoad (nameAt items 1) names ws ws′ n r → EmitsItem items names constants elements ws constants elements ws′ n r
   item-name z f held (value c) more T l t e k = absurd (let q : getD items 0 0 ≡ 1 = ap (λ (x : List ℕ). getD x 0 0) e in omega (arith, q, z))
-  item-name z f held (plain v) more T l t e k = f held v T constants elements l t (ap (λ (x : List ℕ). getD x 1 0) e) (each-head (k .told)) (each-head (k .plains))
+  item-name z f held (plain v) more T l t e k = f held v T constants elements l t (ap (λ (x : List ℕ). nameAt x 1) e) (each-head (k .told)) (each-head (k .plains))
   item-name z f held (place v s) more T l t e k = absurd (let q : getD items 0 0 ≡ 4 = ap (λ (x : List ℕ). getD x 0 0) e in omega (arith, q, z))
   item-name z f held negate more T l t e k = absurd (let q : getD items 0 0 ≡ 10 = ap (λ (x : List ℕ). getD x 0 0) e in omega (arith, q, z))
   item-name z f held (apply add) more T l t e k = absurd (let q : getD items 0 0 ≡ 6 = ap (λ (x : List ℕ). getD x 0 0) e in omega (arith, q, z))

@@ -11,7 +11,8 @@ use Rattle.rules_object.specs.Bytes.{concat, elementWords}
 use Rattle.rules_shared.proofs.EachLaws.{each-head, each-both}
 use Rattle.rules_text.specs.Trees.{Digits, valueOf}
 use Rattle.rules_deck.specs.Translation.{Held, cellOf, elementEntry, Tables, pool, poolAt, tablesAfter}
-use Rattle.read_tokens.specs.Words.{capped, nameWord}
+use Rattle.read_tokens.specs.Words.{capped, nameOf}
+use Rattle.read_tokens.specs.declared.Name as code
 use Rattle.read_elements.specs.declared.Element.{Element}
 use Rattle.read_elements.specs.declared.Target.{Target}
 use Rattle.read_elements.specs.Values.{subscriptsValue, targetValue}
@@ -39,7 +40,7 @@ use Rattle.take_instructions.specs.declared.Emitted.the-variants as emitted
 -- ---- plain names
 
 module _ {ws ws′ : List ℕ} {n : Counts} {r : Emitted} (f : Fit n) where
-  pub loaded : {names : List ℕ} {word x : ℕ} → CellOf names (n .names) word x → Appends ws ws′ n 2 x r → Grows 0 n r × EmitsLoad word names ws ws′ n r
+  pub loaded : {names : List ℕ} {word : code.Name} {x : ℕ} → CellOf names (n .names) word x → Appends ws ws′ n 2 x r → Grows 0 n r × EmitsLoad word names ws ws′ n r
   loaded {names} {word} {x} g a = (
     grows (itself n) f a,
     λ held v T c e l t q told h. one (itself n) f a T (LOD (cellOf held v)) t refl (g .is held (n .cells) v l told q h) (omega (arith, g .low)),
@@ -175,13 +176,13 @@ known-rest {held} {i} k =
     }
 
 module _ {n : Counts} {names ws ws′ a : List ℕ} {x : Target} {r : Emitted} where
-  pub stored-cell : {word y : ℕ} → Fit n → x ≡ target.Cell word → CellOf names (n .names) word y → Appends ws ws′ n 3 y r → Grows 0 n r × EmitsStore x names a ws a ws′ n r
+  pub stored-cell : {word : code.Name} {y : ℕ} → Fit n → x ≡ target.Cell word → CellOf names (n .names) word y → Appends ws ws′ n 3 y r → Grows 0 n r × EmitsStore x names a ws a ws′ n r
   unfolding targetValue
   stored-cell {word} {y} f z g p = (grows (itself n) f p, emits)
     where
       emits : EmitsStore x names a ws a ws′ n r
       emits held (trees.cell v) T c l t q k =
-          let same : word ≡ nameWord v = cc in
+          let same : word ≡ nameOf v = cc in
           one (itself n) f p T (STO (cellOf held v)) t refl (g .is held (n .cells) v l (each-head (k .told)) same (each-head (k .plains))) (omega (arith, g .low))
       emits held (trees.element v s) T c l t q k = let no : _≡_ {A = ℕ} 0 1 = cc in absurd (omega arith)
 
@@ -192,5 +193,5 @@ module _ {n : Counts} {names ws ws′ a : List ℕ} {x : Target} {r : Emitted} w
       emits : EmitsStore x names a ws b ws′ n r
       emits held (trees.cell v) T c l t q k = let no : _≡_ {A = ℕ} 0 1 = cc in absurd (omega arith)
       emits held (trees.element v s) T c l t q k =
-          let same : e ≡ record { name = nameWord v; subscripts = subscriptsValue s } = cc in
+          let same : e ≡ record { name = nameOf v; subscripts = subscriptsValue s } = cc in
           g .1 held v s T c (STE (elementEntry held (dimsHeld held) v s)) l t same (known-first k) (record { number = refl; index = refl; adds = refl })

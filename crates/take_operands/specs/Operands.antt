@@ -1,16 +1,18 @@
 -- The instructions of operands, for whatever the lent tables hold.
 -- Assumes nothing.
 use mathlib.Core.Path.{_≡_}
-use Prim.Native.Nat.{ℕ}
+use Prim.Native.Nat.{ℕ, _+_}
 use mathlib.Core.Bool.{true}
 use mathlib.Core.List.{List, [], _∷_, _++_}
-use lib.ListN.{length}
+use lib.ListN.{length, getD}
 use Rattle.rules_object.specs.Object as object
 use Rattle.rules_object.specs.Operations.{operationNumber, Instr, CON, LOD}
 use Rattle.rules_text.specs.Trees.{Name, Digits, valueOf}
 use Rattle.rules_text.specs.Trees as trees
 use Rattle.rules_deck.specs.Translation.{Held, isName, holds, cellOf, elementEntry, storeCode, Tables, addElement, tablesAfter, operand}
-use Rattle.read_tokens.specs.Words.{capped, nameWord}
+use Rattle.read_tokens.specs.Words.{capped, nameOf, nameAt}
+use Rattle.read_tokens.specs.declared.Name as code
+use Rattle.read_elements.specs.declared.Subscript.{Subscript}
 use Rattle.read_elements.specs.declared.Element.{Element}
 use Rattle.read_elements.specs.declared.Target.{Target}
 use Rattle.read_elements.specs.Values.{subscriptsValue, targetValue}
@@ -49,12 +51,16 @@ pub record Refers (T : Tables) (e : object.Element) (operation : ℕ) (i : Instr
 abbrev pub EmitsRefer : ℕ → Element → List ℕ → List ℕ → List ℕ → List ℕ → List ℕ → Counts → Emitted → Type 0
 EmitsRefer operation element names elements words elements′ words′ n r =
     (held : List Held) (v : Name) (s : trees.Subscripts) (T : Tables) (constants : List ℕ) (i : Instr) → Lists held names (n .names) (n .cells) → Tabled T constants elements n
-    → element ≡ record { name = nameWord v; subscripts = subscriptsValue s } → KnownItem held (place v s) → Refers T (elementEntry held (dimsHeld held) v s) operation i
+    → element ≡ record { name = nameOf v; subscripts = subscriptsValue s } → KnownItem held (place v s) → Refers T (elementEntry held (dimsHeld held) v s) operation i
     → Emits T (i ∷ []) words constants elements′ words′ n r
+
+-- a subscript whose words stand at a place
+abbrev pub subscriptAt : List ℕ → ℕ → Subscript
+subscriptAt items at = record { times = getD items at 0; name = nameAt items (at + 1); minus = getD items (at + 5) 0; addend = getD items (at + 6) 0 }
 
 -- an element as its words have it
 abbrev pub ElementAt : List ℕ → Element → Type 0
-ElementAt items r = (v : Name) (s : trees.Subscripts) (more : List ℕ) → items ≡ itemWords (place v s) ++ more → r ≡ record { name = nameWord v; subscripts = subscriptsValue s }
+ElementAt items r = (v : Name) (s : trees.Subscripts) (more : List ℕ) → items ≡ itemWords (place v s) ++ more → r ≡ record { name = nameOf v; subscripts = subscriptsValue s }
 
 -- the item that the words start with
 abbrev pub EmitsItem : List ℕ → List ℕ → List ℕ → List ℕ → List ℕ → List ℕ → List ℕ → List ℕ → Counts → Emitted → Type 0
@@ -63,7 +69,7 @@ EmitsItem items names constants elements words constants′ elements′ words′
     → KnownItem held i → Emits T (itemCode held (dimsHeld held) i ∷ []) words constants′ elements′ words′ n r
 
 -- LOD of a plain name
-abbrev pub EmitsLoad : ℕ → List ℕ → List ℕ → List ℕ → Counts → Emitted → Type 0
-EmitsLoad word names words words′ n r =
+abbrev pub EmitsLoad : code.Name → List ℕ → List ℕ → List ℕ → Counts → Emitted → Type 0
+EmitsLoad name names words words′ n r =
     (held : List Held) (v : Name) (T : Tables) (constants elements : List ℕ) → Lists held names (n .names) (n .cells) → Tabled T constants elements n
-    → word ≡ nameWord v → Told v → holds (isName v) held ≡ true → Emits T (LOD (cellOf held v) ∷ []) words constants elements words′ n r
+    → name ≡ nameOf v → Told v → holds (isName v) held ≡ true → Emits T (LOD (cellOf held v) ∷ []) words constants elements words′ n r

@@ -1,20 +1,29 @@
 // The instructions of operands, put at the end of a draft's code: those of an expression's items, and of a target.
 ghost use mathlib.Core.Path.{_≡_};
 ghost use Prim.Native.Nat.{_+_, _<_, _≤_};
-ghost use lib.ListN.{length, getD};
+ghost use lib.ListN.{length};
 ghost use Rattle.take_draft.specs.Parts.{Worded};
 ghost use Rattle.take_draft.specs.Kept.{Fit};
 ghost use Rattle.take_instructions.specs.Emits.{Grows};
 ghost use Rattle.take_instructions.specs.Contracts.{Lent};
-ghost use Rattle.take_operands.specs.Operands.{ElementAt, EmitsConstant, EmitsRefer, EmitsItem, EmitsItems, EmitsStore, EmitsLoad};
+ghost use Rattle.take_operands.specs.Operands.{subscriptAt, ElementAt, EmitsConstant, EmitsRefer, EmitsItem, EmitsItems, EmitsStore, EmitsLoad};
 use limits::ELEMENTS;
 use read_elements::Element;
 use read_elements::Subscript;
 use read_elements::Subscripts;
 use read_elements::Target;
+use read_tokens::Name;
+use read_tokens::NAME_WORDS;
 use take_draft::Counts;
 use take_entries::Pooled;
 use take_instructions::Emitted;
+use take_name_table::COUNT_AT;
+use take_name_table::FIRST_AT;
+use take_name_table::SECOND_AT;
+
+// Where a subscript has its addend's sign and value.
+const MINUS: usize = NAME_WORDS + 1;
+const ADDEND: usize = NAME_WORDS + 2;
 
 fn constant(value: u64, constants: &mut [u32], code: &mut [u32], n: Counts) -> Emitted
     requires { ⌜ (length (now constants) ≡ 256) × ((length (now code) ≡ 4096) × Fit n) ⌝ }
@@ -30,8 +39,8 @@ fn constant(value: u64, constants: &mut [u32], code: &mut [u32], n: Counts) -> E
 }
 
 // A plain name's cell.
-pub fn load(name: u64, names: &[u64], code: &mut [u32], n: Counts) -> Emitted
-    requires { ⌜ (length (now names) ≡ 400) × ((length (now code) ≡ 4096) × Fit n) ⌝ }
+pub fn load(name: Name, names: &[u64], code: &mut [u32], n: Counts) -> Emitted
+    requires { ⌜ (length (now names) ≡ 700) × ((length (now code) ≡ 4096) × Fit n) ⌝ }
     ensures { λ r. ⌜ Grows 0 n r × EmitsLoad name (now (names .entry)) (now (code .entry)) (now (code .exit)) n r ⌝ }
 {
     let cell = take_name_table::cell_of(names, n.names, name);
@@ -47,7 +56,7 @@ fn refer(
     code: &mut [u32],
     n: Counts,
 ) -> Emitted
-    requires { ⌜ (operation < 256) × ((length (now names) ≡ 400) × ((length (now elements) ≡ 2304) × ((length (now code) ≡ 4096) × Fit n))) ⌝ }
+    requires { ⌜ (operation < 256) × ((length (now names) ≡ 700) × ((length (now elements) ≡ 2304) × ((length (now code) ≡ 4096) × Fit n))) ⌝ }
     ensures { λ r. ⌜ Grows 0 n r × EmitsRefer operation element (now (names .entry)) (now (elements .entry)) (now (code .entry)) (now (elements .exit)) (now (code .exit)) n r ⌝ }
 {
     let at = n.elements;
@@ -61,30 +70,30 @@ fn refer(
 }
 
 fn subscript_at(items: &[u64], at: usize) -> Subscript
-    requires { ⌜ at + 4 ≤ length (now items) ⌝ }
-    ensures { λ r. ⌜ r ≡ record { times = getD (now (items .entry)) at 0; name = getD (now (items .entry)) (at + 1) 0; minus = getD (now (items .entry)) (at + 2) 0; addend = getD (now (items .entry)) (at + 3) 0 } ⌝ }
+    requires { ⌜ at + 7 ≤ length (now items) ⌝ }
+    ensures { λ r. ⌜ r ≡ subscriptAt (now (items .entry)) at ⌝ }
 {
     Subscript {
         times: items[at],
-        name: items[at + 1],
-        minus: items[at + 2],
-        addend: items[at + 3],
+        name: read_tokens::name_at(items, at + 1),
+        minus: items[at + MINUS],
+        addend: items[at + ADDEND],
     }
 }
 
 fn element_at(items: &[u64]) -> Element
-    requires { ⌜ 11 ≤ length (now items) ⌝ }
+    requires { ⌜ 20 ≤ length (now items) ⌝ }
     ensures { λ r. ⌜ ElementAt (now (items .entry)) r ⌝ }
 {
-    let first = subscript_at(items, 3);
-    let second = subscript_at(items, 7);
+    let first = subscript_at(items, FIRST_AT);
+    let second = subscript_at(items, SECOND_AT);
     let subscripts = Subscripts {
-        count: items[2],
+        count: items[COUNT_AT],
         first,
         second,
     };
     Element {
-        name: items[1],
+        name: read_tokens::name_at(items, 1),
         subscripts,
     }
 }
@@ -106,7 +115,7 @@ fn item(
         return constant(items[1], constants, code, n);
     }
     if kind == 2 {
-        return load(items[1], names, code, n);
+        return load(read_tokens::name_at(items, 1), names, code, n);
     }
     if kind == 4 {
         let element = element_at(items);
@@ -147,7 +156,7 @@ pub fn store(
     code: &mut [u32],
     n: Counts,
 ) -> Emitted
-    requires { ⌜ (length (now names) ≡ 400) × ((length (now elements) ≡ 2304) × ((length (now code) ≡ 4096) × Fit n)) ⌝ }
+    requires { ⌜ (length (now names) ≡ 700) × ((length (now elements) ≡ 2304) × ((length (now code) ≡ 4096) × Fit n)) ⌝ }
     ensures { λ r. ⌜ Grows 0 n r × EmitsStore target (now (names .entry)) (now (elements .entry)) (now (code .entry)) (now (elements .exit)) (now (code .exit)) n r ⌝ }
 {
     match target {

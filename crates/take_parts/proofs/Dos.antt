@@ -13,7 +13,8 @@ use Rattle.rules_object.specs.Bytes as object
 use Rattle.rules_shared.proofs.EachLaws.{each-head}
 use Rattle.rules_text.specs.Trees.{Name, Digits, Expr, Form, assign, goTo, computed, ifs, loop, continue, stop, end, dimension}
 use Rattle.rules_deck.specs.Translation.{Held, hidden, cellCount, isName, isHidden, holds, cellOf, limitOf, appear, formPlain, brings}
-use Rattle.read_tokens.specs.Words.{nameWord}
+use Rattle.read_tokens.specs.Words.{nameOf}
+use Rattle.read_tokens.specs.declared.Name as code
 use Rattle.read_items.specs.Parsed.{Put}
 use Rattle.take_draft.specs.declared.Counts.{Counts}
 use Rattle.take_draft.specs.Counts.{withDo}
@@ -27,7 +28,7 @@ use Rattle.take_instructions.specs.declared.Emitted.the-variants as emitted
 use Rattle.take_plans.specs.declared.Plan.{Plan}
 use Rattle.take_plans.specs.Plans.{formPlan}
 use Rattle.take_plans.proofs.ByKind.{at-do}
-use Rattle.take_marks.specs.Marks.{cellWord}
+use Rattle.take_marks.specs.Marks.{cellName}
 use Rattle.take_code.specs.Endings.{doesOf}
 use Rattle.take_code.proofs.Ends.{does-do, of-kind}
 use Rattle.take_parts.specs.Steps.{Counted, Entered, Enters}
@@ -114,16 +115,16 @@ enters-full f held e l k h =
 
 -- ---- a DO
 
-variable-word : {p : Plan} (n : Digits) (v : Name) (a b : Expr) (c : _) → p ≡ formPlan (loop n v a b c) → cellWord (p .target) ≡ nameWord v
-unfolding formPlan cellWord
-variable-word n v a b c e = ap (λ (y : Plan). cellWord (y .target)) e
+variable-word : {p : Plan} (n : Digits) (v : Name) (a b : Expr) (c : _) → p ≡ formPlan (loop n v a b c) → cellName (p .target) ≡ nameOf v
+unfolding formPlan cellName
+variable-word n v a b c e = ap (λ (y : Plan). cellName (y .target)) e
 
 abbrev EntersAs : Plan → List ℕ → List ℕ → List ℕ → List ℕ → List ℕ → Counts → Counts → List Held → Form → Type 0
 EntersAs p names dos loops dos′ loops′ m k held f =
     p ≡ formPlan f → Lists (brings (m .statements) f held) names (m .names) (m .cells) → Known (brings (m .statements) f held) (formFirst f)
     → Entered (m .statements) f held dos loops dos′ loops′ m (emitted.Counts k)
 
-pub enters-one : {p : Plan} {names dos loops dos′ loops′ : List ℕ} {m k : Counts} {word variable a b : ℕ} → p .kind ≡ 4 → word ≡ cellWord (p .target) → CellOf names (m .names) word variable
+pub enters-one : {p : Plan} {names dos loops dos′ loops′ : List ℕ} {m k : Counts} {word : code.Name} {variable a b : ℕ} → p .kind ≡ 4 → word ≡ cellName (p .target) → CellOf names (m .names) word variable
     → Put dos dos′ (4 * m .dos) (variable ∷ (m .cells - 2) ∷ (m .cells - 2 + 1) ∷ 0 ∷ []) a → Put loops loops′ (2 * m .dos) (m .statements ∷ m .jumps ∷ []) b → k ≡ withDo m
     → Enters p names dos loops dos′ loops′ m (emitted.Counts k)
 enters-one {p} {names} {dos} {loops} {dos′} {loops′} {m} {k} {word} {variable} {a} {b} z w c u x y f held e l g h =

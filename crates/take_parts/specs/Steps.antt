@@ -64,7 +64,7 @@ Fills p first items names constants elements words names′ constants′ element
 -- ---- a DO's entries
 
 pub record Entering (p : Plan) (names dos loops : List ℕ) (m : Counts) : Type 0 where
-  pub names-long : length names ≡ 400
+  pub names-long : length names ≡ 700
   pub dos-long : length dos ≡ 256
   pub loops-long : length loops ≡ 128
   pub fit : Fit m

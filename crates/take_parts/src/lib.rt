@@ -54,7 +54,7 @@ pub fn enter_do(p: Plan, names: &[u64], dos: &mut [u32], loops: &mut [u32], m: C
         return Emitted::Full;
     }
     let target = p.target;
-    let name = take_marks::cell_word(target);
+    let name = take_marks::cell_name(target);
     let variable = take_name_table::cell_of(names, m.names, name);
     let limit = (m.cells - 2) as u32;
     take_marks::put_do(dos, m.dos, variable, limit);

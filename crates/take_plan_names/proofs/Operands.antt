@@ -41,7 +41,7 @@ pub kind-of : {f : Form} {items : List ℕ} {p : Plan} → Plans f items p → k
 kind-of {f} h = sym (ap (λ (x : Plan). x .kind) (h .plan) ∙ plan-kind f)
 
 abbrev pub ArraysIn : List ℕ → Plan → Form → Type 0
-ArraysIn items p f = Plans f items p → take (4 * p .listed) items ≡ listedWords f
+ArraysIn items p f = Plans f items p → take (7 * p .listed) items ≡ listedWords f
 
 pub arrays-in : (items : List ℕ) (p : Plan) (f : Form) → kindOf f ≡ 8 → ArraysIn items p f
 unfolding formPlan listedWords
@@ -49,11 +49,11 @@ arrays-in items p =
     at-dimension (ArraysIn items p)
     (λ arrays h.
     let n : p .listed ≡ length arrays = ap (λ (x : Plan). x .listed) (h .plan) in
-    let m : 4 * p .listed ≡ length (allWords arrays) = omega (arith, words-length arrays) in
+    let m : 7 * p .listed ≡ length (allWords arrays) = omega (arith, words-length arrays) in
     ap (λ (k : ℕ). take k items) m ∙ h .listed)
 
 abbrev ArraysRoom : List ℕ → Plan → Form → Type 0
-ArraysRoom items p f = Plans f items p → 4 * p .listed ≤ length items
+ArraysRoom items p f = Plans f items p → 7 * p .listed ≤ length items
 
 room-in : (items : List ℕ) (p : Plan) (f : Form) → kindOf f ≡ 8 → ArraysRoom items p f
 unfolding formPlan listedWords
@@ -64,7 +64,7 @@ room-in items p =
     omega (arith, words-length arrays, length-take (length (allWords arrays)) items, ap length (h .listed)))
 
 -- a DIMENSION's words are within the table
-pub arrays-room : {p : Plan} {first items : List ℕ} → Readied p first items → p .kind ≡ 8 → 4 * p .listed ≤ length items
+pub arrays-room : {p : Plan} {first items : List ℕ} → Readied p first items → p .kind ≡ 8 → 7 * p .listed ≤ length items
 arrays-room {p} {first} {items} h z = room-in items p (h .form) (kind-of (h .plans) ∙ z) (h .plans)
 
 pub part-long : (items : List ℕ) (m : ℕ) → m ≤ length items → m ≡ length (take (m - 0) (drop 0 items))
@@ -102,10 +102,10 @@ form-15 : (digits : ℕ) (held : List Held) (words : List ℕ) (r : Bool) (f : F
 unfolding right15 listedWords formNames
 form-15 digits held words r = at-dimension (Arrays15 digits held words r) (λ arrays g e t. g arrays e t)
 
-pub some-arrays : {p : Plan} {items table : List ℕ} {n : ℕ} {r : Bool} → p .kind ≡ 8 → Dimensions (take (4 * p .listed - 0) (drop 0 items)) table n r → RightArrays p items table n r
+pub some-arrays : {p : Plan} {items table : List ℕ} {n : ℕ} {r : Bool} → p .kind ≡ 8 → Dimensions (take (7 * p .listed - 0) (drop 0 items)) table n r → RightArrays p items table n r
 some-arrays {p} {items} {table} {n} {r} z d digits f held cells h l t =
     let k : kindOf f ≡ 8 = kind-of h ∙ z in
-    form-15 digits held (take (4 * p .listed - 0) (drop 0 items)) r f k (λ arrays e u. d held cells arrays l e u) (front-part items (4 * p .listed) ∙ arrays-in items p f k h) t
+    form-15 digits held (take (7 * p .listed - 0) (drop 0 items)) r f k (λ arrays e u. d held cells arrays l e u) (front-part items (7 * p .listed) ∙ arrays-in items p f k h) t
 
 -- ---- 16
 

@@ -85,13 +85,13 @@ module _ {p : Plan} {first items a b : List ℕ} {n cells : ℕ} {r : Grown} (h 
           is = λ digits f held q s u l t z. at-do (AsDo b held q v) (λ m i j o w′ g. g) f (kind-of s ∙ k) (w .is (appear held (formPlain f)) b q (listed f held s u l t));
         }
 
-    pub then-arrays : {c : List ℕ} {v : Grown} → p .kind ≡ 8 → Declares (take (4 * p .listed - 0) (drop 0 items)) b c x y v → TakesCells p first items a c n cells v
+    pub then-arrays : {c : List ℕ} {v : Grown} → p .kind ≡ 8 → Declares (take (7 * p .listed - 0) (drop 0 items)) b c x y v → TakesCells p first items a c n cells v
     then-arrays {c} {v} k d =
         record {
           within = d .within;
           is = λ digits f held q s u l t z.
-              as-arrays digits b x y held (take (4 * p .listed - 0) (drop 0 items)) v q c f (kind-of s ∙ k) (λ arrays. d .is held arrays) (listed f held s u l t)
-              (front-part items (4 * p .listed) ∙ arrays-in items p f (kind-of s ∙ k) s) t z;
+              as-arrays digits b x y held (take (7 * p .listed - 0) (drop 0 items)) v q c f (kind-of s ∙ k) (λ arrays. d .is held arrays) (listed f held s u l t)
+              (front-part items (7 * p .listed) ∙ arrays-in items p f (kind-of s ∙ k) s) t z;
         }
 
     pub then-no-more : (p .kind ≡ 4 → ⊥) → (p .kind ≡ 8 → ⊥) → TakesCells p first items a b n cells (Names x y)

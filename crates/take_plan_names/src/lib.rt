@@ -4,6 +4,7 @@ ghost use mathlib.Core.Path.{_≡_};
 ghost use lib.ListN.{length};
 ghost use Rattle.take_plans.specs.Plans.{Readied};
 ghost use Rattle.take_plan_names.specs.Naming.{RightArrays, RightOperands, TakesCells};
+use take_arrays::ARRAY_WORDS;
 use take_kinds::DIMENSION;
 use take_kinds::DO;
 use take_name_table::Grown;
@@ -11,20 +12,20 @@ use take_plans::Plan;
 
 // 15
 pub fn right_arrays(p: Plan, first: &[u64], items: &[u64], table: &[u64], n: usize) -> bool
-    requires { ⌜ Readied p (now first) (now items) × (4 * n ≤ length (now table)) ⌝ }
+    requires { ⌜ Readied p (now first) (now items) × (7 * n ≤ length (now table)) ⌝ }
     ensures { λ r. ⌜ RightArrays p (now (items .entry)) (now (table .entry)) n r ⌝ }
 {
     if p.kind != DIMENSION {
         return true;
     }
     let m = p.listed;
-    let words = 4 * m;
+    let words = ARRAY_WORDS * m;
     take_arrays::arrays_right(&items[0..words], m, table, n)
 }
 
 // 16
 pub fn right_operands(p: Plan, first: &[u64], items: &[u64], table: &[u64], n: usize) -> bool
-    requires { ⌜ Readied p (now first) (now items) × (4 * n ≤ length (now table)) ⌝ }
+    requires { ⌜ Readied p (now first) (now items) × (7 * n ≤ length (now table)) ⌝ }
     ensures { λ r. ⌜ RightOperands p (now (first .entry)) (now (items .entry)) (now (table .entry)) n r ⌝ }
 {
     let count = p.count;
@@ -40,7 +41,7 @@ pub fn take_cells(
     n: usize,
     taken: usize,
 ) -> Grown
-    requires { ⌜ Readied p (now first) (now items) × ((length (now table) ≡ 400) × ((n ≤ 100) × (taken ≤ 4096))) ⌝ }
+    requires { ⌜ Readied p (now first) (now items) × ((length (now table) ≡ 700) × ((n ≤ 100) × (taken ≤ 4096))) ⌝ }
     ensures { λ r. ⌜ TakesCells p (now (first .entry)) (now (items .entry)) (now (table .entry)) (now (table .exit)) n taken r ⌝ }
 {
     let count = p.count;
@@ -58,7 +59,7 @@ pub fn take_cells(
     }
     if p.kind == DIMENSION {
         let m = p.listed;
-        let words = 4 * m;
+        let words = ARRAY_WORDS * m;
         return take_arrays::declare(&items[0..words], m, table, a, b);
     }
     Grown::Names { names: a, cells: b }

@@ -15,7 +15,7 @@ use Rattle.rules_deck.specs.Lawful.{Lawful}
 use Rattle.rules_deck.specs.Judge.{right13}
 use Rattle.rules_deck.specs.Whole.{formSets}
 use Rattle.rules_text.proofs.Readers.{both-true}
-use Rattle.read_tokens.specs.Words.{capped}
+use Rattle.read_tokens.specs.Words.{capped, nameOf}
 use Rattle.read_elements.specs.Values.{targetValue}
 use Rattle.take_draft.specs.declared.Counts.{Counts}
 use Rattle.take_draft.specs.Counts.{withDo}
@@ -26,7 +26,7 @@ use Rattle.take_instructions.specs.declared.Emitted.the-variants as emitted
 use Rattle.take_plans.specs.declared.Plan.{Plan}
 use Rattle.take_plans.specs.Plans.{formPlan, listedWords, Plans}
 use Rattle.take_plans.proofs.ByKind.{at-do}
-use Rattle.take_marks.specs.Marks.{numbersOf, Low, cellWord, setOf}
+use Rattle.take_marks.specs.Marks.{numbersOf, Low, cellName, setOf}
 use Rattle.take_code.proofs.Ends.{of-kind}
 use Rattle.take_parts.specs.Steps.{Counted}
 
@@ -99,13 +99,13 @@ after {p} {m} {l} {r} f e c s = go (eqb (p .kind) 4) refl
 
 -- ---- the plan's marks
 
-target-set : (t : Target) → cellWord (targetValue t) ≡ setWord (assign t (Rattle.rules_text.specs.Trees.Expr.con []))
-unfolding cellWord targetValue formSets
+target-set : (t : Target) → cellName (targetValue t) .0 ≡ setWord (assign t (Rattle.rules_text.specs.Trees.Expr.con []))
+unfolding cellName targetValue formSets nameOf
 target-set (cell v) = refl
 target-set (element v s) = refl
 
 pub set-word : (f : Form) → setOf (formPlan f) ≡ setWord f
-unfolding setOf formPlan cellWord formSets
+unfolding setOf formPlan cellName formSets nameOf
 set-word (assign t e) = target-set t
 set-word (goTo n) = refl
 set-word (computed ns v) = refl

@@ -99,7 +99,7 @@ two-cells q held names c cells =
 
 pub entering : {p : Plan} {dos loops items code : List ℕ} {names′ constants′ elements′ code′ : List ℕ} {n m : Counts} {r : Emitted} {f : Form} (D : Draft) → Plans f items p
     → Filled (n .statements) f (D .held) (D .tables) code names′ constants′ elements′ code′ n r → Onward p n r → r ≡ emitted.Counts m → Fit n
-    → length names′ ≡ 400 → length dos ≡ 256 → length loops ≡ 128 → n .statements < 400 → Entering p names′ dos loops m
+    → length names′ ≡ 700 → length dos ≡ 256 → length loops ≡ 128 → n .statements < 400 → Entering p names′ dos loops m
 entering {p} {names′ = names′} {n = n} {m} {r} {f} D pl w o e h a b c few =
     record {
       names-long = a;

@@ -2,13 +2,16 @@
 -- Assumes nothing.
 use mathlib.Core.Path.{_≡_, refl, sym, ap, _∙_, subst}
 use mathlib.Core.Bool.{Bool}
-use mathlib.Core.List.{List}
+use mathlib.Core.List.{List, [], _∷_}
 use Prim.Native.Nat.{ℕ, _≤_}
 use native.Mathlib.Omega.{arith}
+use native.Mathlib.Nat.{zero-add}
 use lib.Dec.{eqb}
 use lib.ListN.{length, take}
 use borrow.Author.Tests.{eq-eqb, ne-eqb}
 use Rattle.read_cards.specs.declared.Number.{Number}
+use Rattle.read_tokens.specs.declared.Name.{Name}
+use Rattle.read_tokens.specs.Words.{noName, nameWords}
 use Rattle.read_elements.specs.declared.Target.{Target}
 use Rattle.read_elements.specs.declared.Target.the-variants.{Cell, Element}
 use Rattle.read_items.specs.Items.{targetWords}
@@ -16,12 +19,18 @@ use Rattle.read_items.specs.Parsed.{Put}
 use Rattle.read_forms.specs.declared.Assignment.{Assignment}
 use Rattle.read_forms.specs.declared.Computed.{Computed}
 use Rattle.read_forms.specs.declared.If.{If}
+use Rattle.read_forms.specs.declared.Parameter.{Parameter}
+use Rattle.read_forms.specs.declared.Parameter.the-variants.{Constant, Variable}
 use Rattle.read_forms.specs.declared.Do.{Do}
 use Rattle.read_forms.specs.declared.Dimension.{Dimension}
 use Rattle.read_forms.specs.declared.Statement.{Statement}
 use Rattle.read_forms.specs.declared.Statement.the-variants as statement
+use Rattle.take_draft.specs.Parts.{parameterWords}
 use Rattle.take_plans.specs.declared.Plan.{Plan}
-use Rattle.take_plans.specs.Plans.{noNumber, made, bare, planOf, parametersWords, Laid, Planned, firstWords}
+use Rattle.take_plans.specs.Plans.{noNumber, made, planOf, parametersWords, Laid, Planned, firstWords}
+
+abbrev bareWith : Name → ℕ → Plan
+bareWith x kind = made kind (Cell x) 0 0 noNumber noNumber noNumber
 
 module _ (items : List ℕ) (s : Statement) (r : Plan) where
   planned : (z : Statement) → s ≡ z → r ≡ planOf z → Laid z items items → Planned s items items r
@@ -31,49 +40,63 @@ module _ (items : List ℕ) (s : Statement) (r : Plan) where
   unfolding planOf Laid
   of-assignment a e q = planned (statement.Assign a) e q refl
 
-  pub of-go-to : (n : Number) → s ≡ statement.GoTo n → r ≡ made 1 (Cell 0) 0 0 n noNumber noNumber → Planned s items items r
+  pub of-go-to : (n : Number) → s ≡ statement.GoTo n → {x : Name} → x ≡ noName → r ≡ made 1 (Cell x) 0 0 n noNumber noNumber → Planned s items items r
   unfolding planOf Laid
-  of-go-to n e q = planned (statement.GoTo n) e q refl
+  of-go-to n e xe q = planned (statement.GoTo n) e (q ∙ ap (λ (y : Name). made 1 (Cell y) 0 0 n noNumber noNumber) xe) refl
 
   pub of-computed : (c : Computed) → s ≡ statement.Computed c → r ≡ made 2 (Cell (c .name)) 0 (c .exits) noNumber noNumber noNumber → Planned s items items r
   unfolding planOf Laid
   of-computed c e q = planned (statement.Computed c) e q refl
 
-  pub of-if : (i : If) → s ≡ statement.If i → r ≡ made 3 (Cell 0) (i .count) 0 (i .below) (i .at) (i .above) → Planned s items items r
+  pub of-if : (i : If) → s ≡ statement.If i → {x : Name} → x ≡ noName → r ≡ made 3 (Cell x) (i .count) 0 (i .below) (i .at) (i .above) → Planned s items items r
   unfolding planOf Laid
-  of-if i e q = planned (statement.If i) e q refl
+  of-if i e xe q = planned (statement.If i) e (q ∙ ap (λ (y : Name). made 3 (Cell y) (i .count) 0 (i .below) (i .at) (i .above)) xe) refl
 
-  pub of-continue : s ≡ statement.Continue → r ≡ bare 5 → Planned s items items r
+  pub of-continue : s ≡ statement.Continue → {x : Name} → x ≡ noName → r ≡ bareWith x 5 → Planned s items items r
   unfolding planOf Laid
-  of-continue e q = planned statement.Continue e q refl
+  of-continue e xe q = planned statement.Continue e (q ∙ ap (λ (y : Name). bareWith y 5) xe) refl
 
-  pub of-stop : s ≡ statement.Stop → r ≡ bare 6 → Planned s items items r
+  pub of-stop : s ≡ statement.Stop → {x : Name} → x ≡ noName → r ≡ bareWith x 6 → Planned s items items r
   unfolding planOf Laid
-  of-stop e q = planned statement.Stop e q refl
+  of-stop e xe q = planned statement.Stop e (q ∙ ap (λ (y : Name). bareWith y 6) xe) refl
 
-  pub of-end : s ≡ statement.End → r ≡ bare 7 → Planned s items items r
+  pub of-end : s ≡ statement.End → {x : Name} → x ≡ noName → r ≡ bareWith x 7 → Planned s items items r
   unfolding planOf Laid
-  of-end e q = planned statement.End e q refl
+  of-end e xe q = planned statement.End e (q ∙ ap (λ (y : Name). bareWith y 7) xe) refl
 
-  pub of-dimension : (d : Dimension) → s ≡ statement.Dimension d → r ≡ made 8 (Cell 0) 0 (d .arrays) noNumber noNumber noNumber → Planned s items items r
+  pub of-dimension : (d : Dimension) → s ≡ statement.Dimension d → {x : Name} → x ≡ noName → r ≡ made 8 (Cell x) 0 (d .arrays) noNumber noNumber noNumber → Planned s items items r
   unfolding planOf Laid
-  of-dimension d e q = planned (statement.Dimension d) e q refl
+  of-dimension d e xe q = planned (statement.Dimension d) e (q ∙ ap (λ (y : Name). made 8 (Cell y) 0 (d .arrays) noNumber noNumber noNumber) xe) refl
 
-  pub of-bad : s ≡ statement.Bad → r ≡ bare 9 → Planned s items items r
+  pub of-bad : s ≡ statement.Bad → {x : Name} → x ≡ noName → r ≡ bareWith x 9 → Planned s items items r
   unfolding planOf Laid
-  of-bad e q = planned statement.Bad e q refl
+  of-bad e xe q = planned statement.Bad e (q ∙ ap (λ (y : Name). bareWith y 9) xe) refl
 
 pub of-do : (a b : List ℕ) (s : Statement) (r : Plan) (d : Do) (count : ℕ) → s ≡ statement.Do d → Put a b 0 (parametersWords d) count
     → r ≡ made 4 (Cell (d .name)) count 0 (d .last) noNumber noNumber → Planned s a b r
 unfolding planOf Laid
 of-do a b s r d count e h q =
-    let six : count ≡ 6 = h .top in
+    let six : count ≡ length (parametersWords d) = h .top ∙ zero-add (length (parametersWords d)) in
     subst (λ (x : Statement). Planned x a b r) (sym e)
     (record { says = q ∙ ap (λ (k : ℕ). made 4 (Cell (d .name)) k 0 (d .last) noNumber noNumber) six; table = subst (λ (k : ℕ). take k b ≡ parametersWords d) six (h .table) })
 
+pub parameter-room : (p : Parameter) → length (parameterWords p) ≤ 5
+unfolding parameterWords
+parameter-room (Constant c) = omega arith
+parameter-room (Variable n) = omega arith
+
+module _ {p : Parameter} {a b : List ℕ} {n r : ℕ} where
+  pub put-constant : {w : ℕ} → p ≡ Constant w → Put a b n (1 ∷ w ∷ []) r → Put a b n (parameterWords p) r
+  unfolding parameterWords
+  put-constant e h = subst (λ (x : Parameter). Put a b n (parameterWords x) r) (sym e) h
+
+  pub put-variable : {w : Name} → p ≡ Variable w → Put a b n (2 ∷ nameWords w) r → Put a b n (parameterWords p) r
+  unfolding parameterWords
+  put-variable e h = subst (λ (x : Parameter). Put a b n (parameterWords x) r) (sym e) h
+
 -- ---- what stands first
 
-pub target-room : (t : Target) → length (targetWords t) ≤ 11
+pub target-room : (t : Target) → length (targetWords t) ≤ 20
 unfolding targetWords
 target-room (Cell w) = omega arith
 target-room (Element e) = omega arith

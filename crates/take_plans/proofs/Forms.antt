@@ -5,18 +5,20 @@ use mathlib.Core.List.{List, [], _∷_, _++_, map, append-nil}
 use mathlib.Core.Option.{Option, none, some}
 use Prim.Native.Nat.{ℕ, _≤_}
 use native.Mathlib.Omega.{arith}
-use lib.ListN.{length, take, length-take}
+use lib.ListN.{length, take, length-take, length-append}
 use Rattle.rules_text.specs.Trees.{Expr, Form, assign, goTo, computed, ifs, loop, continue, stop, end, dimension}
 use Rattle.rules_deck.specs.Meaning.{third}
 use Rattle.rules_text.specs.Shaped.{IsParameter, OptionalParameter, Shaped}
 use Rattle.read_tokens.specs.Words.{capped}
 use Rattle.read_items.specs.Items.{targetWords, flat}
+use Rattle.read_forms.specs.declared.Parameter.{Parameter}
 use Rattle.read_forms.specs.Statements.{allWords, formWords, parameterValue, statementOf}
-use Rattle.take_draft.specs.Parts.{itemsOf, itemWords, itemsWords, targetItem, formFirst}
+use Rattle.take_draft.specs.Parts.{itemsOf, itemWords, itemsWords, parameterWords, targetItem, formFirst}
 use Rattle.take_draft.proofs.FormParts.{words-append, flat-items}
 use Rattle.take_draft.proofs.FormLaws.{target-words, parameter-words}
 use Rattle.take_plans.specs.declared.Plan.{Plan}
-use Rattle.take_plans.specs.Plans.{planOf, Laid, Planned, formPlan, listedWords, Plans, firstWords}
+use Rattle.take_plans.proofs.Arms.{parameter-room}
+use Rattle.take_plans.specs.Plans.{threeWords, planOf, Laid, Planned, formPlan, listedWords, Plans, firstWords}
 
 pub first-form : (f : Form) → firstWords (formPlan f) ≡ itemsWords (formFirst f)
 unfolding firstWords formPlan targetWords
@@ -35,7 +37,7 @@ third-parameter none h = IsParameter.constant
 third-parameter (some e) h = h
 
 three-words : (p q r : Expr) → IsParameter p → IsParameter q → IsParameter r
-    → parameterValue p .kind ∷ parameterValue p .word ∷ parameterValue q .kind ∷ parameterValue q .word ∷ parameterValue r .kind ∷ parameterValue r .word ∷ []
+    → threeWords (parameterValue p) (parameterValue q) (parameterValue r)
     ≡ itemsWords (itemsOf p ++ (itemsOf q ++ itemsOf r))
 three-words p q r a b c =
     let x = parameter-words p a in
@@ -43,10 +45,14 @@ three-words p q r a b c =
     let z = parameter-words r c in
     rw (words-append (itemsOf p) (itemsOf q ++ itemsOf r), words-append (itemsOf q) (itemsOf r), ← x, ← y, ← z)
 
+three-room : (a b c : Parameter) → length (threeWords a b c) ≤ 15
+three-room a b c =
+    omega (arith, parameter-room a, parameter-room b, parameter-room c, length-append (parameterWords a) (parameterWords b ++ parameterWords c), length-append (parameterWords b) (parameterWords c))
+
 long-enough : (ws a : List ℕ) → take (length ws) a ≡ ws → length ws ≤ length a
 long-enough ws a w = omega (arith, length-take (length ws) a, ap length w)
 
-module _ (a b : List ℕ) (r : Plan) (six : 6 ≤ length a) (long : length b ≡ length a) where
+module _ (a b : List ℕ) (r : Plan) (fifteen : 15 ≤ length a) (long : length b ≡ length a) where
   pub plans-of : (f : Form) → Shaped f → take (length (formWords f)) a ≡ formWords f → Planned (statementOf f) a b r → Plans f b r
   unfolding planOf statementOf formPlan Laid listedWords formWords
   plans-of (assign t e) sh w h =
@@ -80,12 +86,12 @@ module _ (a b : List ℕ) (r : Plan) (six : 6 ≤ length a) (long : length b ≡
       }
   plans-of (loop n v i j k) sh w h =
       let p : r ≡ formPlan (loop n v i j k) = h .says in
-      let z : r .count ≡ 6 = ap (λ (x : Plan). x .count) p in
+      let z : r .count ≡ length (threeWords (parameterValue i) (parameterValue j) (parameterValue (third k))) = ap (λ (x : Plan). x .count) p in
       record {
         plan = p;
         operands = ap (λ (k : ℕ). take k b) z ∙ h .table ∙ three-words i j (third k) (sh .0) (sh .1) (third-parameter k (sh .2));
         listed = refl;
-        room = omega arith;
+        room = omega (arith, three-room (parameterValue i) (parameterValue j) (parameterValue (third k)), z);
       }
   plans-of continue sh w h =
       let p : r ≡ formPlan continue = h .says in

@@ -3,24 +3,33 @@
 use mathlib.Core.Path.{_≡_}
 use Prim.Native.Nat.{ℕ, _≤_}
 use mathlib.Core.Bool.{cond}
-use mathlib.Core.List.{List, [], _∷_, map}
+use mathlib.Core.List.{List, [], _++_, map}
 use lib.Dec.{eqb}
 use lib.ListN.{length, take}
 use Rattle.rules_text.specs.Trees.{Form, assign, goTo, computed, ifs, loop, continue, stop, end, dimension}
-use Rattle.read_tokens.specs.Words.{capped, nameWord}
+use Rattle.rules_deck.specs.Meaning.{third}
+use Rattle.read_tokens.specs.Words.{capped, nameOf, noName}
 use Rattle.read_cards.specs.declared.Number.{Number}
 use Rattle.read_elements.specs.declared.Target.{Target}
 use Rattle.read_elements.specs.declared.Target.the-variants.{Cell}
 use Rattle.read_elements.specs.Values.{targetValue}
 use Rattle.read_items.specs.Items.{flat, targetWords}
 use Rattle.read_forms.specs.declared.Do.{Do}
+use Rattle.read_forms.specs.declared.Parameter.{Parameter}
 use Rattle.read_forms.specs.declared.Statement.{Statement}
 use Rattle.read_forms.specs.declared.Statement.the-variants as statement
-use Rattle.read_forms.specs.Statements.{allWords, asNumber, numberValue}
-use Rattle.take_draft.specs.Parts.{itemsWords, formFirst, formItems}
+use Rattle.read_forms.specs.Statements.{allWords, asNumber, numberValue, parameterValue}
+use Rattle.take_draft.specs.Parts.{itemsWords, parameterWords, formFirst, formItems}
 use Rattle.take_plans.specs.declared.Plan.{Plan}
 
 -- ---- of what the reader gave back
+
+-- a DO's parameters as items
+abbrev pub threeWords : Parameter → Parameter → Parameter → List ℕ
+threeWords first limit by = parameterWords first ++ (parameterWords limit ++ parameterWords by)
+
+abbrev pub parametersWords : Do → List ℕ
+parametersWords d = threeWords (d .first) (d .limit) (d .by)
 
 -- where a form has none
 abbrev pub noNumber : Number
@@ -31,23 +40,19 @@ made kind target count listed below at above =
     record { kind = kind; target = target; count = count; listed = listed; below = below; at = at; above = above }
 
 abbrev pub bare : ℕ → Plan
-bare kind = made kind (Cell 0) 0 0 noNumber noNumber noNumber
+bare kind = made kind (Cell noName) 0 0 noNumber noNumber noNumber
 
 unfoldable pub planOf : Statement → Plan
 planOf (statement.Assign a) = made 0 (a .target) (a .count) 0 noNumber noNumber noNumber
-planOf (statement.GoTo n) = made 1 (Cell 0) 0 0 n noNumber noNumber
+planOf (statement.GoTo n) = made 1 (Cell noName) 0 0 n noNumber noNumber
 planOf (statement.Computed c) = made 2 (Cell (c .name)) 0 (c .exits) noNumber noNumber noNumber
-planOf (statement.If i) = made 3 (Cell 0) (i .count) 0 (i .below) (i .at) (i .above)
-planOf (statement.Do d) = made 4 (Cell (d .name)) 6 0 (d .last) noNumber noNumber
+planOf (statement.If i) = made 3 (Cell noName) (i .count) 0 (i .below) (i .at) (i .above)
+planOf (statement.Do d) = made 4 (Cell (d .name)) (length (parametersWords d)) 0 (d .last) noNumber noNumber
 planOf statement.Continue = bare 5
 planOf statement.Stop = bare 6
 planOf statement.End = bare 7
-planOf (statement.Dimension d) = made 8 (Cell 0) 0 (d .arrays) noNumber noNumber noNumber
+planOf (statement.Dimension d) = made 8 (Cell noName) 0 (d .arrays) noNumber noNumber noNumber
 planOf statement.Bad = bare 9
-
--- a DO's parameters as items
-abbrev pub parametersWords : Do → List ℕ
-parametersWords d = d .first .kind ∷ d .first .word ∷ d .limit .kind ∷ d .limit .word ∷ d .by .kind ∷ d .by .word ∷ []
 
 -- the table afterwards
 unfoldable pub Laid : Statement → List ℕ → List ℕ → Type 0
@@ -55,7 +60,7 @@ Laid (statement.Assign a) before after = after ≡ before
 Laid (statement.GoTo n) before after = after ≡ before
 Laid (statement.Computed c) before after = after ≡ before
 Laid (statement.If i) before after = after ≡ before
-Laid (statement.Do d) before after = take 6 after ≡ parametersWords d
+Laid (statement.Do d) before after = take (length (parametersWords d)) after ≡ parametersWords d
 Laid statement.Continue before after = after ≡ before
 Laid statement.Stop before after = after ≡ before
 Laid statement.End before after = after ≡ before
@@ -70,14 +75,15 @@ pub record Planned (s : Statement) (before after : List ℕ) (r : Plan) : Type 0
 
 unfoldable pub formPlan : Form → Plan
 formPlan (assign t e) = made 0 (targetValue t) (length (flat e)) 0 noNumber noNumber noNumber
-formPlan (goTo n) = made 1 (Cell 0) 0 0 (numberValue n) noNumber noNumber
-formPlan (computed ns v) = made 2 (Cell (nameWord v)) 0 (length ns) noNumber noNumber noNumber
-formPlan (ifs e a b c) = made 3 (Cell 0) (length (flat e)) 0 (numberValue a) (numberValue b) (numberValue c)
-formPlan (loop n v p q r) = made 4 (Cell (nameWord v)) 6 0 (numberValue n) noNumber noNumber
+formPlan (goTo n) = made 1 (Cell noName) 0 0 (numberValue n) noNumber noNumber
+formPlan (computed ns v) = made 2 (Cell (nameOf v)) 0 (length ns) noNumber noNumber noNumber
+formPlan (ifs e a b c) = made 3 (Cell noName) (length (flat e)) 0 (numberValue a) (numberValue b) (numberValue c)
+formPlan (loop n v p q r) =
+    made 4 (Cell (nameOf v)) (length (threeWords (parameterValue p) (parameterValue q) (parameterValue (third r)))) 0 (numberValue n) noNumber noNumber
 formPlan continue = bare 5
 formPlan stop = bare 6
 formPlan end = bare 7
-formPlan (dimension arrays) = made 8 (Cell 0) 0 (length arrays) noNumber noNumber noNumber
+formPlan (dimension arrays) = made 8 (Cell noName) 0 (length arrays) noNumber noNumber noNumber
 
 -- a computed GO TO's numbers and a DIMENSION's arrays, as the reader leaves them
 unfoldable pub listedWords : Form → List ℕ

@@ -1,12 +1,14 @@
 // What a statement asks of the draft, in one shape for all forms.
 ghost use mathlib.Core.Path.{_≡_};
-ghost use Prim.Native.Nat.{_≤_};
+ghost use Prim.Native.Nat.{_+_, _≤_};
 ghost use lib.ListN.{length};
 ghost use Rattle.read_items.specs.Parsed.{Put};
+ghost use Rattle.take_draft.specs.Parts.{parameterWords};
 ghost use Rattle.take_plans.specs.Plans.{made, parametersWords, Planned, firstWords};
 use read_cards::Number;
 use read_elements::Target;
 use read_forms::Do;
+use read_forms::Parameter;
 use read_forms::Statement;
 use take_kinds::ASSIGNMENT;
 use take_kinds::COMPUTED;
@@ -56,55 +58,62 @@ fn make(
     }
 }
 
+fn put_parameter(items: &mut [u64], n: usize, parameter: Parameter) -> usize
+    requires { ⌜ n + 5 ≤ length (now items) ⌝ }
+    ensures { λ r. ⌜ Put (now (items .entry)) (now (items .exit)) n (parameterWords parameter) r ⌝ }
+{
+    match parameter {
+        Parameter::Constant(word) => read_items::put_two(items, n, 1, word),
+        Parameter::Variable(name) => read_items::put_named(items, n, 2, name),
+    }
+}
+
 fn put_parameters(items: &mut [u64], d: Do) -> usize
-    requires { ⌜ 6 ≤ length (now items) ⌝ }
+    requires { ⌜ 15 ≤ length (now items) ⌝ }
     ensures { λ r. ⌜ Put (now (items .entry)) (now (items .exit)) 0 (parametersWords d) r ⌝ }
 {
     let first = d.first;
-    let a = read_items::put_two(items, 0, first.kind, first.word);
+    let a = put_parameter(items, 0, first);
     let limit = d.limit;
-    let b = read_items::put_two(items, a, limit.kind, limit.word);
+    let b = put_parameter(items, a, limit);
     let by = d.by;
-    read_items::put_two(items, b, by.kind, by.word)
+    put_parameter(items, b, by)
 }
 
 // A DO's parameters become items.
 pub fn plan_of(s: Statement, items: &mut [u64]) -> Plan
-    requires { ⌜ 6 ≤ length (now items) ⌝ }
+    requires { ⌜ 15 ≤ length (now items) ⌝ }
     ensures { λ r. ⌜ Planned s (now (items .entry)) (now (items .exit)) r ⌝ }
 {
     let none = Number(0);
+    let nothing = Target::Cell(read_tokens::no_name());
     match s {
         Statement::Assign(a) => {
             let target = a.target;
             make(ASSIGNMENT, target, a.count, 0, none, none, none)
         }
-        Statement::GoTo(n) => make(GO_TO, Target::Cell(0), 0, 0, n, none, none),
-        Statement::Computed(c) => make(
-            COMPUTED,
-            Target::Cell(c.name),
-            0,
-            c.exits,
-            none,
-            none,
-            none,
-        ),
-        Statement::If(i) => make(IF, Target::Cell(0), i.count, 0, i.below, i.at, i.above),
+        Statement::GoTo(n) => make(GO_TO, nothing, 0, 0, n, none, none),
+        Statement::Computed(c) => {
+            let name = c.name;
+            make(COMPUTED, Target::Cell(name), 0, c.exits, none, none, none)
+        }
+        Statement::If(i) => make(IF, nothing, i.count, 0, i.below, i.at, i.above),
         Statement::Do(d) => {
             let count = put_parameters(items, d);
-            make(DO, Target::Cell(d.name), count, 0, d.last, none, none)
+            let name = d.name;
+            make(DO, Target::Cell(name), count, 0, d.last, none, none)
         }
-        Statement::Continue => make(CONTINUE, Target::Cell(0), 0, 0, none, none, none),
-        Statement::Stop => make(STOP, Target::Cell(0), 0, 0, none, none, none),
-        Statement::End => make(END, Target::Cell(0), 0, 0, none, none, none),
-        Statement::Dimension(d) => make(DIMENSION, Target::Cell(0), 0, d.arrays, none, none, none),
-        Statement::Bad => make(NO_FORM, Target::Cell(0), 0, 0, none, none, none),
+        Statement::Continue => make(CONTINUE, nothing, 0, 0, none, none, none),
+        Statement::Stop => make(STOP, nothing, 0, 0, none, none, none),
+        Statement::End => make(END, nothing, 0, 0, none, none, none),
+        Statement::Dimension(d) => make(DIMENSION, nothing, 0, d.arrays, none, none, none),
+        Statement::Bad => make(NO_FORM, nothing, 0, 0, none, none, none),
     }
 }
 
 // The words of what stands first, if anything does.
 pub fn put_first(p: Plan, first: &mut [u64]) -> usize
-    requires { ⌜ 11 ≤ length (now first) ⌝ }
+    requires { ⌜ 20 ≤ length (now first) ⌝ }
     ensures { λ r. ⌜ Put (now (first .entry)) (now (first .exit)) 0 (firstWords p) r ⌝ }
 {
     let target = p.target;

@@ -13,7 +13,8 @@ use Rattle.rules_shared.proofs.EachLaws.{each-both}
 use Rattle.rules_text.specs.Trees.{Name, Subscript, constant, linear, Subscripts, one, two, subscriptNames, subscriptsNames}
 use Rattle.rules_deck.specs.Translation.{Held, isArray, holds}
 use Rattle.rules_deck.specs.Judge.{rightCount, rightReference}
-use Rattle.read_tokens.specs.Words.{nameWord}
+use Rattle.read_tokens.specs.Words.{nameOf, nameAt}
+use Rattle.read_tokens.specs.declared.Name as code
 use Rattle.read_elements.specs.Values.{subscriptValue, subscriptsValue}
 use Rattle.take_draft.specs.Parts.{Item, value, plain, place, negate, apply, itemWords, itemsWords, itemNames, itemsNames, itemPlain, itemsPlain, itemReferences, itemsReferences, rightItems, Worded}
 use Rattle.take_draft.specs.Names.{dimsHeld, Told, Lists}
@@ -45,31 +46,37 @@ count-two c d n = ap (λ (b : Bool). cond b (eqb d 0) (leb 1 d)) (sym (ne-eqb c 
 
 -- ---- an element
 
+pub holds-as : {t : List ℕ} {n : ℕ} {x y : code.Name} {k r : Bool} → x ≡ y → Holds t n x k r → Holds t n y k r
+holds-as {t} {n} {x} {y} {k} {r} e h = subst (λ (w : code.Name). Holds t n w k r) e h
+
+pub first-as : (t : List ℕ) (n i : ℕ) {x y : code.Name} → x ≡ y → i ≡ firstEntry true x n t → i ≡ firstEntry true y n t
+first-as t n i e h = h ∙ ap (λ (w : code.Name). firstEntry true w n t) e
+
 module _ {held : List Held} {t : List ℕ} {n cells : ℕ} (l : Lists held t n cells) where
   count-as : (s : Subscripts) (d : ℕ) (x : Name) → d ≡ dimsHeld held x .columns → rightWords (subscriptsValue s .count) d ≡ rightCount (dimsHeld held x) s
   unfolding subscriptsValue
   count-as (one s) d x e = ap (λ (y : ℕ). eqb y 0) e
   count-as (two s u) d x e = ap (λ (y : ℕ). leb 1 y) e
 
-  pub reference-no : (v : Name) (s : Subscripts) (i : ℕ) → Told v → i ≡ firstEntry true (nameWord v) n t → n ≤ i → rightReference held (record { name = v; subscripts = s }) ≡ false
+  pub reference-no : (v : Name) (s : Subscripts) (i : ℕ) → Told v → i ≡ firstEntry true (nameOf v) n t → n ≤ i → rightReference held (record { name = v; subscripts = s }) ≡ false
   reference-no v s i tv e h =
       reference-none held (record { name = v; subscripts = s }) (sym (array-spot l v tv .test) ∙ ap (λ (j : ℕ). ltb j n) (sym e) ∙ le-ltb i n h)
 
-  pub reference-is : (v : Name) (s : Subscripts) (i : ℕ) → Told v → i ≡ firstEntry true (nameWord v) n t → i < n
-      → rightReference held (record { name = v; subscripts = s }) ≡ rightWords (subscriptsValue s .count) (getD t (4 * i + 3) 0)
+  pub reference-is : (v : Name) (s : Subscripts) (i : ℕ) → Told v → i ≡ firstEntry true (nameOf v) n t → i < n
+      → rightReference held (record { name = v; subscripts = s }) ≡ rightWords (subscriptsValue s .count) (getD t (7 * i + 6) 0)
   reference-is v s i tv e h =
       let sp = array-spot l v tv in
       let here : holds (isArray v) held ≡ true = sym (sp .test) ∙ ap (λ (j : ℕ). ltb j n) (sym e) ∙ lt-ltb i n h in
-      let columns : getD t (4 * i + 3) 0 ≡ dimsHeld held v .columns = ap (λ (j : ℕ). getD t (4 * j + 3) 0) e ∙ sp .columns-are here in
-      reference-count held (record { name = v; subscripts = s }) here ∙ sym (count-as s (getD t (4 * i + 3) 0) v columns)
+      let columns : getD t (7 * i + 6) 0 ≡ dimsHeld held v .columns = ap (λ (j : ℕ). getD t (7 * j + 6) 0) e ∙ sp .columns-are here in
+      reference-count held (record { name = v; subscripts = s }) here ∙ sym (count-as s (getD t (7 * i + 6) 0) v columns)
 
-  subscript-is : (x : Subscript) (word : ℕ) (r : Bool) → word ≡ subscriptValue x .name → Holds t n word true r → Each Told (subscriptNames x)
+  subscript-is : (x : Subscript) (word : code.Name) (r : Bool) → word ≡ subscriptValue x .name → Holds t n word true r → Each Told (subscriptNames x)
       → not r ≡ all (bare held) (subscriptNames x)
   unfolding subscriptValue
   subscript-is (constant c) word r e h a = ap not (h .none held cells l e)
   subscript-is (linear m v a) word r e h (each-more tv none) = ap not (h .is held cells v l tv e) ∙ sym (and-true (not (holds (isArray v) held)) true refl)
 
-  pub subscripts-are : (s : Subscripts) (w₁ w₂ : ℕ) (r₁ r₂ : Bool) → w₁ ≡ subscriptsValue s .first .name → w₂ ≡ subscriptsValue s .second .name
+  pub subscripts-are : (s : Subscripts) (w₁ w₂ : code.Name) (r₁ r₂ : Bool) → w₁ ≡ subscriptsValue s .first .name → w₂ ≡ subscriptsValue s .second .name
       → Holds t n w₁ true r₁ → Holds t n w₂ true r₂ → Each Told (subscriptsNames s) → all (bare held) (subscriptsNames s) ≡ not r₁ && not r₂
   unfolding subscriptsValue
   subscripts-are (one x) w₁ w₂ r₁ r₂ e₁ e₂ h₁ h₂ a =
@@ -79,7 +86,7 @@ module _ {held : List Held} {t : List ℕ} {n cells : ℕ} (l : Lists held t n c
       all-both (bare held) (subscriptNames x) (subscriptNames y) ∙ ap (λ (b : Bool). b && all (bare held) (subscriptNames y)) (sym (subscript-is x w₁ r₁ e₁ h₁ (told .0)))
       ∙ ap (λ (b : Bool). not r₁ && b) (sym (subscript-is y w₂ r₂ e₂ h₂ (told .1)))
 
-  pub subscripts-first : (s : Subscripts) (w₁ : ℕ) (r₁ : Bool) → w₁ ≡ subscriptsValue s .first .name → Holds t n w₁ true r₁ → Each Told (subscriptsNames s) → r₁ ≡ true
+  pub subscripts-first : (s : Subscripts) (w₁ : code.Name) (r₁ : Bool) → w₁ ≡ subscriptsValue s .first .name → Holds t n w₁ true r₁ → Each Told (subscriptsNames s) → r₁ ≡ true
       → all (bare held) (subscriptsNames s) ≡ false
   unfolding subscriptsValue
   subscripts-first (one x) w₁ r₁ e₁ h₁ a p = sym (subscript-is x w₁ r₁ e₁ h₁ a) ∙ ap not p
@@ -87,41 +94,41 @@ module _ {held : List Held} {t : List ℕ} {n cells : ℕ} (l : Lists held t n c
       all-both (bare held) (subscriptNames x) (subscriptNames y)
       ∙ ap (λ (b : Bool). b && all (bare held) (subscriptNames y)) (sym (subscript-is x w₁ r₁ e₁ h₁ (each-both (subscriptNames x) a .0)) ∙ ap not p)
 
-module _ (items t : List ℕ) (n i : ℕ) (is : i ≡ firstEntry true (getD items 1 0) n t) where
-  named : (v : Name) (s : Subscripts) (more : List ℕ) → items ≡ itemWords (place v s) ++ more → i ≡ firstEntry true (nameWord v) n t
-  named v s more e = is ∙ ap (λ (x : List ℕ). firstEntry true (getD x 1 0) n t) e
+module _ (items t : List ℕ) (n i : ℕ) (is : i ≡ firstEntry true (nameAt items 1) n t) where
+  named : (v : Name) (s : Subscripts) (more : List ℕ) → items ≡ itemWords (place v s) ++ more → i ≡ firstEntry true (nameOf v) n t
+  named v s more e = is ∙ ap (λ (x : List ℕ). firstEntry true (nameAt x 1) n t) e
 
-  counted : (v : Name) (s : Subscripts) (more : List ℕ) → items ≡ itemWords (place v s) ++ more → (c : ℕ) → rightWords (getD items 2 0) c ≡ rightWords (subscriptsValue s .count) c
-  counted v s more e c = ap (λ (x : List ℕ). rightWords (getD x 2 0) c) e
+  counted : (v : Name) (s : Subscripts) (more : List ℕ) → items ≡ itemWords (place v s) ++ more → (c : ℕ) → rightWords (getD items 5 0) c ≡ rightWords (subscriptsValue s .count) c
+  counted v s more e c = ap (λ (x : List ℕ). rightWords (getD x 5 0) c) e
 
   pub place-none : n ≤ i → RightPlace items t n false
   place-none h held cells v s more l e (each-more tv ts) =
       sym (ap (λ (b : Bool). (b && true) && all (bare held) (subscriptsNames s)) (reference-no l v s i tv (named v s more e) h))
 
-  pub place-count : i < n → rightWords (getD items 2 0) (getD t (4 * i + 3) 0) ≡ false → RightPlace items t n false
+  pub place-count : i < n → rightWords (getD items 5 0) (getD t (7 * i + 6) 0) ≡ false → RightPlace items t n false
   place-count h w held cells v s more l e (each-more tv ts) =
       sym (ap (λ (b : Bool). (b && true) && all (bare held) (subscriptsNames s))
-      (reference-is l v s i tv (named v s more e) h ∙ sym (counted v s more e (getD t (4 * i + 3) 0)) ∙ w))
+      (reference-is l v s i tv (named v s more e) h ∙ sym (counted v s more e (getD t (7 * i + 6) 0)) ∙ w))
 
-  pub place-first : (r₁ : Bool) → Holds t n (getD items 4 0) true r₁ → r₁ ≡ true → RightPlace items t n false
+  pub place-first : (r₁ : Bool) → Holds t n (nameAt items 7) true r₁ → r₁ ≡ true → RightPlace items t n false
   place-first r₁ h₁ p held cells v s more l e (each-more tv ts) =
-      let q = subscripts-first l s (getD items 4 0) r₁ (ap (λ (x : List ℕ). getD x 4 0) e) h₁ ts p in
+      let q = subscripts-first l s (nameAt items 7) r₁ (ap (λ (x : List ℕ). nameAt x 7) e) h₁ ts p in
       sym (ap (λ (b : Bool). (rightReference held (record { name = v; subscripts = s }) && true) && b) q ∙ and-false (rightReference held (record { name = v; subscripts = s }) && true) false refl)
 
-  pub place-last : i < n → rightWords (getD items 2 0) (getD t (4 * i + 3) 0) ≡ true → (r₁ r₂ : Bool) → Holds t n (getD items 4 0) true r₁ → r₁ ≡ false
-      → Holds t n (getD items 8 0) true r₂ → RightPlace items t n (not r₂)
+  pub place-last : i < n → rightWords (getD items 5 0) (getD t (7 * i + 6) 0) ≡ true → (r₁ r₂ : Bool) → Holds t n (nameAt items 7) true r₁ → r₁ ≡ false
+      → Holds t n (nameAt items 14) true r₂ → RightPlace items t n (not r₂)
   place-last h w r₁ r₂ h₁ p h₂ held cells v s more l e (each-more tv ts) =
-      let right = reference-is l v s i tv (named v s more e) h ∙ sym (counted v s more e (getD t (4 * i + 3) 0)) ∙ w in
-      let q = subscripts-are l s (getD items 4 0) (getD items 8 0) r₁ r₂ (ap (λ (x : List ℕ). getD x 4 0) e) (ap (λ (x : List ℕ). getD x 8 0) e) h₁ h₂ ts in
+      let right = reference-is l v s i tv (named v s more e) h ∙ sym (counted v s more e (getD t (7 * i + 6) 0)) ∙ w in
+      let q = subscripts-are l s (nameAt items 7) (nameAt items 14) r₁ r₂ (ap (λ (x : List ℕ). nameAt x 7) e) (ap (λ (x : List ℕ). nameAt x 14) e) h₁ h₂ ts in
       sym (ap (λ (b : Bool). (b && true) && all (bare held) (subscriptsNames s)) right ∙ q ∙ ap (λ (b : Bool). not b && not r₂) p)
 
 -- ---- any item, by its first word
 
 module _ (items t : List ℕ) (n : ℕ) where
-  pub right-plain : (r : Bool) → getD items 0 0 ≡ 2 → Holds t n (getD items 1 0) true r → RightItem items t n (not r)
+  pub right-plain : (r : Bool) → getD items 0 0 ≡ 2 → Holds t n (nameAt items 1) true r → RightItem items t n (not r)
   right-plain r k h held cells (value c) more l e told = absurd (let z = kind-is (value c) more e 2 k in omega (arith, z))
   right-plain r k h held cells (plain v) more l e (each-more tv none) =
-      ap not (h .is held cells v l tv (ap (λ (x : List ℕ). getD x 1 0) e)) ∙ sym (and-true (bare held v) true refl)
+      ap not (h .is held cells v l tv (ap (λ (x : List ℕ). nameAt x 1) e)) ∙ sym (and-true (bare held v) true refl)
   right-plain r k h held cells (place v s) more l e told = absurd (let z = kind-is (place v s) more e 2 k in omega (arith, z))
   right-plain r k h held cells negate more l e told = absurd (let z = kind-is negate more e 2 k in omega (arith, z))
   right-plain r k h held cells (apply o) more l e told = absurd (no-operand o more 2 (omega arith) (kind-is (apply o) more e 2 k))

@@ -4,6 +4,11 @@ ghost use Prim.Native.Nat.{_*_, _≤_, _<_};
 ghost use lib.ListN.{length};
 ghost use Rattle.take_draft.specs.Parts.{Worded};
 ghost use Rattle.take_references.specs.Rights.{rightWords, RightPlace, RightItem, References};
+use take_name_table::COLUMNS;
+use take_name_table::COUNT_AT;
+use take_name_table::ENTRY_WORDS;
+use take_name_table::FIRST_AT;
+use take_name_table::SECOND_AT;
 
 fn right_count(count: u64, columns: u64) -> bool
     ensures { λ r. ⌜ r ≡ rightWords count columns ⌝ }
@@ -16,30 +21,30 @@ fn right_count(count: u64, columns: u64) -> bool
 
 // Of an element: its array, as many subscripts as dimensions, and no array in a subscript.
 fn right_place(items: &[u64], table: &[u64], n: usize) -> bool
-    requires { ⌜ (11 ≤ length (now items)) × (4 * n ≤ length (now table)) ⌝ }
+    requires { ⌜ (20 ≤ length (now items)) × (7 * n ≤ length (now table)) ⌝ }
     ensures { λ r. ⌜ RightPlace (now (items .entry)) (now (table .entry)) n r ⌝ }
 {
-    let i = take_name_table::find(table, n, items[1], true);
+    let i = take_name_table::find(table, n, read_tokens::name_at(items, 1), true);
     if n <= i {
         return false;
     }
-    if !right_count(items[2], table[4 * i + 3]) {
+    if !right_count(items[COUNT_AT], table[ENTRY_WORDS * i + COLUMNS]) {
         return false;
     }
-    if take_name_table::holds(table, n, items[4], true) {
+    if take_name_table::holds(table, n, read_tokens::name_at(items, FIRST_AT + 1), true) {
         return false;
     }
-    !take_name_table::holds(table, n, items[8], true)
+    !take_name_table::holds(table, n, read_tokens::name_at(items, SECOND_AT + 1), true)
 }
 
 // Of the operand or operation that the words start with.
 fn right_item(items: &[u64], table: &[u64], n: usize) -> bool
-    requires { ⌜ (Worded (now items) × (0 < length (now items))) × (4 * n ≤ length (now table)) ⌝ }
+    requires { ⌜ (Worded (now items) × (0 < length (now items))) × (7 * n ≤ length (now table)) ⌝ }
     ensures { λ r. ⌜ RightItem (now (items .entry)) (now (table .entry)) n r ⌝ }
 {
     let kind = items[0];
     if kind == 2 {
-        return !take_name_table::holds(table, n, items[1], true);
+        return !take_name_table::holds(table, n, read_tokens::name_at(items, 1), true);
     }
     if kind == 4 {
         return right_place(items, table, n);
@@ -49,7 +54,7 @@ fn right_item(items: &[u64], table: &[u64], n: usize) -> bool
 
 // 16: every element's array is declared with as many dimensions, and no array's name stands bare.
 pub fn references_right(items: &[u64], table: &[u64], n: usize) -> bool
-    requires { ⌜ Worded (now items) × (4 * n ≤ length (now table)) ⌝ }
+    requires { ⌜ Worded (now items) × (7 * n ≤ length (now table)) ⌝ }
     ensures { λ r. ⌜ References (now (items .entry)) (now (table .entry)) n r ⌝ }
 {
     let mut at = 0;

@@ -83,17 +83,17 @@ module _ {s : Statement} {items : List ℕ} (R : Reading s items) where
         right-14 = w .fourth;
       }
 
-  pub plans-in : {after : List ℕ} {p : Plan} → 6 ≤ length items → length after ≡ length items → Planned s items after p → Plans (R .form) after p
+  pub plans-in : {after : List ℕ} {p : Plan} → 15 ≤ length items → length after ≡ length items → Planned s items after p → Plans (R .form) after p
   plans-in {after} {p} six long h =
       plans-of items after p six long (R .form) (shaped (R .text) (R .form) (R .read)) (R .table) (subst (λ (x : Statement). Planned x items after p) (R .says) h)
 
 -- ---- what stands first
 
-pub first-room : (p : Plan) → length (firstWords p) ≤ 11
+pub first-room : (p : Plan) → length (firstWords p) ≤ 20
 unfolding firstWords
 first-room p = go (eqb (p .kind) 0) (eqb (p .kind) 2) (eqb (p .kind) 4)
   where
-    go : (a b c : Bool) → length (cond a (targetWords (p .target)) (cond b (targetWords (p .target)) (cond c (targetWords (p .target)) []))) ≤ 11
+    go : (a b c : Bool) → length (cond a (targetWords (p .target)) (cond b (targetWords (p .target)) (cond c (targetWords (p .target)) []))) ≤ 20
     go true b c = target-room (p .target)
     go false true c = target-room (p .target)
     go false false true = target-room (p .target)
@@ -112,7 +112,7 @@ unfolding Judged
 comes-low number k q w lent e h R t M fr = refused-low R k q w t e h
 
 pub comes-planned : (number k q : ℕ) {s : Statement} {items after a b : List ℕ} {p : Plan} {top : ℕ} {D : Draft} (lent : Words) (r : Outcome)
-    → 1 ≤ k → k ≤ 9 → 0 ≡ ofStatement k items s → 6 ≤ length items → length after ≡ length items → Planned s items after p → Put a b 0 (firstWords p) top
+    → 1 ≤ k → k ≤ 9 → 0 ≡ ofStatement k items s → 15 ≤ length items → length after ≡ length items → Planned s items after p → Put a b 0 (firstWords p) top
     → ComesPlanned p number (take (top - 0) (drop 0 b)) after q D lent r
     → Comes s number k items q D lent r
 comes-planned number k q₀ lent r x y e six long h q c R t M fr =

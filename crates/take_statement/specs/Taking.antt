@@ -32,7 +32,7 @@ pub record Ready (s : Statement) (number k : ℕ) (items : List ℕ) (lent : Wor
   pub number-low : number ≤ 99999
   pub digits-some : 1 ≤ k
   pub digits-few : k ≤ 9
-  pub items-long : 2651 ≤ length items
+  pub items-long : 3320 ≤ length items
   pub room : Room lent
   pub fit : Fit n
   pub statements-few : n .statements < 400

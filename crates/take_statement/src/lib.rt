@@ -4,10 +4,11 @@ ghost use Rattle.take_draft.specs.Kept.{asWords, Kept};
 ghost use Rattle.take_statement.specs.Taking.{Ready, Comes};
 use read_cards::Number;
 use read_forms::Statement;
+use read_items::ELEMENT_ITEM;
 use take_draft::Counts;
 use take_planned::Outcome;
 
-// `items` is the reader's table: 2,640 words that it may fill; a DO's parameters are put there.
+// `items` is the reader's table: 3,300 words that it may fill; a DO's parameters are put there.
 pub fn take(
     s: Statement,
     number: Number,
@@ -31,7 +32,7 @@ pub fn take(
         return Outcome::Refused(wrong);
     }
     let p = take_plans::plan_of(s, items);
-    let mut first = [0u64; 11];
+    let mut first = [0u64; ELEMENT_ITEM];
     let top = take_plans::put_first(p, &mut first);
     take_planned::take_planned(
         p,

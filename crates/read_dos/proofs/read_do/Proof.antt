@@ -2,7 +2,7 @@
 use mathlib.Core.Path.{sym, _∙_}
 use native.Mathlib.Omega.{arith}
 use borrow.Author.Tests.{not-true, not-false}
-use Rattle.read_tokens.proofs.Chains.{took, refused, token-shape}
+use Rattle.read_tokens.proofs.Chains.{took, refused, token-shape, name-shape}
 use Rattle.read_forms.proofs.Forms.{number-fits}
 use Rattle.read_dos.proofs.Loops.{do-no-word, do-fits, do-no-number, do-no-name, do-no-equals, do-inside, do-read}
 use borrow.Author.Needs.{needs}
@@ -54,7 +54,7 @@ returns-3 c =
     let s = c .before .before .before .before .before .before .before .before .before .before .before .before .args .text .now in
     let w = sym (c .before .before .before .before .before .before .before .before .starts-word .ensures) ∙ not-false _ (c .before .before .before .before .before .before .before .if1 .left) in
     let t = took token-shape (c .before .before .before .before .before .before .read-number .ensures) (c .before .before .before .before .a .given .1) in
-    do-no-name s w t (refused token-shape (c .before .before .read-name .ensures) (c .enum-told2 .given .1))
+    do-no-name s w t (refused name-shape (c .before .before .read-name .ensures) (c .enum-told2 .given .1))
 
 byte-requires : tie.Need-byte-requires
 byte-requires c κs = search needs
@@ -64,7 +64,7 @@ returns-4 c =
     let s = c .before .before .before .before .before .before .before .before .before .before .before .before .before .before .before .args .text .now in
     let w = sym (c .before .before .before .before .before .before .before .before .before .before .before .starts-word .ensures) ∙ not-false _ (c .before .before .before .before .before .before .before .before .before .before .if1 .left) in
     let t = took token-shape (c .before .before .before .before .before .before .before .before .before .read-number .ensures) (c .before .before .before .before .before .before .before .a .given .1) in
-    let u = took token-shape (c .before .before .before .before .before .read-name .ensures) (c .before .before .before .b .given .1) in
+    let u = took name-shape (c .before .before .before .before .before .read-name .ensures) (c .before .before .before .b .given .1) in
     do-no-equals s w t u (λ z. c .if2 .taken (c .before .byte .ensures ∙ z))
 
 add-read-parameters : tie.Need-add-read-parameters
@@ -72,9 +72,9 @@ add-read-parameters c =
     let s = c .before .before .before .before .before .before .before .before .before .before .before .before .before .before .before .before .args .text .now in
     let w = sym (c .before .before .before .before .before .before .before .before .before .before .before .before .starts-word .ensures) ∙ not-false _ (c .before .before .before .before .before .before .before .before .before .before .before .if1 .left) in
     let t = took token-shape (c .before .before .before .before .before .before .before .before .before .before .read-number .ensures) (c .before .before .before .before .before .before .before .before .a .given .1) in
-    let u = took token-shape (c .before .before .before .before .before .before .read-name .ensures) (c .before .before .before .before .b .given .1) in
+    let u = took name-shape (c .before .before .before .before .before .before .read-name .ensures) (c .before .before .before .before .b .given .1) in
     let e = sym (c .before .before .byte .ensures) ∙ c .before .if2 .left in
-    omega (arith, do-inside s w t u e)
+    omega (arith, do-inside s w t u e, c .before .before .before .before .before .before .before .before .before .before .before .before .before .before .before .before .good)
 
 number-of-requires : tie.Need-number-of-requires
 number-of-requires c κs =
@@ -86,9 +86,9 @@ read-parameters-requires c κs =
     let s = c .before .before .before .before .before .before .before .before .before .before .before .before .before .before .before .before .before .args .text .now in
     let w = sym (c .before .before .before .before .before .before .before .before .before .before .before .before .before .starts-word .ensures) ∙ not-false _ (c .before .before .before .before .before .before .before .before .before .before .before .before .if1 .left) in
     let t = took token-shape (c .before .before .before .before .before .before .before .before .before .before .before .read-number .ensures) (c .before .before .before .before .before .before .before .before .before .a .given .1) in
-    let u = took token-shape (c .before .before .before .before .before .before .before .read-name .ensures) (c .before .before .before .before .before .b .given .1) in
+    let u = took name-shape (c .before .before .before .before .before .before .before .read-name .ensures) (c .before .before .before .before .before .b .given .1) in
     let e = sym (c .before .before .before .byte .ensures) ∙ c .before .before .if2 .left in
-    (do-inside s w t u e, search needs)
+    (do-inside s w t u e, c .before .before .before .before .before .before .before .before .before .before .before .before .before .before .before .before .before .pre)
 
 same-length : tie.Need-same-length
 same-length c = search needs
@@ -98,7 +98,7 @@ returns-5 c =
     let s = c .before .before .before .before .before .before .before .before .before .before .before .before .before .before .before .before .before .before .before .before .args .text .now in
     let w = sym (c .before .before .before .before .before .before .before .before .before .before .before .before .before .before .before .before .starts-word .ensures) ∙ not-false _ (c .before .before .before .before .before .before .before .before .before .before .before .before .before .before .before .if1 .left) in
     let t = took token-shape (c .before .before .before .before .before .before .before .before .before .before .before .before .before .before .read-number .ensures) (c .before .before .before .before .before .before .before .before .before .before .before .before .a .given .1) in
-    let u = took token-shape (c .before .before .before .before .before .before .before .before .before .before .read-name .ensures) (c .before .before .before .before .before .before .before .before .b .given .1) in
+    let u = took name-shape (c .before .before .before .before .before .before .before .before .before .before .read-name .ensures) (c .before .before .before .before .before .before .before .before .b .given .1) in
     let e = sym (c .before .before .before .before .before .before .byte .ensures) ∙ c .before .before .before .before .before .if2 .left in
     do-read s w t u e (c .before .before .before .number-of .ensures) (c .before .before .read-parameters .ensures)
 

@@ -5,7 +5,7 @@ use lib.ListN.{length-drop}
 use Rattle.rules_text.specs.Grammar.{anExpression}
 use Rattle.read_items.proofs.Given as given
 use Rattle.read_expressions.proofs.Going.{on-rest}
-use Rattle.read_dos.proofs.Loops.{parameter-plus, parameter-none, parameter-within, parameter-long, parameter-deep, parameter-read}
+use Rattle.read_dos.proofs.Loops.{parameter-plus, parameter-none, parameter-within, parameter-deep, parameter-constant, parameter-other, parameter-variable}
 use borrow.Author.Needs.{needs}
 use Rattle.read_dos.proofs.read_parameter.Statement.{statement}
 use Rattle.read_dos.proofs.read_parameter.Tie as tie
@@ -56,29 +56,16 @@ same-length-2 c = search needs
 
 returns-3 : tie.Need-returns-3
 returns-3 c =
-    let st = c .before .before .before .before .before .before .before .before .before .before .before .before .before in
+    let st = c .before .before .before .before .before .before .before .before .before .before .before .before .before .before in
     let s = st .args .text .now in
     let from = st .args .from in
     let le = st .pre .0 in
-    let h = on-rest anExpression s from (c .before .before .before .before .before .before .expression .ensures) in
-    let t = given.took h (c .before .before .at .given .1) in
-    parameter-long s from le (λ z. c .before .before .before .before .before .before .before .before .before .if1 .left (c .before .before .before .before .before .before .before .before .before .before .byte .ensures ∙ z)) t (c .if2 .taken)
+    let h = on-rest anExpression s from (c .before .before .before .before .before .before .before .expression .ensures) in
+    let t = given.took h (c .before .before .before .at .given .1) in
+    parameter-deep s from le (λ z. c .before .before .before .before .before .before .before .before .before .before .if1 .left (c .before .before .before .before .before .before .before .before .before .before .before .byte .ensures ∙ z)) t (c .if2 .taken)
 
-same-length-3 : tie.Need-same-length-3
-same-length-3 c = search needs
-
-returns-4 : tie.Need-returns-4
-returns-4 c =
-    let st = c .before .before .before .before .before .before .before .before .before .before .before .before .before .before .before in
-    let s = st .args .text .now in
-    let from = st .args .from in
-    let le = st .pre .0 in
-    let h = on-rest anExpression s from (c .before .before .before .before .before .before .before .before .expression .ensures) in
-    let t = given.took h (c .before .before .before .before .at .given .1) in
-    parameter-deep s from le (λ z. c .before .before .before .before .before .before .before .before .before .before .before .if1 .left (c .before .before .before .before .before .before .before .before .before .before .before .before .byte .ensures ∙ z)) t (c .if3 .taken)
-
-add-t11 : tie.Need-add-t11
-add-t11 c =
+add-t16 : tie.Need-add-t16
+add-t16 c =
     let st = c .before .before .before .before .before .before .before .before .before .before .before .before .before .before .before in
     let s = st .args .text .now in
     let from = st .args .from in
@@ -87,38 +74,97 @@ add-t11 c =
     let t = given.took h (c .before .before .before .before .at .given .1) in
     omega (arith, parameter-within s from le (λ z. c .before .before .before .before .before .before .before .before .before .before .before .if1 .left (c .before .before .before .before .before .before .before .before .before .before .before .before .byte .ensures ∙ z)) t)
 
-slice-read-t17 : tie.Need-slice-read-t17
-slice-read-t17 c =
+slice-read-t18 : tie.Need-slice-read-t18
+slice-read-t18 c =
     let st = c .before .before .before .before .before .before .before .before .before .before .before .before .before .before .before .before in
     let s = st .args .text .now in
     let from = st .args .from in
     let le = st .pre .0 in
     let h = on-rest anExpression s from (c .before .before .before .before .before .before .before .before .before .expression .ensures) in
     let t = given.took h (c .before .before .before .before .before .at .given .1) in
-    omega (arith, t .top, t .few, t .within, length-drop from s, le, st .pre .1, c .before .before .before .if2 .left)
+    omega (arith, t .top, t .few, t .within, length-drop from s, le, st .pre .1, c .before .if3 .taken)
 
-slice-read-t19 : tie.Need-slice-read-t19
-slice-read-t19 c =
-    let st = c .before .before .before .before .before .before .before .before .before .before .before .before .before .before .before .before .before in
+same-length-3 : tie.Need-same-length-3
+same-length-3 c = search needs
+
+returns-4 : tie.Need-returns-4
+returns-4 c =
+    let st = c .before .before .before .before .before .before .before .before .before .before .before .before .before .before .before .before in
     let s = st .args .text .now in
     let from = st .args .from in
     let le = st .pre .0 in
-    let h = on-rest anExpression s from (c .before .before .before .before .before .before .before .before .before .before .expression .ensures) in
-    let t = given.took h (c .before .before .before .before .before .before .at .given .1) in
-    omega (arith, t .top, t .few, t .within, length-drop from s, le, st .pre .1, c .before .before .before .before .if2 .left)
+    let h = on-rest anExpression s from (c .before .before .before .before .before .before .before .before .before .expression .ensures) in
+    let t = given.took h (c .before .before .before .before .before .at .given .1) in
+    parameter-constant s from le (λ z. c .before .before .before .before .before .before .before .before .before .before .before .before .if1 .left (c .before .before .before .before .before .before .before .before .before .before .before .before .before .byte .ensures ∙ z)) t (c .before .before .if2 .left) (c .before .if3 .taken)
 
 same-length-4 : tie.Need-same-length-4
 same-length-4 c = search needs
 
 returns-5 : tie.Need-returns-5
 returns-5 c =
+    let st = c .before .before .before .before .before .before .before .before .before .before .before .before .before .before .before .before in
+    let s = st .args .text .now in
+    let from = st .args .from in
+    let le = st .pre .0 in
+    let h = on-rest anExpression s from (c .before .before .before .before .before .before .before .before .before .expression .ensures) in
+    let t = given.took h (c .before .before .before .before .before .at .given .1) in
+    parameter-other s from le (λ z. c .before .before .before .before .before .before .before .before .before .before .before .before .if1 .left (c .before .before .before .before .before .before .before .before .before .before .before .before .before .byte .ensures ∙ z)) t (c .before .before .if2 .left) (c .before .if3 .left) (λ f g. c .if4 .taken f)
+
+slice-read-if5 : tie.Need-slice-read-if5
+slice-read-if5 c =
     let st = c .before .before .before .before .before .before .before .before .before .before .before .before .before .before .before .before .before in
     let s = st .args .text .now in
     let from = st .args .from in
     let le = st .pre .0 in
     let h = on-rest anExpression s from (c .before .before .before .before .before .before .before .before .before .before .expression .ensures) in
     let t = given.took h (c .before .before .before .before .before .before .at .given .1) in
-    parameter-read s from le (λ z. c .before .before .before .before .before .before .before .before .before .before .before .before .before .if1 .left (c .before .before .before .before .before .before .before .before .before .before .before .before .before .before .byte .ensures ∙ z)) t (c .before .before .before .before .if2 .left) (c .before .before .if3 .left)
+    omega (arith, t .top, t .few, t .within, length-drop from s, le, st .pre .1, c .before .if4 .left)
+
+same-length-5 : tie.Need-same-length-5
+same-length-5 c = search needs
+
+returns-6 : tie.Need-returns-6
+returns-6 c =
+    let st = c .before .before .before .before .before .before .before .before .before .before .before .before .before .before .before .before .before .before in
+    let s = st .args .text .now in
+    let from = st .args .from in
+    let le = st .pre .0 in
+    let h = on-rest anExpression s from (c .before .before .before .before .before .before .before .before .before .before .before .expression .ensures) in
+    let t = given.took h (c .before .before .before .before .before .before .before .at .given .1) in
+    parameter-other s from le (λ z. c .before .before .before .before .before .before .before .before .before .before .before .before .before .before .if1 .left (c .before .before .before .before .before .before .before .before .before .before .before .before .before .before .before .byte .ensures ∙ z)) t (c .before .before .before .before .if2 .left) (c .before .before .before .if3 .left) (λ f g. c .if5 .taken g)
+
+add-t11 : tie.Need-add-t11
+add-t11 c =
+    let st = c .before .before .before .before .before .before .before .before .before .before .before .before .before .before .before .before .before .before in
+    let s = st .args .text .now in
+    let from = st .args .from in
+    let le = st .pre .0 in
+    let h = on-rest anExpression s from (c .before .before .before .before .before .before .before .before .before .before .before .expression .ensures) in
+    let t = given.took h (c .before .before .before .before .before .before .before .at .given .1) in
+    omega (arith, parameter-within s from le (λ z. c .before .before .before .before .before .before .before .before .before .before .before .before .before .before .if1 .left (c .before .before .before .before .before .before .before .before .before .before .before .before .before .before .before .byte .ensures ∙ z)) t)
+
+name-at-requires : tie.Need-name-at-requires
+name-at-requires c κs =
+    let st = c .before .before .before .before .before .before .before .before .before .before .before .before .before .before .before .before .before .before .before in
+    let s = st .args .text .now in
+    let from = st .args .from in
+    let le = st .pre .0 in
+    let h = on-rest anExpression s from (c .before .before .before .before .before .before .before .before .before .before .before .before .expression .ensures) in
+    let t = given.took h (c .before .before .before .before .before .before .before .before .at .given .1) in
+    omega (arith, t .top, t .few, t .within, length-drop from s, le, st .pre .1, c .before .before .before .if4 .left)
+
+same-length-6 : tie.Need-same-length-6
+same-length-6 c = search needs
+
+returns-7 : tie.Need-returns-7
+returns-7 c =
+    let st = c .before .before .before .before .before .before .before .before .before .before .before .before .before .before .before .before .before .before .before .before in
+    let s = st .args .text .now in
+    let from = st .args .from in
+    let le = st .pre .0 in
+    let h = on-rest anExpression s from (c .before .before .before .before .before .before .before .before .before .before .before .before .before .expression .ensures) in
+    let t = given.took h (c .before .before .before .before .before .before .before .before .before .at .given .1) in
+    rw (c .name-at .ensures) (parameter-variable s from le (λ z. c .before .before .before .before .before .before .before .before .before .before .before .before .before .before .before .before .if1 .left (c .before .before .before .before .before .before .before .before .before .before .before .before .before .before .before .before .before .byte .ensures ∙ z)) t (c .before .before .before .before .before .before .if2 .left) (c .before .before .before .before .if4 .left) (c .before .before .if5 .left))
 
 pub read-parameter-spec : {M : Type 1} → statement M
 read-parameter-spec =
@@ -136,10 +182,16 @@ read-parameter-spec =
     returns-2
     same-length-2
     returns-3
+    add-t16
+    slice-read-t18
     same-length-3
     returns-4
-    add-t11
-    slice-read-t17
-    slice-read-t19
     same-length-4
-    returns-5)
+    returns-5
+    slice-read-if5
+    same-length-5
+    returns-6
+    add-t11
+    name-at-requires
+    same-length-6
+    returns-7)

@@ -1,5 +1,5 @@
 -- `read_elements::read_linear` meets its contract. Assumes nothing.
-use Rattle.read_tokens.proofs.Chains.{took, refused, token-shape}
+use Rattle.read_tokens.proofs.Chains.{took, refused, name-shape}
 use Rattle.read_elements.proofs.Parts.{addend-shape, linear-no-name, linear-no-addend, linear-read}
 use borrow.Author.Needs.{needs}
 use Rattle.read_elements.proofs.read_linear.Statement.{statement}
@@ -19,13 +19,13 @@ returns c =
     let st = c .before .before .before .before in
     let s = st .args .s .now in
     let a = st .args .from in
-    linear-no-name s a (st .pre) (refused token-shape (c .before .before .read-name .ensures) (c .enum-told .given .1))
+    linear-no-name s a (st .pre) (refused name-shape (c .before .before .read-name .ensures) (c .enum-told .given .1))
 
 read-addend-requires : tie.Need-read-addend-requires
 read-addend-requires c κs =
     let st = c .before .before .before .before .before in
     let a = st .args .from in
-    let t = took token-shape (c .before .before .before .read-name .ensures) (c .before .a .given .1) in
+    let t = took name-shape (c .before .before .before .read-name .ensures) (c .before .a .given .1) in
     t .upto .within
 
 enum-known-at : tie.Need-enum-known-at
@@ -39,7 +39,7 @@ returns-2 c =
     let st = c .before .before .before .before .before .before .before .before in
     let s = st .args .s .now in
     let a = st .args .from in
-    let t = took token-shape (c .before .before .before .before .before .before .read-name .ensures) (c .before .before .before .before .a .given .1) in
+    let t = took name-shape (c .before .before .before .before .before .before .read-name .ensures) (c .before .before .before .before .a .given .1) in
     linear-no-addend s a (st .pre) t (refused addend-shape (c .before .before .read-addend .ensures) (c .enum-told2 .given .1))
 
 of-both-requires : tie.Need-of-both-requires
@@ -53,7 +53,7 @@ returns-3 c =
     let st = c .before .before .before .before .before .before .before .before .before .before .before in
     let s = st .args .s .now in
     let a = st .args .from in
-    let t = took token-shape (c .before .before .before .before .before .before .before .before .before .read-name .ensures) (c .before .before .before .before .before .before .before .a .given .1) in
+    let t = took name-shape (c .before .before .before .before .before .before .before .before .before .read-name .ensures) (c .before .before .before .before .before .before .before .a .given .1) in
     linear-read s a (st .pre) t (took addend-shape (c .before .before .before .before .before .read-addend .ensures) (c .before .before .before .at .given .1)) (c .before .of-both .ensures) (c .of-both2 .ensures)
 
 pub read-linear-spec : {M : Type 1} → statement M

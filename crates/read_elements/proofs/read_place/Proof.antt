@@ -1,6 +1,6 @@
 -- `read_elements::read_place` meets its contract. Assumes nothing.
 use mathlib.Core.Path.{sym, _∙_}
-use Rattle.read_tokens.proofs.Chains.{took, refused, token-shape}
+use Rattle.read_tokens.proofs.Chains.{took, refused, name-shape}
 use Rattle.read_elements.proofs.Parts.{subscripts-shape, place-no-name, place-cell, place-bad, place-element}
 use borrow.Author.Needs.{needs}
 use Rattle.read_elements.proofs.read_place.Statement.{statement}
@@ -20,7 +20,7 @@ returns c =
     let st = c .before .before .before .before in
     let s = st .args .s .now in
     let a = st .args .from in
-    place-no-name s a (st .pre) (refused token-shape (c .before .before .read-name .ensures) (c .enum-told .given .1))
+    place-no-name s a (st .pre) (refused name-shape (c .before .before .read-name .ensures) (c .enum-told .given .1))
 
 byte-requires : tie.Need-byte-requires
 byte-requires c κs = search needs
@@ -30,14 +30,14 @@ returns-2 c =
     let st = c .before .before .before .before .before .before .before in
     let s = st .args .s .now in
     let a = st .args .from in
-    let t = took token-shape (c .before .before .before .before .before .read-name .ensures) (c .before .before .before .a .given .1) in
+    let t = took name-shape (c .before .before .before .before .before .read-name .ensures) (c .before .before .before .a .given .1) in
     place-cell s a (st .pre) t (λ z. c .if1 .taken (c .before .byte .ensures ∙ z))
 
 read-subscripts-requires : tie.Need-read-subscripts-requires
 read-subscripts-requires c κs =
     let st = c .before .before .before .before .before .before .before in
     let a = st .args .from in
-    let t = took token-shape (c .before .before .before .before .before .read-name .ensures) (c .before .before .before .a .given .1) in
+    let t = took name-shape (c .before .before .before .before .before .read-name .ensures) (c .before .before .before .a .given .1) in
     t .upto .within
 
 enum-known-at : tie.Need-enum-known-at
@@ -51,7 +51,7 @@ returns-3 c =
     let st = c .before .before .before .before .before .before .before .before .before .before in
     let s = st .args .s .now in
     let a = st .args .from in
-    let t = took token-shape (c .before .before .before .before .before .before .before .before .read-name .ensures) (c .before .before .before .before .before .before .a .given .1) in
+    let t = took name-shape (c .before .before .before .before .before .before .before .before .read-name .ensures) (c .before .before .before .before .before .before .a .given .1) in
     let op = sym (c .before .before .before .before .byte .ensures) ∙ c .before .before .before .if1 .left in
     place-bad s a (st .pre) t op (refused subscripts-shape (c .before .before .read-subscripts .ensures) (c .enum-told2 .given .1))
 
@@ -63,7 +63,7 @@ returns-4 c =
     let st = c .before .before .before .before .before .before .before .before .before .before .before .before in
     let s = st .args .s .now in
     let a = st .args .from in
-    let t = took token-shape (c .before .before .before .before .before .before .before .before .before .before .read-name .ensures) (c .before .before .before .before .before .before .before .before .a .given .1) in
+    let t = took name-shape (c .before .before .before .before .before .before .before .before .before .before .read-name .ensures) (c .before .before .before .before .before .before .before .before .a .given .1) in
     let op = sym (c .before .before .before .before .before .before .byte .ensures) ∙ c .before .before .before .before .before .if1 .left in
     place-element s a (st .pre) t op (took subscripts-shape (c .before .before .before .before .read-subscripts .ensures) (c .before .before .at .given .1)) (c .of-both .ensures)
 

@@ -54,13 +54,16 @@ returns-2 c =
     let t = took token-shape (c .before .before .before .before .before .before .read-number .ensures) (c .before .before .before .before .at .given .1) in
     subscript-times s a (st .pre) t (sym (c .before .before .byte .ensures) ∙ c .before .if1 .taken) (c .read-linear2 .ensures)
 
+no-name-requires : tie.Need-no-name-requires
+no-name-requires c κs = search needs
+
 returns-3 : tie.Need-returns-3
 returns-3 c =
-    let st = c .before .before .before .before .before .before .before in
+    let st = c .before .before .before .before .before .before .before .before in
     let s = st .args .s .now in
     let a = st .args .from in
-    let t = took token-shape (c .before .before .before .before .before .read-number .ensures) (c .before .before .before .at .given .1) in
-    subscript-constant s a (st .pre) t (λ z. c .if1 .left (c .before .byte .ensures ∙ z))
+    let t = took token-shape (c .before .before .before .before .before .before .read-number .ensures) (c .before .before .before .before .at .given .1) in
+    subscript-constant s a (st .pre) t (λ z. c .before .if1 .left (c .before .before .byte .ensures ∙ z)) (c .no-name .ensures)
 
 pub read-subscript-spec : {M : Type 1} → statement M
 read-subscript-spec =
@@ -76,4 +79,5 @@ read-subscript-spec =
     add-read-linear
     read-linear-requires-2
     returns-2
+    no-name-requires
     returns-3)

@@ -5,11 +5,11 @@ use borrow.Author.Needs.{needs}
 use Rattle.read_items.proofs.put_element.Statement.{statement}
 use Rattle.read_items.proofs.put_element.Tie as tie
 
-put-two-requires : tie.Need-put-two-requires
-put-two-requires c κs = search needs
+put-named-requires : tie.Need-put-named-requires
+put-named-requires c κs = search needs
 
-put-count-requires : tie.Need-put-count-requires
-put-count-requires c κs = search needs
+put-word-requires : tie.Need-put-word-requires
+put-word-requires c κs = search needs
 
 put-subscript-requires : tie.Need-put-subscript-requires
 put-subscript-requires c κs = search needs
@@ -23,14 +23,14 @@ same-length c = search needs
 returns : tie.Need-returns
 unfolding targetWords
 returns c =
-    put-more (c .before .before .before .before .before .before .before .before .before .before .before .before .before .before .before .before .before .put-two .ensures) (put-more (c .before .before .before .before .before .before .before .before .before .before .before .before .put-count .ensures) (put-more (c .before .before .before .before .before .before .before .put-subscript .ensures) (c .before .before .put-subscript2 .ensures)))
+    put-more (c .before .before .before .before .before .before .before .before .before .before .before .before .before .before .before .before .before .put-named .ensures) (put-more (c .before .before .before .before .before .before .before .before .before .before .before .before .put-word .ensures) (put-more (c .before .before .before .before .before .before .before .put-subscript .ensures) (c .before .before .put-subscript2 .ensures)))
 
 pub put-element-spec : {M : Type 1} → statement M
 put-element-spec =
     tie.close
     (tie.spec
-    put-two-requires
-    put-count-requires
+    put-named-requires
+    put-word-requires
     put-subscript-requires
     put-subscript-requires-2
     same-length

@@ -8,8 +8,8 @@ use Rattle.read_items.proofs.put_target.Tie as tie
 enum-known-target : tie.Need-enum-known-target
 enum-known-target c = search needs
 
-put-two-requires : tie.Need-put-two-requires
-put-two-requires c κs =
+put-named-requires : tie.Need-put-named-requires
+put-named-requires c κs =
     omega (arith, cell-room (c .before .before .target .given .1), c .before .before .before .before .before .pre)
 
 enum-known-target-2 : tie.Need-enum-known-target-2
@@ -24,7 +24,7 @@ same-length c = search needs
 
 returns : tie.Need-returns
 returns c =
-    put-cell (c .before .before .before .before .before .target .given .1) (c .before .before .put-two .ensures)
+    put-cell (c .before .before .before .before .before .target .given .1) (c .before .before .put-named .ensures)
 
 same-length-2 : tie.Need-same-length-2
 same-length-2 c = search needs
@@ -38,7 +38,7 @@ put-target-spec =
     tie.close
     (tie.spec
     enum-known-target
-    put-two-requires
+    put-named-requires
     enum-known-target-2
     put-element-requires
     same-length

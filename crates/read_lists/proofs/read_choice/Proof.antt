@@ -1,7 +1,7 @@
 -- `read_lists::read_choice` meets its contract. Assumes nothing.
 use mathlib.Core.Path.{sym, _∙_}
 use native.Mathlib.Omega.{arith}
-use Rattle.read_tokens.proofs.Chains.{took, refused, token-shape}
+use Rattle.read_tokens.proofs.Chains.{took, refused, name-shape}
 use Rattle.read_lists.proofs.Lists.{choice-open, choice-inside, choice-no-comma, choice-named, choice-no-name, choice-more, choice-few, choice-many, choice-read}
 use borrow.Author.Needs.{needs}
 use Rattle.read_lists.proofs.read_choice.Statement.{statement}
@@ -61,7 +61,7 @@ returns-3 c =
     let s = st .args .text .now in
     let c1 = sym (c .before .before .before .before .before .before .byte .ensures) ∙ c .before .before .before .before .before .if1 .left in
     let m = sym (c .before .before .before .before .byte2 .ensures) ∙ c .before .before .before .if2 .left in
-    choice-no-name s (st .args .from) (st .args .exits) c1 m (refused token-shape (c .before .before .read-name .ensures) (c .enum-told .given .1))
+    choice-no-name s (st .args .from) (st .args .exits) c1 m (refused name-shape (c .before .before .read-name .ensures) (c .enum-told .given .1))
 
 returns-4 : tie.Need-returns-4
 returns-4 c =
@@ -69,7 +69,7 @@ returns-4 c =
     let s = st .args .text .now in
     let c1 = sym (c .before .before .before .before .before .before .before .before .byte .ensures) ∙ c .before .before .before .before .before .before .before .if1 .left in
     let m = sym (c .before .before .before .before .before .before .byte2 .ensures) ∙ c .before .before .before .before .before .if2 .left in
-    let t = took token-shape (c .before .before .before .before .read-name .ensures) (c .before .before .at .given .1) in
+    let t = took name-shape (c .before .before .before .before .read-name .ensures) (c .before .before .at .given .1) in
     choice-more s (st .args .from) (st .args .exits) c1 m t (c .if3 .taken)
 
 returns-5 : tie.Need-returns-5
@@ -78,7 +78,7 @@ returns-5 c =
     let s = st .args .text .now in
     let c1 = sym (c .before .before .before .before .before .before .before .before .before .byte .ensures) ∙ c .before .before .before .before .before .before .before .before .if1 .left in
     let m = sym (c .before .before .before .before .before .before .before .byte2 .ensures) ∙ c .before .before .before .before .before .before .if2 .left in
-    let t = took token-shape (c .before .before .before .before .before .read-name .ensures) (c .before .before .before .at .given .1) in
+    let t = took name-shape (c .before .before .before .before .before .read-name .ensures) (c .before .before .before .at .given .1) in
     choice-few s (st .args .from) (st .args .exits) c1 m t (c .if4 .taken)
 
 returns-6 : tie.Need-returns-6
@@ -87,7 +87,7 @@ returns-6 c =
     let s = st .args .text .now in
     let c1 = sym (c .before .before .before .before .before .before .before .before .before .before .byte .ensures) ∙ c .before .before .before .before .before .before .before .before .before .if1 .left in
     let m = sym (c .before .before .before .before .before .before .before .before .byte2 .ensures) ∙ c .before .before .before .before .before .before .before .if2 .left in
-    let t = took token-shape (c .before .before .before .before .before .before .read-name .ensures) (c .before .before .before .before .at .given .1) in
+    let t = took name-shape (c .before .before .before .before .before .before .read-name .ensures) (c .before .before .before .before .at .given .1) in
     choice-many s (st .args .from) (st .args .exits) c1 m t (c .before .if4 .left) (c .if5 .taken)
 
 returns-7 : tie.Need-returns-7
@@ -96,7 +96,7 @@ returns-7 c =
     let s = st .args .text .now in
     let c1 = sym (c .before .before .before .before .before .before .before .before .before .before .byte .ensures) ∙ c .before .before .before .before .before .before .before .before .before .if1 .left in
     let m = sym (c .before .before .before .before .before .before .before .before .byte2 .ensures) ∙ c .before .before .before .before .before .before .before .if2 .left in
-    let t = took token-shape (c .before .before .before .before .before .before .read-name .ensures) (c .before .before .before .before .at .given .1) in
+    let t = took name-shape (c .before .before .before .before .before .before .read-name .ensures) (c .before .before .before .before .at .given .1) in
     choice-read s (st .args .from) (st .args .exits) c1 m t (c .before .before .if3 .left) (c .before .if4 .left) (c .if5 .left)
 
 pub read-choice-spec : {M : Type 1} → statement M

@@ -3,6 +3,7 @@ use mathlib.Core.Path.{_≡_, refl, sym, ap, _∙_}
 use Prim.Native.Nat.{ℕ, _+_, _*_, _-_, _^_, _≤_, _<_}
 use native.Mathlib.Omega.{arith}
 use lib.ListN.{take, drop, getD}
+use lib.Seq.{getD-drop}
 use Rattle.rules_deck.specs.Translation.{filled}
 use Rattle.read_tokens.specs.Words.{bytesFrom, nameWord}
 use Rattle.read_tokens.proofs.Values.{filled-length, filled-at, bytes-more, bytes-end, fits, grown}
@@ -11,10 +12,10 @@ use Rattle.read_tokens.proofs.name_word.Statement.{statement}
 use Rattle.read_tokens.proofs.name_word.Tie as tie
 
 abbrev Inv-loop : tie.InvT-loop
-Inv-loop s from k w₀ i₀ w i = (i ≤ 8) × (nameWord (take k (drop from s)) ≡ bytesFrom w (drop i (filled 8 (take k (drop from s))))) × (w < 256 ^ i)
+Inv-loop s from k skip w₀ i₀ w i = (i ≤ 8) × (nameWord (drop skip (take k (drop from s))) ≡ bytesFrom w (drop i (filled 8 (drop skip (take k (drop from s)))))) × (w < 256 ^ i)
 
 abbrev μ-loop : tie.MeasureT-loop
-μ-loop s from k w₀ i₀ w i = 8 - i
+μ-loop s from k skip w₀ i₀ w i = 8 - i
 
 loop-holds : tie.Need-loop-holds Inv-loop μ-loop
 unfolding nameWord
@@ -26,6 +27,11 @@ mul-w c =
     let lp = c .before .loop in
     let sm = fits (lp .w) (lp .i) (lp .inv .2) (omega (arith, c .loop-test .taken)) in
     omega (arith, sm)
+
+add-blank-filled : tie.Need-add-blank-filled Inv-loop μ-loop
+add-blank-filled c =
+    let st = c .before .before .before in
+    omega (arith, st .pre .1, c .loop-test .taken)
 
 blank-filled-requires : tie.Need-blank-filled-requires Inv-loop μ-loop
 blank-filled-requires c κs = search needs
@@ -45,15 +51,15 @@ loop-less c = search needs
 loop-again : tie.Need-loop-again Inv-loop μ-loop
 loop-again c =
     let st = c .before .before .before .before in
-    let v = take (st .args .k) (drop (st .args .from) (st .args .s .now)) in
+    let v = drop (st .args .skip) (take (st .args .k) (drop (st .args .from) (st .args .s .now))) in
     let lp = c .before .before .loop in
-    let b : c .blank-filled .result ≡ getD (filled 8 v) (lp .i) 0 = c .blank-filled .ensures .0 ∙ sym (filled-at v (lp .i) (c .before .loop-test .taken)) in
+    let b : c .blank-filled .result ≡ getD (filled 8 v) (lp .i) 0 = c .blank-filled .ensures .0 ∙ sym (getD-drop (st .args .skip) (take (st .args .k) (drop (st .args .from) (st .args .s .now))) (lp .i) 32) ∙ sym (filled-at v (lp .i) (c .before .loop-test .taken)) in
     (omega (arith, c .before .loop-test .taken), lp .inv .1 ∙ bytes-more (filled 8 v) (lp .w) (lp .i) (omega (arith, filled-length v, c .before .loop-test .taken)) ∙ ap (λ (x : ℕ). bytesFrom (lp .w * 256 + x) (drop (lp .i + 1) (filled 8 v))) (sym b), grown (lp .w) _ (lp .i) (lp .inv .2) (c .blank-filled .ensures .1))
 
 returns : tie.Need-returns Inv-loop μ-loop
 returns c =
     let st = c .before .before .before in
-    let v = take (st .args .k) (drop (st .args .from) (st .args .s .now)) in
+    let v = drop (st .args .skip) (take (st .args .k) (drop (st .args .from) (st .args .s .now))) in
     let lp = c .before .loop in
     sym (lp .inv .1 ∙ bytes-end (filled 8 v) (lp .w) (lp .i) (omega (arith, filled-length v, c .loop-test .left)))
 
@@ -65,6 +71,7 @@ name-word-spec =
     μ-loop
     loop-holds
     mul-w
+    add-blank-filled
     blank-filled-requires
     add-w
     add-i

@@ -23,20 +23,15 @@ mul-at c =
     let st = c .before .before .before .before in
     omega (arith, st .pre .0, c .loop-test .taken)
 
-add-name : tie.Need-add-name Inv-loop μ-loop
-add-name c =
+add-name-at : tie.Need-add-name-at Inv-loop μ-loop
+add-name-at c =
     let st = c .before .before .before .before in
     omega (arith, st .pre .0, c .loop-test .taken)
 
-mul-name : tie.Need-mul-name Inv-loop μ-loop
-mul-name c =
+name-at-requires : tie.Need-name-at-requires Inv-loop μ-loop
+name-at-requires c κs =
     let st = c .before .before .before .before in
-    omega (arith, st .pre .0, c .loop-test .taken, st .good)
-
-shared-slice-read-name : tie.Need-shared-slice-read-name Inv-loop μ-loop
-shared-slice-read-name c =
-    let st = c .before .before .before .before .before in
-    omega (arith, st .pre .0, c .before .loop-test .taken)
+    omega (arith, st .pre .0, c .loop-test .taken)
 
 add-take-array : tie.Need-add-take-array Inv-loop μ-loop
 add-take-array c =
@@ -86,7 +81,7 @@ same-length c =
 returns : tie.Need-returns Inv-loop μ-loop
 returns c =
     let st = c .before .before .before .before .before .before .before .before .before .before .before .before .before in
-    declaring-full (st .args .arrays .now) (st .args .table .now) (st .args .n) (st .args .cells) (st .args .m) (st .pre .0) (c .before .before .before .before .before .before .before .before .before .before .loop .inv) (c .before .before .before .before .before .before .before .before .before .loop-test .taken) (c .before .before .before .before .take-array .ensures) (c .enum-told .given .1)
+    declaring-full (st .args .arrays .now) (st .args .table .now) (st .args .n) (st .args .cells) (st .args .m) (st .pre .0) (c .before .before .before .before .before .before .before .before .before .before .loop .inv) (c .before .before .before .before .before .before .before .before .before .loop-test .taken) (c .before .before .before .before .before .before .before .before .name-at .ensures) (c .before .before .before .before .take-array .ensures) (c .enum-told .given .1)
 
 add-i : tie.Need-add-i Inv-loop μ-loop
 add-i c = search needs
@@ -97,7 +92,7 @@ loop-less c = search needs
 loop-again : tie.Need-loop-again Inv-loop μ-loop
 loop-again c =
     let st = c .before .before .before .before .before .before .before .before .before .before .before .before .before .before in
-    declaring-on (st .args .arrays .now) (st .args .table .now) (st .args .n) (st .args .cells) (st .args .m) (st .pre .0) (c .before .before .before .before .before .before .before .before .before .before .before .loop .inv) (c .before .before .before .before .before .before .before .before .before .before .loop-test .taken) (c .before .before .before .before .before .take-array .ensures) (c .before .a .given .1) (c .before .before .before .before .before .take-array .kept .0)
+    declaring-on (st .args .arrays .now) (st .args .table .now) (st .args .n) (st .args .cells) (st .args .m) (st .pre .0) (c .before .before .before .before .before .before .before .before .before .before .before .loop .inv) (c .before .before .before .before .before .before .before .before .before .before .loop-test .taken) (c .before .before .before .before .before .before .before .before .before .name-at .ensures) (c .before .before .before .before .before .take-array .ensures) (c .before .a .given .1) (c .before .before .before .before .before .take-array .kept .0)
 
 same-length-2 : tie.Need-same-length-2 Inv-loop μ-loop
 same-length-2 c =
@@ -116,9 +111,8 @@ declare-spec =
     μ-loop
     loop-holds
     mul-at
-    add-name
-    mul-name
-    shared-slice-read-name
+    add-name-at
+    name-at-requires
     add-take-array
     mul-take-array
     shared-slice-read-take-array

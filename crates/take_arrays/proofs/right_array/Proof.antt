@@ -41,14 +41,11 @@ returns c =
     let st = c .before .before .before .before .before .before .before in
     one-empty (st .args .arrays .now) (st .args .i) (st .args .table .now) (st .args .n) (c .before .some-cells .result) (c .before .some-cells .ensures) (not-true _ (c .if1 .taken))
 
-add-name : tie.Need-add-name
-add-name c = search needs
+add-name-at : tie.Need-add-name-at
+add-name-at c = search needs
 
-mul-name : tie.Need-mul-name
-mul-name c = search needs
-
-shared-slice-read-name : tie.Need-shared-slice-read-name
-shared-slice-read-name c = search needs
+name-at-requires : tie.Need-name-at-requires
+name-at-requires c κs = search needs
 
 is-new-requires : tie.Need-is-new-requires
 is-new-requires c κs =
@@ -58,7 +55,7 @@ is-new-requires c κs =
 returns-2 : tie.Need-returns-2
 returns-2 c =
     let st = c .before .before .before .before .before .before .before .before .before .before in
-    one-seen (st .args .arrays .now) (st .args .i) (st .args .table .now) (st .args .n) (c .before .is-new .result) (c .before .is-new .ensures) (not-true _ (c .if2 .taken))
+    one-seen (st .args .arrays .now) (st .args .i) (st .args .table .now) (st .args .n) (c .before .is-new .result) (c .before .before .name-at .ensures) (c .before .is-new .ensures) (not-true _ (c .if2 .taken))
 
 ends-in-f-requires : tie.Need-ends-in-f-requires
 ends-in-f-requires c κs = search needs
@@ -66,7 +63,7 @@ ends-in-f-requires c κs = search needs
 returns-3 : tie.Need-returns-3
 returns-3 c =
     let st = c .before .before .before .before .before .before .before .before .before .before .before in
-    one-last (st .args .arrays .now) (st .args .i) (st .args .table .now) (st .args .n) (c .before .before .before .before .before .some-cells .result) (c .before .before .is-new .result) (c .ends-in-f .result) (c .before .before .before .before .before .some-cells .ensures) (not-false _ (c .before .before .before .before .if1 .left)) (c .before .before .is-new .ensures) (not-false _ (c .before .if2 .left)) (c .ends-in-f .ensures)
+    one-last (st .args .arrays .now) (st .args .i) (st .args .table .now) (st .args .n) (c .before .before .before .before .before .some-cells .result) (c .before .before .is-new .result) (c .ends-in-f .result) (c .before .before .before .name-at .ensures) (c .before .before .before .before .before .some-cells .ensures) (not-false _ (c .before .before .before .before .if1 .left)) (c .before .before .is-new .ensures) (not-false _ (c .before .if2 .left)) (c .ends-in-f .ensures)
 
 pub right-array-spec : {M : Type 1} → statement M
 right-array-spec =
@@ -83,9 +80,8 @@ right-array-spec =
     shared-slice-read-some-cells-3
     some-cells-requires
     returns
-    add-name
-    mul-name
-    shared-slice-read-name
+    add-name-at
+    name-at-requires
     is-new-requires
     returns-2
     ends-in-f-requires

@@ -6,8 +6,8 @@ use borrow.Author.Needs.{needs}
 use Rattle.take_code.proofs.choose_exit.Statement.{statement}
 use Rattle.take_code.proofs.choose_exit.Tie as tie
 
-cell-word-requires : tie.Need-cell-word-requires
-cell-word-requires c κs = search needs
+cell-name-requires : tie.Need-cell-name-requires
+cell-name-requires c κs = search needs
 
 load-requires : tie.Need-load-requires
 load-requires c κs = search needs
@@ -24,7 +24,7 @@ same-length c = search needs
 returns : tie.Need-returns
 returns c =
     let st = c .before .before .before .before .before .before .before .before .before in
-    (grows-full 0 _, choose-full (st .pre .1 .1 .1) (c .before .before .before .before .before .before .cell-word .ensures) (c .before .before .before .before .load .ensures .1) (c .enum-told .given .1))
+    (grows-full 0 _, choose-full (st .pre .1 .1 .1) (c .before .before .before .before .before .before .cell-name .ensures) (c .before .before .before .before .load .ensures .1) (c .enum-told .given .1))
 
 choose-requires : tie.Need-choose-requires
 choose-requires c κs =
@@ -37,13 +37,13 @@ same-length-2 c = search needs
 returns-2 : tie.Need-returns-2
 returns-2 c =
     let st = c .before .before .before .before .before .before .before .before .before .before .before .before .before .before in
-    (grows-then (c .before .before .before .before .before .before .before .before .before .load .ensures .0) (c .before .before .before .before .before .m .given .1) (c .before .before .choose .ensures .0), choose-then (st .pre .1 .1 .1) (c .before .before .before .before .before .before .before .before .before .before .before .cell-word .ensures) (c .before .before .before .before .before .before .before .before .before .load .ensures .1) (c .before .before .before .before .before .m .given .1) (c .before .before .choose .ensures .1))
+    (grows-then (c .before .before .before .before .before .before .before .before .before .load .ensures .0) (c .before .before .before .before .before .m .given .1) (c .before .before .choose .ensures .0), choose-then (st .pre .1 .1 .1) (c .before .before .before .before .before .before .before .before .before .before .before .cell-name .ensures) (c .before .before .before .before .before .before .before .before .before .load .ensures .1) (c .before .before .before .before .before .m .given .1) (c .before .before .choose .ensures .1))
 
 pub choose-exit-spec : {M : Type 1} → statement M
 choose-exit-spec =
     tie.close
     (tie.spec
-    cell-word-requires
+    cell-name-requires
     load-requires
     enum-known-m
     enum-told

@@ -1,19 +1,20 @@
 -- `take_name_table::is_entry` meets its contract. Assumes nothing.
+use borrow.Author.Tests.{not-true, not-false}
 use Rattle.take_name_table.proofs.Leaves.{entry-not, entry-kind}
 use borrow.Author.Needs.{needs}
 use Rattle.take_name_table.proofs.is_entry.Statement.{statement}
 use Rattle.take_name_table.proofs.is_entry.Tie as tie
 
-mul-if1 : tie.Need-mul-if1
-mul-if1 c = search needs
+name-at-requires : tie.Need-name-at-requires
+name-at-requires c κs = search needs
 
-shared-slice-read-if1 : tie.Need-shared-slice-read-if1
-shared-slice-read-if1 c = search needs
+same-name-requires : tie.Need-same-name-requires
+same-name-requires c κs = search needs
 
 returns : tie.Need-returns
 returns c =
-    let st = c .before .before .before in
-    entry-not (st .args .arrays) (st .args .name) (st .args .table .now) (st .args .at) (c .if1 .taken)
+    let st = c .before .before .before .before in
+    entry-not (st .args .arrays) (st .args .name) (st .args .table .now) (st .args .at) (c .before .before .name-at .ensures) (c .before .same-name .ensures) (not-true _ (c .if1 .taken))
 
 add-of-kind : tie.Need-add-of-kind
 add-of-kind c = search needs
@@ -29,15 +30,15 @@ of-kind-requires c κs = search needs
 
 returns-2 : tie.Need-returns-2
 returns-2 c =
-    let st = c .before .before .before .before .before in
-    entry-kind (st .args .arrays) (st .args .name) (st .args .table .now) (st .args .at) (c .before .before .if1 .left) (c .of-kind .ensures)
+    let st = c .before .before .before .before .before .before in
+    entry-kind (st .args .arrays) (st .args .name) (st .args .table .now) (st .args .at) (c .before .before .before .before .name-at .ensures) (c .before .before .before .same-name .ensures) (not-false _ (c .before .before .if1 .left)) (c .of-kind .ensures)
 
 pub is-entry-spec : {M : Type 1} → statement M
 is-entry-spec =
     tie.close
     (tie.spec
-    mul-if1
-    shared-slice-read-if1
+    name-at-requires
+    same-name-requires
     returns
     add-of-kind
     mul-of-kind

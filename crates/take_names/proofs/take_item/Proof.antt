@@ -3,7 +3,7 @@ use mathlib.Core.Path.{ap, _∙_}
 use native.Mathlib.Omega.{arith}
 use Rattle.take_name_table.specs.Find.{itemLength}
 use Rattle.take_name_table.proofs.Fronts.{front, front-long}
-use Rattle.take_names.proofs.Takes.{within-names, takes-plain, takes-none, takes-full, takes-both}
+use Rattle.take_names.proofs.Takes.{within-names, name-as, any-as, takes-plain, takes-none, takes-full, takes-both}
 use borrow.Author.Needs.{needs}
 use Rattle.take_names.proofs.take_item.Statement.{statement}
 use Rattle.take_names.proofs.take_item.Tie as tie
@@ -11,13 +11,13 @@ use Rattle.take_names.proofs.take_item.Tie as tie
 shared-slice-read-kind : tie.Need-shared-slice-read-kind
 shared-slice-read-kind c = search needs
 
-shared-slice-read-take-name : tie.Need-shared-slice-read-take-name
-shared-slice-read-take-name c =
-    let st = c .before .before .before .before .before .before in
+name-at-requires : tie.Need-name-at-requires
+name-at-requires c κs =
+    let st = c .before .before .before .before .before in
     let items = st .args .items .now in
     let w = st .pre .0 .0 in
     let long = front-long (front items (w .items) (w .are) (st .pre .0 .1)) in
-    let e = ap itemLength (c .before .before .if1 .taken) in
+    let e = ap itemLength (c .before .if1 .taken) in
     omega (arith, long, e)
 
 take-name-requires : tie.Need-take-name-requires
@@ -35,7 +35,7 @@ returns c =
     let t = st .args .table .now in
     let n = st .args .n in
     let cells = st .args .cells in
-    takes-plain items t n cells _ (c .before .before .take-name .result) (c .before .before .before .before .before .if1 .taken) (c .before .before .take-name .ensures)
+    takes-plain items t n cells _ (c .before .before .take-name .result) (c .before .before .before .before .before .if1 .taken) (name-as (c .before .before .before .name-at .ensures) (c .before .before .take-name .ensures))
 
 returns-2 : tie.Need-returns-2
 returns-2 c =
@@ -46,13 +46,16 @@ returns-2 c =
     let cells = st .args .cells in
     takes-none items t n cells (c .before .if1 .left) (c .if2 .taken) (st .pre .1 .1 .0) (st .pre .1 .1 .1)
 
-shared-slice-read-take-any : tie.Need-shared-slice-read-take-any
-shared-slice-read-take-any c =
-    let st = c .before .before .before .before .before .before .before in
+add-name-at : tie.Need-add-name-at
+add-name-at c = search needs
+
+name-at-requires-2 : tie.Need-name-at-requires-2
+name-at-requires-2 c κs =
+    let st = c .before .before .before .before .before in
     let items = st .args .items .now in
     let w = st .pre .0 .0 in
     let long = front-long (front items (w .items) (w .are) (st .pre .0 .1)) in
-    let e = ap itemLength (c .before .before .if2 .left) in
+    let e = ap itemLength (c .if2 .left) in
     omega (arith, long, e)
 
 take-any-requires : tie.Need-take-any-requires
@@ -76,15 +79,18 @@ returns-3 c =
     let t = st .args .table .now in
     let n = st .args .n in
     let cells = st .args .cells in
-    takes-full items t n cells _ (c .before .before .before .before .take-any .result) (c .before .before .before .before .before .before .before .if2 .left) (c .before .before .before .before .take-any .ensures) (c .enum-told .given .1)
+    takes-full items t n cells _ (c .before .before .before .before .take-any .result) (c .before .before .before .before .before .before .before .if2 .left) (any-as (c .before .before .before .before .before .before .name-at2 .ensures) (c .before .before .before .before .take-any .ensures)) (c .enum-told .given .1)
 
-shared-slice-read-take-any-2 : tie.Need-shared-slice-read-take-any-2
-shared-slice-read-take-any-2 c =
-    let st = c .before .before .before .before .before .before .before .before .before .before .before .before .before .before .before in
+add-name-at-2 : tie.Need-add-name-at-2
+add-name-at-2 c = search needs
+
+name-at-requires-3 : tie.Need-name-at-requires-3
+name-at-requires-3 c κs =
+    let st = c .before .before .before .before .before .before .before .before .before .before .before .before .before .before in
     let items = st .args .items .now in
     let w = st .pre .0 .0 in
     let long = front-long (front items (w .items) (w .are) (st .pre .0 .1)) in
-    let e = ap itemLength (c .before .before .before .before .before .before .before .before .before .before .if2 .left) in
+    let e = ap itemLength (c .before .before .before .before .before .before .before .before .before .if2 .left) in
     omega (arith, long, e)
 
 take-any-requires-2 : tie.Need-take-any-requires-2
@@ -102,25 +108,27 @@ returns-4 c =
     let t = st .args .table .now in
     let n = st .args .n in
     let cells = st .args .cells in
-    takes-both items t n cells _ _ _ _ (c .before .before .before .before .before .before .before .before .before .before .take-any .result) (c .before .before .take-any2 .result) (c .before .before .before .before .before .before .before .before .before .before .before .before .before .if2 .left) (c .before .before .before .before .before .before .before .before .before .before .take-any .ensures) (c .before .before .before .before .before .before .a .given .1) (c .before .before .take-any2 .ensures)
+    takes-both items t n cells _ _ _ _ (c .before .before .before .before .before .before .before .before .before .before .take-any .result) (c .before .before .take-any2 .result) (c .before .before .before .before .before .before .before .before .before .before .before .before .before .if2 .left) (any-as (c .before .before .before .before .before .before .before .before .before .before .before .before .name-at2 .ensures) (c .before .before .before .before .before .before .before .before .before .before .take-any .ensures)) (c .before .before .before .before .before .before .a .given .1) (any-as (c .before .before .before .name-at3 .ensures) (c .before .before .take-any2 .ensures))
 
 pub take-item-spec : {M : Type 1} → statement M
 take-item-spec =
     tie.close
     (tie.spec
     shared-slice-read-kind
-    shared-slice-read-take-name
+    name-at-requires
     take-name-requires
     same-length
     returns
     returns-2
-    shared-slice-read-take-any
+    add-name-at
+    name-at-requires-2
     take-any-requires
     enum-known-a
     enum-told
     same-length-2
     returns-3
-    shared-slice-read-take-any-2
+    add-name-at-2
+    name-at-requires-3
     take-any-requires-2
     same-length-3
     returns-4)

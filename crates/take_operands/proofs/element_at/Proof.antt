@@ -13,12 +13,12 @@ subscript-at-requires-2 c κs = search needs
 shared-slice-read-t6 : tie.Need-shared-slice-read-t6
 shared-slice-read-t6 c = search needs
 
-shared-slice-read-t6-2 : tie.Need-shared-slice-read-t6-2
-shared-slice-read-t6-2 c = search needs
+name-at-requires : tie.Need-name-at-requires
+name-at-requires c κs = search needs
 
 returns : tie.Need-returns
 returns c =
-    element-is (c .before .before .before .subscript-at .ensures) (c .before .before .subscript-at2 .ensures)
+    element-is (c .name-at .ensures) (c .before .before .before .subscript-at .ensures) (c .before .before .subscript-at2 .ensures)
 
 pub element-at-spec : {M : Type 1} → statement M
 element-at-spec =
@@ -27,5 +27,5 @@ element-at-spec =
     subscript-at-requires
     subscript-at-requires-2
     shared-slice-read-t6
-    shared-slice-read-t6-2
+    name-at-requires
     returns)

@@ -14,8 +14,8 @@ returns-2 : tie.Need-returns-2
 returns-2 c =
     (counted-full (c .before .before .if1 .left) (c .if2 .taken), enters-full)
 
-cell-word-requires : tie.Need-cell-word-requires
-cell-word-requires c κs = search needs
+cell-name-requires : tie.Need-cell-name-requires
+cell-name-requires c κs = search needs
 
 cell-of-requires : tie.Need-cell-of-requires
 cell-of-requires c κs = search needs
@@ -49,7 +49,7 @@ returns-3 c =
     let st = c .before .before .before .before .before .before .before .before .before .before .before .before .before .before .before .before .before .before .before in
     let h = st .pre in (
       counted-one (c .before .before .before .before .before .before .before .before .before .before .before .before .before .before .if1 .left) (c .before .before .before .before .before .before .before .before .before .before .before .before .if2 .left) (h .fit) (h .room) (c .with-do .ensures),
-      enters-one (c .before .before .before .before .before .before .before .before .before .before .before .before .before .before .if1 .left) (c .before .before .before .before .before .before .before .before .before .before .before .cell-word .ensures) (c .before .before .before .before .before .before .before .before .before .before .cell-of .ensures) (c .before .before .before .before .before .before .before .put-do .ensures) (c .before .before .before .put-loop .ensures) (c .with-do .ensures),
+      enters-one (c .before .before .before .before .before .before .before .before .before .before .before .before .before .before .if1 .left) (c .before .before .before .before .before .before .before .before .before .before .before .cell-name .ensures) (c .before .before .before .before .before .before .before .before .before .before .cell-of .ensures) (c .before .before .before .before .before .before .before .put-do .ensures) (c .before .before .before .put-loop .ensures) (c .with-do .ensures),
     )
 
 pub enter-do-spec : {M : Type 1} → statement M
@@ -58,7 +58,7 @@ enter-do-spec =
     (tie.spec
     returns
     returns-2
-    cell-word-requires
+    cell-name-requires
     cell-of-requires
     sub-limit
     cast-limit

@@ -4,6 +4,9 @@ use borrow.Author.Needs.{needs}
 use Rattle.take_plans.proofs.plan_of.Statement.{statement}
 use Rattle.take_plans.proofs.plan_of.Tie as tie
 
+no-name-requires : tie.Need-no-name-requires
+no-name-requires c κs = search needs
+
 enum-known-s : tie.Need-enum-known-s
 enum-known-s c = search needs
 
@@ -69,81 +72,82 @@ make-requires-10 c κs = search needs
 
 returns : tie.Need-returns
 returns c =
-    let st = c .before .before .before .before .before in
+    let st = c .before .before .before .before .before .before in
     let l = st .args .items .now in
     let s = st .args .s in
     of-assignment l s _ _ (c .before .before .s .given .1) (c .make .ensures)
 
 returns-2 : tie.Need-returns-2
 returns-2 c =
-    let st = c .before .before .before .before .before in
+    let st = c .before .before .before .before .before .before in
     let l = st .args .items .now in
     let s = st .args .s in
-    of-go-to l s _ _ (c .before .before .s2 .given .1) (c .make2 .ensures)
+    of-go-to l s _ _ (c .before .before .s2 .given .1) (c .before .before .before .before .no-name .ensures) (c .make2 .ensures)
 
 returns-3 : tie.Need-returns-3
 returns-3 c =
-    let st = c .before .before .before .before .before in
+    let st = c .before .before .before .before .before .before .before in
     let l = st .args .items .now in
     let s = st .args .s in
-    of-computed l s _ _ (c .before .before .s3 .given .1) (c .make3 .ensures)
+    of-computed l s _ _ (c .before .before .before .s3 .given .1) (c .make3 .ensures)
 
 returns-4 : tie.Need-returns-4
 returns-4 c =
-    let st = c .before .before .before .before .before in
+    let st = c .before .before .before .before .before .before in
     let l = st .args .items .now in
     let s = st .args .s in
-    of-if l s _ _ (c .before .before .s4 .given .1) (c .make4 .ensures)
+    of-if l s _ _ (c .before .before .s4 .given .1) (c .before .before .before .before .no-name .ensures) (c .make4 .ensures)
 
 same-length : tie.Need-same-length
 same-length c = search needs
 
 returns-5 : tie.Need-returns-5
 returns-5 c =
-    let st = c .before .before .before .before .before .before .before .before .before in
+    let st = c .before .before .before .before .before .before .before .before .before .before .before in
     let l = st .args .items .now in
     let s = st .args .s in
-    of-do l _ s _ _ _ (c .before .before .before .before .before .before .s5 .given .1) (c .before .before .before .put-parameters .ensures) (c .make5 .ensures)
+    of-do l _ s _ _ _ (c .before .before .before .before .before .before .before .s5 .given .1) (c .before .before .before .before .put-parameters .ensures) (c .make5 .ensures)
 
 returns-6 : tie.Need-returns-6
 returns-6 c =
-    let st = c .before .before .before .before in
-    let l = st .args .items .now in
-    let s = st .args .s in
-    of-continue l s _ (c .before .enum-told .given .1) (c .make6 .ensures)
-
-returns-7 : tie.Need-returns-7
-returns-7 c =
-    let st = c .before .before .before .before in
-    let l = st .args .items .now in
-    let s = st .args .s in
-    of-stop l s _ (c .before .enum-told2 .given .1) (c .make7 .ensures)
-
-returns-8 : tie.Need-returns-8
-returns-8 c =
-    let st = c .before .before .before .before in
-    let l = st .args .items .now in
-    let s = st .args .s in
-    of-end l s _ (c .before .enum-told3 .given .1) (c .make8 .ensures)
-
-returns-9 : tie.Need-returns-9
-returns-9 c =
     let st = c .before .before .before .before .before in
     let l = st .args .items .now in
     let s = st .args .s in
-    of-dimension l s _ _ (c .before .before .s6 .given .1) (c .make9 .ensures)
+    of-continue l s _ (c .before .enum-told .given .1) (c .before .before .before .no-name .ensures) (c .make6 .ensures)
+
+returns-7 : tie.Need-returns-7
+returns-7 c =
+    let st = c .before .before .before .before .before in
+    let l = st .args .items .now in
+    let s = st .args .s in
+    of-stop l s _ (c .before .enum-told2 .given .1) (c .before .before .before .no-name .ensures) (c .make7 .ensures)
+
+returns-8 : tie.Need-returns-8
+returns-8 c =
+    let st = c .before .before .before .before .before in
+    let l = st .args .items .now in
+    let s = st .args .s in
+    of-end l s _ (c .before .enum-told3 .given .1) (c .before .before .before .no-name .ensures) (c .make8 .ensures)
+
+returns-9 : tie.Need-returns-9
+returns-9 c =
+    let st = c .before .before .before .before .before .before in
+    let l = st .args .items .now in
+    let s = st .args .s in
+    of-dimension l s _ _ (c .before .before .s6 .given .1) (c .before .before .before .before .no-name .ensures) (c .make9 .ensures)
 
 returns-10 : tie.Need-returns-10
 returns-10 c =
-    let st = c .before .before .before .before in
+    let st = c .before .before .before .before .before in
     let l = st .args .items .now in
     let s = st .args .s in
-    of-bad l s _ (c .before .enum-told4 .given .1) (c .make10 .ensures)
+    of-bad l s _ (c .before .enum-told4 .given .1) (c .before .before .before .no-name .ensures) (c .make10 .ensures)
 
 pub plan-of-spec : {M : Type 1} → statement M
 plan-of-spec =
     tie.close
     (tie.spec
+    no-name-requires
     enum-known-s
     make-requires
     enum-known-s-2

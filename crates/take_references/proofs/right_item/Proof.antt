@@ -3,7 +3,7 @@ use mathlib.Core.Path.{ap}
 use native.Mathlib.Omega.{arith}
 use Rattle.take_name_table.specs.Find.{itemLength}
 use Rattle.take_name_table.proofs.Fronts.{front, front-long}
-use Rattle.take_references.proofs.Rights.{right-plain, right-element, right-other}
+use Rattle.take_references.proofs.Rights.{holds-as, right-plain, right-element, right-other}
 use borrow.Author.Needs.{needs}
 use Rattle.take_references.proofs.right_item.Statement.{statement}
 use Rattle.take_references.proofs.right_item.Tie as tie
@@ -11,13 +11,13 @@ use Rattle.take_references.proofs.right_item.Tie as tie
 shared-slice-read-kind : tie.Need-shared-slice-read-kind
 shared-slice-read-kind c = search needs
 
-shared-slice-read-holds : tie.Need-shared-slice-read-holds
-shared-slice-read-holds c =
-    let st = c .before .before .before .before .before in
+name-at-requires : tie.Need-name-at-requires
+name-at-requires c κs =
+    let st = c .before .before .before .before in
     let items = st .args .items .now in
     let w = st .pre .0 .0 in
     let long = front-long (front items (w .items) (w .are) (st .pre .0 .1)) in
-    let e = ap itemLength (c .before .if1 .taken) in
+    let e = ap itemLength (c .if1 .taken) in
     omega (arith, long, e)
 
 holds-requires : tie.Need-holds-requires
@@ -29,7 +29,7 @@ returns c =
     let items = st .args .items .now in
     let t = st .args .table .now in
     let n = st .args .n in
-    right-plain items t n (c .holds .result) (c .before .before .if1 .taken) (c .holds .ensures)
+    right-plain items t n (c .holds .result) (c .before .before .if1 .taken) (holds-as (c .before .name-at .ensures) (c .holds .ensures))
 
 right-place-requires : tie.Need-right-place-requires
 right-place-requires c κs =
@@ -61,7 +61,7 @@ right-item-spec =
     tie.close
     (tie.spec
     shared-slice-read-kind
-    shared-slice-read-holds
+    name-at-requires
     holds-requires
     returns
     right-place-requires

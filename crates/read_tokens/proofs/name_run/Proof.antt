@@ -1,4 +1,4 @@
--- `read_tokens::name` meets its contract. Assumes nothing.
+-- `read_tokens::name_run` meets its contract. Assumes nothing.
 use mathlib.Core.Path.{sym, ap, _∙_}
 use Prim.Native.Nat.{ℕ, _+_}
 use native.Mathlib.Omega.{arith}
@@ -7,8 +7,8 @@ use Rattle.rules_text.specs.Tokens.{isLetterOrDigit}
 use Rattle.rules_text.proofs.Readers.{run-le}
 use Rattle.read_tokens.proofs.Runs.{name-end, name-other, name-more}
 use borrow.Author.Needs.{needs}
-use Rattle.read_tokens.proofs.name.Statement.{statement}
-use Rattle.read_tokens.proofs.name.Tie as tie
+use Rattle.read_tokens.proofs.name_run.Statement.{statement}
+use Rattle.read_tokens.proofs.name_run.Tie as tie
 
 shared-slice-read-is-letter : tie.Need-shared-slice-read-is-letter
 shared-slice-read-is-letter c = search needs
@@ -46,8 +46,8 @@ returns-3 c =
     let a = c .before .before .args .from in
     sym (name-end s a (c .if1 .left))
 
-pub name-spec : {M : Type 1} → statement M
-name-spec =
+pub name-run-spec : {M : Type 1} → statement M
+name-run-spec =
     tie.close
     (tie.spec
     shared-slice-read-is-letter
