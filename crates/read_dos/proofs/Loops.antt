@@ -105,9 +105,9 @@ shown (bin o x y) b d q =
     let both = length-append (flat x) (flat y) in
     neither refl (λ l. omega (arith, l, long, both))
     (λ l h.
-      let one = first-of (flat x ++ flat y) (opItem o ∷ []) (omega (arith, both)) ∙ first-of (flat x) (flat y) two in
-      let five = five-words x (sym one ∙ sym (at b (length ((flat x ++ flat y) ++ opItem o ∷ [])) 0 (omega (arith, long, both)) q) ∙ h) in
-      omega (arith, l, long, both, five))
+    let one = first-of (flat x ++ flat y) (opItem o ∷ []) (omega (arith, both)) ∙ first-of (flat x) (flat y) two in
+    let five = five-words x (sym one ∙ sym (at b (length ((flat x ++ flat y) ++ opItem o ∷ [])) 0 (omega (arith, long, both)) q) ∙ h) in
+    omega (arith, l, long, both, five))
 
 one-is : (e : Expr) → isParameter e ≡ true → levels e ≡ 0
 one-is (con c) i = refl

@@ -155,8 +155,7 @@ pub fn read_do(text: &[u8], items: &mut [u64]) -> Statement
     else {
         return Statement::Bad;
     };
-    let GotName::Read { at: b, name, sizes } = read_tokens::read_name(text, a)
-    else {
+    let GotName::Read { at: b, name, sizes } = read_tokens::read_name(text, a) else {
         return Statement::Bad;
     };
     if read_tokens::byte(text, b) != b'=' {

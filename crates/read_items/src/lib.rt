@@ -11,13 +11,14 @@ use read_elements::Element;
 use read_elements::GotPlace;
 use read_elements::Subscript;
 use read_elements::Target;
-use read_tokens::Name;
 use read_tokens::NAME_WORDS;
+use read_tokens::Name;
 use read_tokens::Sizes;
 use read_tokens::Token;
 
 // Words of a name's item and of an element's.
 pub const NAME_ITEM: usize = 1 + NAME_WORDS;
+
 pub const ELEMENT_ITEM: usize = 2 + NAME_WORDS + 2 * (NAME_WORDS + 3);
 
 // How many bytes were taken, how many words the table has then, and the sizes; or that the text is not of the form.

@@ -6,15 +6,15 @@ ghost use Rattle.rules_deck.specs.Deck as book;
 ghost use Rattle.take_arrays.specs.One.{EndsInF, isNamed, someWords, IsNew, RightArray, TakesArray};
 ghost use Rattle.take_arrays.specs.Arrays.{Dimensions, Declares};
 use limits::NAMES;
-use take_name_table::Grown;
-
-use read_tokens::Name;
 use read_tokens::NAME_WORDS;
+use read_tokens::Name;
+use take_name_table::Grown;
 
 pub const ARRAY_WORDS: usize = NAME_WORDS + 3;
 
 // Where an array has its rows and its columns.
 const ROWS: usize = NAME_WORDS + 1;
+
 const COLUMNS: usize = NAME_WORDS + 2;
 
 const CELLS: u64 = limits::CELLS as u64;

@@ -29,7 +29,7 @@ heldWords at (hidden q ∷ held) = heldWords (at + 2) held
 abbrev pub dimsHeld : List Held → Name → Dims
 dimsHeld held v = dimsIn (arraysHeld held) v
 
--- shorter than its eight bytes, each a byte and none a blank: the eight bytes tell it
+-- shorter than eight bytes, each a byte and none a blank: its words tell it, and the first of them does
 pub record Told (v : Name) : Type 0 where
   pub short : length v < 8
   pub solid : Each (λ (c : ℕ). c ≡ 32 → ⊥) v

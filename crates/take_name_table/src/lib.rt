@@ -7,22 +7,25 @@ ghost use Rattle.read_tokens.specs.Words.{nameWords};
 ghost use Rattle.read_items.specs.Parsed.{Put};
 ghost use Rattle.take_name_table.specs.Find.{ofKind, isEntry, firstEntry, itemLength};
 ghost use Rattle.take_name_table.specs.Lookups.{Holds, CellOf, ArrayOf};
-
 use read_items::ELEMENT_ITEM;
 use read_items::NAME_ITEM;
-use read_tokens::Name;
 use read_tokens::NAME_WORDS;
+use read_tokens::Name;
 
 pub const ENTRY_WORDS: usize = NAME_WORDS + 3;
 
 // Where an element's item has how many subscripts there are, and each of the two.
 pub const COUNT_AT: usize = NAME_ITEM;
+
 pub const FIRST_AT: usize = COUNT_AT + 1;
+
 pub const SECOND_AT: usize = FIRST_AT + NAME_WORDS + 3;
 
 // Where an entry has its first cell, its rows and its columns.
 pub const FIRST: usize = NAME_WORDS;
+
 pub const ROWS: usize = NAME_WORDS + 1;
+
 pub const COLUMNS: usize = NAME_WORDS + 2;
 
 const CELLS: u64 = limits::CELLS as u64;

@@ -10,7 +10,7 @@ use Rattle.rules_shared.specs.Lists.{Each, each-none, each-more}
 use Rattle.rules_shared.proofs.EachLaws.{each-one, each-both}
 use Rattle.rules_text.specs.Trees.{Name, Subscript, constant, linear, Subscripts, one, two, subscriptNames, subscriptsNames}
 use Rattle.rules_deck.specs.Translation.{Held, name, appear}
-use Rattle.read_tokens.specs.Words.{nameOf, noName, nameWords, nameAt}
+use Rattle.read_tokens.specs.Words.{nameOf, nameWords, nameAt}
 use Rattle.read_tokens.specs.declared.Name as code
 use Rattle.read_elements.specs.Values.{subscriptValue, subscriptsValue}
 use Rattle.read_items.specs.Parsed.{Put}

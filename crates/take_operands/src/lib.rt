@@ -12,8 +12,8 @@ use read_elements::Element;
 use read_elements::Subscript;
 use read_elements::Subscripts;
 use read_elements::Target;
-use read_tokens::Name;
 use read_tokens::NAME_WORDS;
+use read_tokens::Name;
 use take_draft::Counts;
 use take_entries::Pooled;
 use take_instructions::Emitted;
@@ -23,6 +23,7 @@ use take_name_table::SECOND_AT;
 
 // Where a subscript has its addend's sign and value.
 const MINUS: usize = NAME_WORDS + 1;
+
 const ADDEND: usize = NAME_WORDS + 2;
 
 fn constant(value: u64, constants: &mut [u32], code: &mut [u32], n: Counts) -> Emitted
