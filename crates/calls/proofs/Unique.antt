@@ -32,9 +32,9 @@ compile-unique a b =
     )
 
 -- run, with `running` for the outcome that is asked, and bench, with `benching`
-pub run-unique : {all : book.Ran} {r q : Ran} {l m : book.Lent} {c d : List ℤ} → Ends all r l c → Ends all q m d → (r ≡ q) × ((l ≡ m) × (c ≡ d))
+pub run-unique : {all : book.Ran} {r q : Ran} {l m : book.Lent} {c d : List ℤ} {ls ms : List ℕ} → Ends all r l c ls → Ends all q m d ms → (r ≡ q) × ((l ≡ m) × ((c ≡ d) × (ls ≡ ms)))
 run-unique a b =
     let e = sym (a .is) ∙ b .is in (
-      ap (λ (x : book.Ran). record { number = x .refusal .number; place = x .refusal .place; kind = x .refusal .kind; halt = x .halt; steps = x .steps; sequence = x .sequence }) e,
-      (ap (λ (x : book.Ran). x .lent) e, ap (λ (x : book.Ran). x .store) e),
+      ap (λ (x : book.Ran). record { number = x .refusal .number; place = x .refusal .place; kind = x .refusal .kind; halt = x .halt; steps = x .steps; sequence = x .sequence; cards = x .cardsTaken; lines = x .linesWritten }) e,
+      (ap (λ (x : book.Ran). x .lent) e, (ap (λ (x : book.Ran). x .store) e, ap (λ (x : book.Ran). x .lines) e)),
     )

@@ -1,5 +1,6 @@
 // The calls that C and Rust make: compile, check, map, run and bench. Whatever is lent gets one outcome, the book's.
 ghost use Rattle.rules_object.specs.Calls.{running, benching};
+ghost use Rattle.run_registers.specs.Devices.{traysOf};
 ghost use Rattle.run_lent.specs.Lending.{lent};
 ghost use Rattle.check_verdicts.specs.Outcomes.{Checks, Maps};
 ghost use Rattle.run_object.specs.Outcomes.{Ends};
@@ -52,7 +53,7 @@ pub extern "C" fn luvinqata_map(object: &[u8], table: &mut [u8]) -> Written
     check_verdicts::map(object, table)
 }
 
-// From the state that is lent; what it leaves is a state to go on from.
+// From the state that is lent; what it leaves is a state to go on from. Every whole eighty bytes of `cards` are a card, and lines of 132 columns are written at the start of `lines`; bytes past them stay.
 #[no_mangle]
 pub extern "C" fn luvinqata_run(
     object: &[u8],
@@ -61,11 +62,23 @@ pub extern "C" fn luvinqata_run(
     height: &mut u32,
     mark: &mut u32,
     places: &mut [i64; STACK],
+    cards: &[u8],
+    lines: &mut [u8],
     allowance: u32,
 ) -> Ran
-    ensures { λ r. ⌜ Ends (running (now (object .entry)) (now (store .entry)) (lent (now (index .entry)) (now (height .entry)) (now (mark .entry)) (now (places .entry))) allowance) r (lent (now (index .exit)) (now (height .exit)) (now (mark .exit)) (now (places .exit))) (now (store .exit)) ⌝ }
+    ensures { λ r. ⌜ Ends (running (now (object .entry)) (now (store .entry)) (lent (now (index .entry)) (now (height .entry)) (now (mark .entry)) (now (places .entry))) (traysOf (now (cards .entry)) (now (lines .entry))) allowance) r (lent (now (index .exit)) (now (height .exit)) (now (mark .exit)) (now (places .exit))) (now (store .exit)) (now (lines .exit)) ⌝ }
 {
-    run_object::run(object, store, index, height, mark, places, allowance)
+    run_object::run(
+        object,
+        store,
+        index,
+        height,
+        mark,
+        places,
+        cards,
+        lines,
+        allowance,
+    )
 }
 
 // Starts fresh, and tests each instruction before it is done: 42 to 44 are not asked.
@@ -77,9 +90,21 @@ pub extern "C" fn luvinqata_bench(
     height: &mut u32,
     mark: &mut u32,
     places: &mut [i64; STACK],
+    cards: &[u8],
+    lines: &mut [u8],
     allowance: u32,
 ) -> Ran
-    ensures { λ r. ⌜ Ends (benching (now (object .entry)) (now (store .entry)) (lent (now (index .entry)) (now (height .entry)) (now (mark .entry)) (now (places .entry))) allowance) r (lent (now (index .exit)) (now (height .exit)) (now (mark .exit)) (now (places .exit))) (now (store .exit)) ⌝ }
+    ensures { λ r. ⌜ Ends (benching (now (object .entry)) (now (store .entry)) (lent (now (index .entry)) (now (height .entry)) (now (mark .entry)) (now (places .entry))) (traysOf (now (cards .entry)) (now (lines .entry))) allowance) r (lent (now (index .exit)) (now (height .exit)) (now (mark .exit)) (now (places .exit))) (now (store .exit)) (now (lines .exit)) ⌝ }
 {
-    run_object::bench(object, store, index, height, mark, places, allowance)
+    run_object::bench(
+        object,
+        store,
+        index,
+        height,
+        mark,
+        places,
+        cards,
+        lines,
+        allowance,
+    )
 }

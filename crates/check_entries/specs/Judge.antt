@@ -1,7 +1,7 @@
 -- What the code's functions answer, in the book's words.
 -- Assumes nothing.
-use Prim.Native.Nat.{ℕ, zero, suc, _+_}
-use mathlib.Core.Bool.{Bool, _&&_, cond}
+use Prim.Native.Nat.{ℕ, _+_}
+use mathlib.Core.Bool.{Bool, _&&_}
 use mathlib.Core.List.{List, [], _∷_}
 use mathlib.Core.Option.{Option, none, some}
 use lib.Dec.{ltb}
@@ -9,13 +9,14 @@ use lib.ListN.{getD}
 use lib.IntN.{pos}
 use Rattle.number.specs.Number.{Rule, fits}
 use Rattle.rules_object.specs.Object.{Line, Object}
-use Rattle.rules_object.specs.Check.{rightConstant, rightElement, rightLoop, rightLine, rightNamed}
-use Rattle.rules_object.specs.Operations.{noElement, noLoop, noEntry}
+use Rattle.rules_object.specs.Check.{rightConstant, rightElement, rightLoop, rightLine, rightNamed, rightItem, rightTransfer}
+use Rattle.rules_object.specs.Operations.{noElement, noLoop, noTransfer, noEntry}
 use Rattle.rules_object.specs.Bytes.{signedOf}
 use Rattle.rules_shared.specs.Refusals.{Refusal, refusal}
 use Rattle.object_words.specs.Word.{wordAt}
 use Rattle.object_contents.specs.declared.Layout.{Layout}
 use Rattle.check_names.specs.Names.{noName}
+use Rattle.check_formats.specs.Formats.{noItem}
 use Rattle.check_entries.specs.declared.Found.{Found}
 use Rattle.check_entries.specs.declared.Found.the-variants.{Nothing, At}
 
@@ -32,9 +33,9 @@ unfoldable pub refusalOf : ℕ → Found → Option Refusal
 refusalOf number Nothing = none
 refusalOf number (At kind entry) = some (refusal number entry kind)
 
--- how many entries of a kind 42 judges
+-- how many entries of a kind 42 judges one by one: words of FORMATs are judged in their order
 unfoldable pub countOf : Layout → ℕ → ℕ
-countOf e kind = getD (0 ∷ e .«constant_count» ∷ e .«element_count» ∷ 0 ∷ e .«do_count» ∷ 0 ∷ e .«line_count» ∷ e .«name_count» ∷ []) kind 0
+countOf e kind = getD (0 ∷ e .«constant_count» ∷ e .«element_count» ∷ 0 ∷ e .«do_count» ∷ 0 ∷ e .«line_count» ∷ e .«name_count» ∷ 0 ∷ e .«item_count» ∷ e .«transfer_count» ∷ []) kind 0
 
 -- 42 by kind
 abbrev pub kindTests : List (Object → ℕ → Bool)
@@ -46,12 +47,10 @@ kindTests =
     (λ o i. rightLoop o (getD (o .dos) i noLoop)) ∷
     noEntry ∷
     (λ o i. rightLine o (getD (o .lines) i noLine)) ∷
-    (λ o i. rightNamed o (getD (o .names) i noName)) ∷ []
+    (λ o i. rightNamed o (getD (o .names) i noName)) ∷
+    noEntry ∷
+    (λ o i. rightItem o (getD (o .items) i noItem)) ∷
+    (λ o i. rightTransfer o (getD (o .transfers) i noTransfer)) ∷ []
 
 unfoldable pub passes : Object → ℕ → ℕ → Bool
 passes o kind i = getD kindTests kind noEntry o i
-
--- the first of n entries, from i on, that fails
-abbrev pub firstFrom : (ℕ → Bool) → ℕ → ℕ → Option ℕ
-firstFrom test zero i = none
-firstFrom test (suc n) i = cond (test i) (firstFrom test n (suc i)) (some i)

@@ -3,24 +3,26 @@ ghost use mathlib.Core.Path.{_≡_};
 ghost use mathlib.Core.List.{List};
 ghost use Prim.Native.Nat.{ℕ, _+_, _≤_, _<_};
 ghost use lib.Dec.{ltb};
-ghost use lib.ListN.{length, getD};
+ghost use lib.ListN.{length, getD, take};
 ghost use lib.IntN.{pos, natAbs};
 ghost use Rattle.number.specs.Number as number;
 ghost use Rattle.number.specs.Code.{ruled};
 ghost use Rattle.rules_object.specs.Bytes.{signedOf};
 ghost use Rattle.rules_object.specs.Object.{ruleOf};
-ghost use Rattle.rules_object.specs.Check.{countsWithin, right41, rightConstant, rightElement, rightLoop, rightLine};
+ghost use Rattle.rules_object.specs.Check.{countsWithin, right41, rightConstant, rightElement, rightLoop, rightLine, rightFormat};
 ghost use Rattle.rules_object.specs.Operations.{noElement, noLoop};
+ghost use Rattle.rules_shared.specs.Lists.{firstFrom};
 ghost use Rattle.rules_shared.specs.Refusals.{orElse, atEntry};
 ghost use Rattle.rules_object.specs.Calls.{refused42};
 ghost use Rattle.object_words.specs.Word.{wordAt};
-ghost use Rattle.object_bodies.specs.Edition.{kinds};
+ghost use Rattle.object_bodies.specs.Edition.{everyKind, mostKinds};
 ghost use Rattle.object_contents.specs.Layout.{Placed, objectAt};
-ghost use Rattle.check_entries.specs.Judge.{noLine, subscriptAt, refusalOf, countOf, passes, firstFrom};
+ghost use Rattle.check_entries.specs.Judge.{noLine, subscriptAt, refusalOf, countOf, passes};
+use check_formats::Place;
 use check_names::wide;
 use limits::DIGITS;
 use number::Rule;
-use object_bodies::KINDS;
+use object_bodies::MOST_KINDS;
 use object_contents::Layout;
 
 // The kind of the table, and the entry in it.
@@ -33,12 +35,13 @@ const CELLS: u32 = limits::CELLS as u32;
 
 // ---- 41
 
-// No body has more entries than its kind may have.
-fn tables_right(counts: [usize; KINDS]) -> bool
-    ensures { λ r. ⌜ r ≡ countsWithin kinds counts ⌝ }
+// No body of an edition with so many kinds has more entries than its kind may have.
+fn tables_right(kinds: usize, counts: [usize; MOST_KINDS]) -> bool
+    requires { ⌜ kinds ≤ mostKinds ⌝ }
+    ensures { λ r. ⌜ r ≡ countsWithin (take kinds everyKind) counts ⌝ }
 {
     let mut kind = 0;
-    while kind < KINDS {
+    while kind < kinds {
         if object_bodies::most_entries(kind) < counts[kind] {
             return false;
         }
@@ -58,8 +61,12 @@ pub fn limits_right(e: Layout) -> bool
         e.code_count,
         e.line_count,
         e.name_count,
+        e.format_count,
+        e.item_count,
+        e.transfer_count,
     ];
-    (1 <= e.digits) & ((e.digits <= DIGITS) & ((e.cells <= CELLS) & tables_right(counts)))
+    let kinds = object_bodies::kinds_of(e.edition);
+    (1 <= e.digits) & ((e.digits <= DIGITS) & ((e.cells <= CELLS) & tables_right(kinds, counts)))
 }
 
 // ---- 42
@@ -161,6 +168,8 @@ fn entry_passes(o: &[u8], e: Layout, rule: Rule, kind: u32, i: usize) -> bool
         4 => loop_right(o, e, i),
         6 => line_right(o, e, i),
         7 => check_names::named_right(o, e, i),
+        9 => check_formats::item_right(o, e, i),
+        10 => check_formats::transfer_right(o, e, i),
         _ => true,
     }
 }
@@ -179,6 +188,16 @@ fn first_bad(o: &[u8], e: Layout, rule: Rule, kind: u32, n: usize) -> Found
         i += 1;
     }
     Found::Nothing
+}
+
+fn first_bad_format(o: &[u8], e: Layout) -> Found
+    requires { ⌜ Placed e (now o) ⌝ }
+    ensures { λ r. ⌜ refusalOf 42 r ≡ atEntry 42 8 (firstFrom (rightFormat (objectAt e (now (o .entry)))) (e .«format_count») 0) ⌝ }
+{
+    match check_formats::first_bad(o, e) {
+        Place::Nowhere => Found::Nothing,
+        Place::At(i) => Found::At(8, i),
+    }
 }
 
 fn or_else(a: Found, b: Found) -> Found
@@ -201,8 +220,15 @@ pub fn entries(o: &[u8], e: Layout, rule: Rule) -> Found
     let dos = first_bad(o, e, rule, 4, e.do_count);
     let lines = first_bad(o, e, rule, 6, e.line_count);
     let names = first_bad(o, e, rule, 7, e.name_count);
+    let formats = first_bad_format(o, e);
+    let items = first_bad(o, e, rule, 9, e.item_count);
+    let transfers = first_bad(o, e, rule, 10, e.transfer_count);
+    let lists = or_else(formats, or_else(items, transfers));
     or_else(
         constants,
-        or_else(elements, or_else(dos, or_else(lines, names))),
+        or_else(
+            elements,
+            or_else(dos, or_else(lines, or_else(names, lists))),
+        ),
     )
 }

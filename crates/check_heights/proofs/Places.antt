@@ -28,7 +28,7 @@ pub waits-inside : (e : Layout) (s H W : List ℕ) (b : ℕ) {a : ℕ} → waiti
 waits-inside e s H W b {a} is f = omega (arith, there (flowOf (objectAt e s)) H W b a is f .0, flow-length e s)
 
 pub code-within : {e : Layout} {s : List ℕ} → Judged e s → e .«code_count» ≤ 4096
-code-within {e} {s} j = omega (arith, limited (objectAt e s) (j .right) .code, code-length e s)
+code-within {e} {s} j = omega (arith, limited (objectAt e s) (j .placed .edition) (j .right) .code, code-length e s)
 
 -- ---- the instruction at a, by its word's operation and operand
 
@@ -48,7 +48,7 @@ decoded e s a w op x j i ew eo ex =
     }
 
 module _ {e : Layout} {s : List ℕ} {a op x : ℕ} (d : Decoded e s a op x) where
-  pub op-known : op < 16
+  pub op-known : op < 18
   op-known = known (objectAt e s) op x (d .right)
 
   numbered : op ≡ operationNumber (instruction (objectAt e s) a)

@@ -9,12 +9,13 @@ use native.Mathlib.Omega.{arith}
 use lib.ListN.{length, getD}
 use Rattle.number.specs.Number.{digitsRule}
 use Rattle.rules_object.specs.Object.{Object, ruleOf}
-use Rattle.rules_object.specs.Check.{right41, rightConstant, rightElement, rightLoop, rightLine, rightNamed}
-use Rattle.rules_object.specs.Operations.{noElement, noLoop, right43, flowOf}
+use Rattle.rules_object.specs.Check.{right41, rightConstant, rightElement, rightLoop, rightLine, rightNamed, rightFormat, rightItem, rightTransfer}
+use Rattle.rules_object.specs.Operations.{noElement, noLoop, noTransfer, right43, flowOf}
 use Rattle.rules_object.specs.Heights.{heights}
 use Rattle.rules_object.specs.Bytes.{readObject}
+use Rattle.rules_object.specs.Writable.{Edition}
 use Rattle.rules_shared.specs.Refusals.{Refusal, refusal, atEntry}
-use Rattle.rules_shared.specs.Lists.{firstBad}
+use Rattle.rules_shared.specs.Lists.{firstBad, firstFrom}
 use Rattle.rules_object.specs.Calls.{refused42, refused43, Checked, refused, judged44, judged, checked}
 use Rattle.rules_object.proofs.Passed.{some-none}
 use Rattle.rules_object.proofs.Limited.{Limited, limited}
@@ -25,6 +26,7 @@ use Rattle.object_contents.proofs.Entries.{code-length}
 use Rattle.check_entries.specs.declared.Found.{Found}
 use Rattle.check_entries.specs.declared.Found.the-variants.{Nothing, At}
 use Rattle.check_names.specs.Names.{noName}
+use Rattle.check_formats.specs.Formats.{noItem}
 use Rattle.check_entries.specs.Judge.{noLine, refusalOf}
 use Rattle.check_heights.specs.Judged.{Judged, answered}
 use Rattle.check_object.specs.declared.Verdict.{Verdict}
@@ -80,11 +82,32 @@ low test l d number kind h = by (firstBad test l 0) (first test l 0 d)
     by none g = tt
     by (some i) g = omega arith
 
+-- the first of n places from i on is one of them
+abbrev Below : ℕ → Option ℕ → Type 0
+Below n none = Unit
+Below n (some i) = i < n
+
+from-below : (test : ℕ → Bool) (n i : ℕ) → Below (i + n) (firstFrom test n i)
+from-below test zero i = tt
+from-below test (suc n) i = by (test i) (firstFrom test n (suc i)) (from-below test n (suc i))
+  where
+    by : (b : Bool) (f : Option ℕ) → Below (suc i + n) f → Below (i + suc n) (cond b f (some i))
+    by true none h = tt
+    by true (some j) h = omega arith
+    by false f h = omega arith
+
+low-from : (test : ℕ → Bool) (n number kind : ℕ) → n ≤ 4096 → If Low (atEntry number kind (firstFrom test n 0))
+low-from test n number kind h = by (firstFrom test n 0) (from-below test n 0)
+  where
+    by : (f : Option ℕ) → Below (0 + n) f → If Low (atEntry number kind f)
+    by none g = tt
+    by (some i) g = omega arith
+
 -- ---- 41 and what it settles
 
-pub digits-low : (e : Layout) (s : List ℕ) → right41 (objectAt e s) ≡ true → e .digits < 10
+pub digits-low : (e : Layout) (s : List ℕ) → Placed e s → right41 (objectAt e s) ≡ true → e .digits < 10
 unfolding objectAt
-digits-low e s h = let l = limited (objectAt e s) h in omega (arith, l .digits)
+digits-low e s p h = let l = limited (objectAt e s) (p .edition) h in omega (arith, l .digits)
 
 -- the rule by the layout's digits
 pub rule-is : (e : Layout) (s : List ℕ) → digitsRule (e .digits) ≡ ruleOf (objectAt e s)
@@ -98,7 +121,10 @@ low-42 o l =
     (or-if Low (atEntry 42 2 (firstBad (rightElement o) (o .elements) 0)) _ (low (rightElement o) (o .elements) noElement 42 2 (omega arith))
     (or-if Low (atEntry 42 4 (firstBad (rightLoop o) (o .dos) 0)) _ (low (rightLoop o) (o .dos) noLoop 42 4 (omega arith))
     (or-if Low (atEntry 42 6 (firstBad (rightLine o) (o .lines) 0)) _ (low (rightLine o) (o .lines) noLine 42 6 (omega arith))
-    (low (rightNamed o) (o .names) noName 42 7 (omega arith)))))
+    (or-if Low (atEntry 42 7 (firstBad (rightNamed o) (o .names) 0)) _ (low (rightNamed o) (o .names) noName 42 7 (omega arith))
+    (or-if Low (atEntry 42 8 (firstFrom (rightFormat o) (length (o .formats)) 0)) _ (low-from (rightFormat o) (length (o .formats)) 42 8 (omega arith))
+    (or-if Low (atEntry 42 9 (firstBad (rightItem o) (o .items) 0)) _ (low (rightItem o) (o .items) noItem 42 9 (omega arith))
+    (low (rightTransfer o) (o .transfers) noTransfer 42 10 (omega arith))))))))
 
 low-43 : (o : Object) → Limited o → If Low (refused43 o)
 unfolding refused43
@@ -111,11 +137,11 @@ module _ (o : Object) (f : Found) (kind i : ℕ) (q : f ≡ At kind i) where
   unfolding refusalOf
   found n = rw q
 
-  pub place-42 : refusalOf 42 f ≡ refused42 o → right41 o ≡ true → i < 4096
-  place-42 h r = subst (If Low) (sym (found 42 ∙ h)) (low-42 o (limited o r))
+  pub place-42 : refusalOf 42 f ≡ refused42 o → Edition o → right41 o ≡ true → i < 4096
+  place-42 h v r = subst (If Low) (sym (found 42 ∙ h)) (low-42 o (limited o v r))
 
-  pub place-43 : refusalOf 43 f ≡ refused43 o → right41 o ≡ true → i < 4096
-  place-43 h r = subst (If Low) (sym (found 43 ∙ h)) (low-43 o (limited o r))
+  pub place-43 : refusalOf 43 f ≡ refused43 o → Edition o → right41 o ≡ true → i < 4096
+  place-43 h v r = subst (If Low) (sym (found 43 ∙ h)) (low-43 o (limited o v r))
 
   pub found-42 : refusalOf 42 f ≡ refused42 o → right41 o ≡ true → refused (refusal 42 i kind) ≡ judgedAll o
   unfolding judgedAll

@@ -16,6 +16,7 @@ use Rattle.check_object.specs.declared.Verdict.{Verdict}
 abbrev pub noLayout : Layout
 noLayout =
     record {
+      edition = 0;
       digits = 0;
       cells = 0;
       constants = 0;
@@ -32,6 +33,12 @@ noLayout =
       «line_count» = 0;
       names = 0;
       «name_count» = 0;
+      formats = 0;
+      «format_count» = 0;
+      items = 0;
+      «item_count» = 0;
+      transfers = 0;
+      «transfer_count» = 0;
     }
 
 -- passed, the heights being the table's first entries

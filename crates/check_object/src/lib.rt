@@ -29,6 +29,7 @@ fn refuse(number: u32, place: usize, kind: u32) -> Verdict
     ensures { λ r. ⌜ ((s table : List ℕ) → Says r s table (refused (refusal number place kind))) ⌝ }
 {
     let nowhere = Layout {
+        edition: 0,
         digits: 0,
         cells: 0,
         constants: 0,
@@ -45,6 +46,12 @@ fn refuse(number: u32, place: usize, kind: u32) -> Verdict
         line_count: 0,
         names: 0,
         name_count: 0,
+        formats: 0,
+        format_count: 0,
+        items: 0,
+        item_count: 0,
+        transfers: 0,
+        transfer_count: 0,
     };
     Verdict {
         number: number,

@@ -9,12 +9,11 @@ use lib.Dec.{ltb}
 use lib.ListN.{getD, List·getD-eq-default}
 use Rattle.rules_object.specs.Object.{Object}
 use Rattle.rules_object.specs.Operations.{operationOf, operandOf, operations, unknown, right43, entryRight}
-use Rattle.rules_shared.specs.Lists.{firstBad}
+use Rattle.rules_shared.specs.Lists.{firstBad, firstFrom}
 use Rattle.object_words.specs.Word.{wordAt}
 use Rattle.object_contents.specs.declared.Layout.{Layout}
 use Rattle.object_contents.specs.Layout.{objectAt}
-use Rattle.object_contents.proofs.Entries.{constant-length, element-length, do-length, code-length, code-at}
-use Rattle.check_entries.specs.Judge.{firstFrom}
+use Rattle.object_contents.proofs.Entries.{constant-length, element-length, do-length, code-length, transfer-length, code-at}
 use Rattle.check_entries.proofs.Firsts.{first-of}
 use Rattle.check_operands.specs.Operands.{operandRight, entryRightAt}
 use Rattle.check_operands.proofs.Exits.{rightAt}
@@ -36,11 +35,15 @@ module _ (e : Layout) (s : List ℕ) (x : ℕ) where
   unfolding operandRight
   do-in = (rw (do-length e s), rw (do-length e s))
 
+  pub transfer-in : (ltb x (e .«transfer_count») ≡ rightAt e s x 16) × (ltb x (e .«transfer_count») ≡ rightAt e s x 17)
+  unfolding operandRight
+  transfer-in = (rw (transfer-length e s), rw (transfer-length e s))
+
   pub cell-in : (cells : ℕ) → cells ≡ e .cells → (ltb x cells ≡ rightAt e s x 2) × (ltb x cells ≡ rightAt e s x 3)
   unfolding operandRight objectAt
   cell-in cells q = (rw q, rw q)
 
-pub no-operation : (o : Object) (operation x : ℕ) → 16 ≤ operation → false ≡ operandRight o operation x
+pub no-operation : (o : Object) (operation x : ℕ) → 18 ≤ operation → false ≡ operandRight o operation x
 unfolding operandRight
 no-operation o operation x h = sym (ap (λ p. p .operandRight o x) (List·getD-eq-default operations unknown {n = operation} h))
 
@@ -50,25 +53,27 @@ above n k h d = omega arith
 
 -- an instruction that uses no entry
 pub no-use : (o : Object) (operation x : ℕ) → (operation ≡ 1 → ⊥) → (operation ≡ 4 → ⊥) → (operation ≡ 5 → ⊥) → (operation ≡ 14 → ⊥) → (operation ≡ 15 → ⊥)
-    → true ≡ entryRightAt o operation x
+    → (operation ≡ 16 → ⊥) → (operation ≡ 17 → ⊥) → true ≡ entryRightAt o operation x
 unfolding entryRightAt
-no-use o zero x a b c d f = refl
-no-use o (suc zero) x a b c d f = absurd (a refl)
-no-use o (suc (suc zero)) x a b c d f = refl
-no-use o (suc (suc (suc zero))) x a b c d f = refl
-no-use o (suc (suc (suc (suc zero)))) x a b c d f = absurd (b refl)
-no-use o (suc (suc (suc (suc (suc zero))))) x a b c d f = absurd (c refl)
-no-use o (suc (suc (suc (suc (suc (suc zero)))))) x a b c d f = refl
-no-use o (suc (suc (suc (suc (suc (suc (suc zero))))))) x a b c d f = refl
-no-use o (suc (suc (suc (suc (suc (suc (suc (suc zero)))))))) x a b c d f = refl
-no-use o (suc (suc (suc (suc (suc (suc (suc (suc (suc zero))))))))) x a b c d f = refl
-no-use o (suc (suc (suc (suc (suc (suc (suc (suc (suc (suc zero)))))))))) x a b c d f = refl
-no-use o (suc (suc (suc (suc (suc (suc (suc (suc (suc (suc (suc zero))))))))))) x a b c d f = refl
-no-use o (suc (suc (suc (suc (suc (suc (suc (suc (suc (suc (suc (suc zero)))))))))))) x a b c d f = refl
-no-use o (suc (suc (suc (suc (suc (suc (suc (suc (suc (suc (suc (suc (suc zero))))))))))))) x a b c d f = refl
-no-use o (suc (suc (suc (suc (suc (suc (suc (suc (suc (suc (suc (suc (suc (suc zero)))))))))))))) x a b c d f = absurd (d refl)
-no-use o (suc (suc (suc (suc (suc (suc (suc (suc (suc (suc (suc (suc (suc (suc (suc zero))))))))))))))) x a b c d f = absurd (f refl)
-no-use o (suc (suc (suc (suc (suc (suc (suc (suc (suc (suc (suc (suc (suc (suc (suc (suc k)))))))))))))))) x a b c d f = refl
+no-use o zero x a b c d f g h = refl
+no-use o (suc zero) x a b c d f g h = absurd (a refl)
+no-use o (suc (suc zero)) x a b c d f g h = refl
+no-use o (suc (suc (suc zero))) x a b c d f g h = refl
+no-use o (suc (suc (suc (suc zero)))) x a b c d f g h = absurd (b refl)
+no-use o (suc (suc (suc (suc (suc zero))))) x a b c d f g h = absurd (c refl)
+no-use o (suc (suc (suc (suc (suc (suc zero)))))) x a b c d f g h = refl
+no-use o (suc (suc (suc (suc (suc (suc (suc zero))))))) x a b c d f g h = refl
+no-use o (suc (suc (suc (suc (suc (suc (suc (suc zero)))))))) x a b c d f g h = refl
+no-use o (suc (suc (suc (suc (suc (suc (suc (suc (suc zero))))))))) x a b c d f g h = refl
+no-use o (suc (suc (suc (suc (suc (suc (suc (suc (suc (suc zero)))))))))) x a b c d f g h = refl
+no-use o (suc (suc (suc (suc (suc (suc (suc (suc (suc (suc (suc zero))))))))))) x a b c d f g h = refl
+no-use o (suc (suc (suc (suc (suc (suc (suc (suc (suc (suc (suc (suc zero)))))))))))) x a b c d f g h = refl
+no-use o (suc (suc (suc (suc (suc (suc (suc (suc (suc (suc (suc (suc (suc zero))))))))))))) x a b c d f g h = refl
+no-use o (suc (suc (suc (suc (suc (suc (suc (suc (suc (suc (suc (suc (suc (suc zero)))))))))))))) x a b c d f g h = absurd (d refl)
+no-use o (suc (suc (suc (suc (suc (suc (suc (suc (suc (suc (suc (suc (suc (suc (suc zero))))))))))))))) x a b c d f g h = absurd (f refl)
+no-use o (suc (suc (suc (suc (suc (suc (suc (suc (suc (suc (suc (suc (suc (suc (suc (suc zero)))))))))))))))) x a b c d f g h = absurd (g refl)
+no-use o (suc (suc (suc (suc (suc (suc (suc (suc (suc (suc (suc (suc (suc (suc (suc (suc (suc zero))))))))))))))))) x a b c d f g h = absurd (h refl)
+no-use o (suc (suc (suc (suc (suc (suc (suc (suc (suc (suc (suc (suc (suc (suc (suc (suc (suc (suc k)))))))))))))))))) x a b c d f g h = refl
 
 pub word-is : (o : Object) (w operation x : ℕ) → operation ≡ w / 2 ^ 24 → x ≡ w % 2 ^ 24 → operandRight o operation x ≡ right43 o w
 unfolding operandRight right43 operationOf operandOf

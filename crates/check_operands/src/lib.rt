@@ -16,20 +16,20 @@ use limits::MOST_EXITS;
 use number::Rule;
 use object_contents::Layout;
 
-// HLT CON LOD STO LDE STE ADD SUB MUL DIV NEG JMP BR3 BRC DOI DOE
-const POPS: [u8; 16] = [0, 0, 0, 1, 0, 1, 2, 2, 2, 2, 1, 0, 1, 1, 3, 0];
+// HLT CON LOD STO LDE STE ADD SUB MUL DIV NEG JMP BR3 BRC DOI DOE READ PRINT
+const POPS: [u8; 18] = [0, 0, 0, 1, 0, 1, 2, 2, 2, 2, 1, 0, 1, 1, 3, 0, 0, 0];
 
-const PUSHES: [u8; 16] = [0, 1, 1, 0, 1, 0, 1, 1, 1, 1, 1, 0, 0, 0, 0, 0];
+const PUSHES: [u8; 18] = [0, 1, 1, 0, 1, 0, 1, 1, 1, 1, 1, 0, 0, 0, 0, 0, 0, 0];
 
 pub fn pops_of(operation: usize) -> u8
-    requires { ⌜ operation < 16 ⌝ }
+    requires { ⌜ operation < 18 ⌝ }
     ensures { λ r. ⌜ r ≡ operationAt operation .pops ⌝ }
 {
     POPS[operation]
 }
 
 pub fn pushes_of(operation: usize) -> u8
-    requires { ⌜ operation < 16 ⌝ }
+    requires { ⌜ operation < 18 ⌝ }
     ensures { λ r. ⌜ (r ≡ operationAt operation .pushes) × (r ≤ 1) ⌝ }
 {
     PUSHES[operation]
@@ -95,6 +95,8 @@ fn operand_right(o: &[u8], e: Layout, operation: u32, x: usize) -> bool
         object_opcodes::BRC => brc_right(o, e, x),
         object_opcodes::DOI => x < e.do_count,
         object_opcodes::DOE => x < e.do_count,
+        object_opcodes::READ => x < e.transfer_count,
+        object_opcodes::PRINT => x < e.transfer_count,
         _ => false,
     }
 }
@@ -123,6 +125,8 @@ fn used_right(o: &[u8], e: Layout, rule: Rule, operation: u32, x: usize) -> bool
         object_opcodes::STE => check_entries::element_right(o, e, rule, x),
         object_opcodes::DOI => check_entries::loop_right(o, e, x),
         object_opcodes::DOE => check_entries::loop_right(o, e, x),
+        object_opcodes::READ => check_transfers::transfer_right(o, e, rule, x),
+        object_opcodes::PRINT => check_transfers::transfer_right(o, e, rule, x),
         _ => true,
     }
 }

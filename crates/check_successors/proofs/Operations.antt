@@ -17,9 +17,9 @@ use Rattle.rules_object.specs.Operations.{meant, noLoop, operations, unknown, o
 use Rattle.rules_object.proofs.Passed.{both}
 use Rattle.check_operands.specs.Operands.{operandRight}
 
--- ---- the tables of sixteen
+-- ---- the tables of eighteen
 
-pub number-is : (o : Object) (op x : ℕ) → op < 16 → operationNumber (meant o op x) ≡ op
+pub number-is : (o : Object) (op x : ℕ) → op < 18 → operationNumber (meant o op x) ≡ op
 number-is o zero x l = refl
 number-is o (suc zero) x l = refl
 number-is o (suc (suc zero)) x l = refl
@@ -36,10 +36,12 @@ number-is o (suc (suc (suc (suc (suc (suc (suc (suc (suc (suc (suc (suc zero))))
 number-is o (suc (suc (suc (suc (suc (suc (suc (suc (suc (suc (suc (suc (suc zero))))))))))))) x l = refl
 number-is o (suc (suc (suc (suc (suc (suc (suc (suc (suc (suc (suc (suc (suc (suc zero)))))))))))))) x l = refl
 number-is o (suc (suc (suc (suc (suc (suc (suc (suc (suc (suc (suc (suc (suc (suc (suc zero))))))))))))))) x l = refl
-number-is o (suc (suc (suc (suc (suc (suc (suc (suc (suc (suc (suc (suc (suc (suc (suc (suc k)))))))))))))))) x l = absurd (omega arith)
+number-is o (suc (suc (suc (suc (suc (suc (suc (suc (suc (suc (suc (suc (suc (suc (suc (suc zero)))))))))))))))) x l = refl
+number-is o (suc (suc (suc (suc (suc (suc (suc (suc (suc (suc (suc (suc (suc (suc (suc (suc (suc zero))))))))))))))))) x l = refl
+number-is o (suc (suc (suc (suc (suc (suc (suc (suc (suc (suc (suc (suc (suc (suc (suc (suc (suc (suc k)))))))))))))))))) x l = absurd (omega arith)
 
 -- every operation but HLT, JMP, BR3, BRC and DOE
-plain : (o : Object) (a op x : ℕ) → op < 16 → (op ≡ 0 → ⊥) → (op ≡ 11 → ⊥) → (op ≡ 12 → ⊥) → (op ≡ 13 → ⊥) → (op ≡ 15 → ⊥) → successors a (meant o op x) ≡ suc a ∷ []
+plain : (o : Object) (a op x : ℕ) → op < 18 → (op ≡ 0 → ⊥) → (op ≡ 11 → ⊥) → (op ≡ 12 → ⊥) → (op ≡ 13 → ⊥) → (op ≡ 15 → ⊥) → successors a (meant o op x) ≡ suc a ∷ []
 plain o a zero x l n₀ n₁ n₂ n₃ n₄ = absurd (n₀ refl)
 plain o a (suc zero) x l n₀ n₁ n₂ n₃ n₄ = refl
 plain o a (suc (suc zero)) x l n₀ n₁ n₂ n₃ n₄ = refl
@@ -56,7 +58,9 @@ plain o a (suc (suc (suc (suc (suc (suc (suc (suc (suc (suc (suc (suc zero))))))
 plain o a (suc (suc (suc (suc (suc (suc (suc (suc (suc (suc (suc (suc (suc zero))))))))))))) x l n₀ n₁ n₂ n₃ n₄ = absurd (n₃ refl)
 plain o a (suc (suc (suc (suc (suc (suc (suc (suc (suc (suc (suc (suc (suc (suc zero)))))))))))))) x l n₀ n₁ n₂ n₃ n₄ = refl
 plain o a (suc (suc (suc (suc (suc (suc (suc (suc (suc (suc (suc (suc (suc (suc (suc zero))))))))))))))) x l n₀ n₁ n₂ n₃ n₄ = absurd (n₄ refl)
-plain o a (suc (suc (suc (suc (suc (suc (suc (suc (suc (suc (suc (suc (suc (suc (suc (suc k)))))))))))))))) x l n₀ n₁ n₂ n₃ n₄ = absurd (omega arith)
+plain o a (suc (suc (suc (suc (suc (suc (suc (suc (suc (suc (suc (suc (suc (suc (suc (suc zero)))))))))))))))) x l n₀ n₁ n₂ n₃ n₄ = refl
+plain o a (suc (suc (suc (suc (suc (suc (suc (suc (suc (suc (suc (suc (suc (suc (suc (suc (suc zero))))))))))))))))) x l n₀ n₁ n₂ n₃ n₄ = refl
+plain o a (suc (suc (suc (suc (suc (suc (suc (suc (suc (suc (suc (suc (suc (suc (suc (suc (suc (suc k)))))))))))))))))) x l n₀ n₁ n₂ n₃ n₄ = absurd (omega arith)
 
 -- ---- lists of one, of three, and of a count
 
@@ -80,11 +84,11 @@ module _ (exits : List ℕ) (x : ℕ) (fits : x + getD exits x 0 < length exits)
 -- ---- an operand that passes 43
 
 module _ (o : Object) (op x : ℕ) (right : operandRight o op x ≡ true) where
-  pub known : op < 16
+  pub known : op < 18
   unfolding operandRight
-  known = go (decLt op 16)
+  known = go (decLt op 18)
     where
-      go : Dec (op < 16) → op < 16
+      go : Dec (op < 18) → op < 18
       go (yes l) = l
       go (no l) =
           let d : operationAt op ≡ unknown = List·getD-eq-default operations unknown {n = op} (omega arith) in

@@ -23,4 +23,4 @@ unfolding mapping
 map-accepted s table output output′ v r h w = record { is = ap (λ (c : Checked). mapChecked c output) (h .is) ∙ w .is }
 
 pub few-names : {s table : List ℕ} {v : Verdict} → Accepted s table v → v .layout .«name_count» ≤ 100
-few-names {s} {table} {v} h = omega (arith, limited (objectAt (v .layout) s) (h .passes .right) .names, name-length (v .layout) s)
+few-names {s} {table} {v} h = omega (arith, limited (objectAt (v .layout) s) (h .placed .edition) (h .passes .right) .names, name-length (v .layout) s)

@@ -6,11 +6,11 @@ use native.Mathlib.Omega.{arith}
 use mathlib.Core.List.{List, [], _∷_, _++_}
 use lib.ListN.{length, length-append, length-map}
 use Rattle.rules_object.specs.Object.{Element, Loop}
-use Rattle.rules_object.specs.Operations.{Instr, HLT, CON, LOD, STO, LDE, STE, OP, NEG, JMP, BR3, BRC, DOI, DOE, operationNumber}
+use Rattle.rules_object.specs.Operations.{Listed, Instr, HLT, CON, LOD, STO, LDE, STE, OP, NEG, JMP, BR3, BRC, DOI, DOE, READ, PRINT, operationNumber}
 use Rattle.rules_text.specs.Trees.{Name, valueOf, Form, assign, goTo, computed, ifs, loop, continue, stop, end, dimension}
 use Rattle.rules_deck.specs.Deck.{Dims}
 use Rattle.rules_deck.specs.Meaning.{third}
-use Rattle.rules_deck.specs.Translation.{Held, exprCode, formCode, Tables, pool, poolAt, tablesAfter, wordOf, emit, tablesOf}
+use Rattle.rules_deck.specs.Translation.{Held, exprCode, formCode, Tables, pool, poolAt, addElement, addExits, listElements, addTransfer, tablesAfter, wordOf, emit, tablesOf}
 use Rattle.take_draft.specs.Draft.{kindOf}
 
 -- ---- tables
@@ -19,9 +19,10 @@ pub record Alike (T U : Tables) : Type 0 where
   pub constants : T .constants ≡ U .constants
   pub elements : length (T .elements) ≡ length (U .elements)
   pub exits : length (T .exits) ≡ length (U .exits)
+  pub transfers : length (T .transfers) ≡ length (U .transfers)
 
 pub alike-self : (T : Tables) → Alike T T
-alike-self T = record { constants = refl; elements = refl; exits = refl }
+alike-self T = record { constants = refl; elements = refl; exits = refl; transfers = refl }
 
 -- ---- instructions
 
@@ -46,6 +47,8 @@ word-same a (BR3 x y z) = ap (λ (n : ℕ). operationNumber (BR3 x y z) * 2 ^ 24
 word-same a (BRC ts) = ap (λ (n : ℕ). operationNumber (BRC ts) * 2 ^ 24 + n) (a .exits)
 word-same a (DOI n d) = refl
 word-same a (DOE n d) = refl
+word-same a (READ n f list) = ap (λ (x : ℕ). operationNumber (READ n f list) * 2 ^ 24 + x) (a .transfers)
+word-same a (PRINT n f list) = ap (λ (x : ℕ). operationNumber (PRINT n f list) * 2 ^ 24 + x) (a .transfers)
 
 word-like : {T U : Tables} {i j : Instr} → Alike T U → Like i j → wordOf T i ≡ wordOf U j
 unfolding wordOf
@@ -54,31 +57,46 @@ word-like h (three {a} {b} {c}) = ap (λ (n : ℕ). operationNumber (BR3 a b c) 
 word-like a (many {ts} e) = ap (λ (n : ℕ). operationNumber (BRC ts) * 2 ^ 24 + n) (a .exits)
 word-like a (enter {n} {m} {d} {e} p) = ap (λ (x : ℕ). operationNumber (DOI n d) * 2 ^ 24 + x) p
 
-more-elements : {T U : Tables} → Alike T U → (e : Element) → length (T .elements ++ (e ∷ [])) ≡ length (U .elements ++ (e ∷ []))
-more-elements {T} {U} a e = omega (arith, a .elements, length-append (T .elements) (e ∷ []), length-append (U .elements) (e ∷ []))
+longer : {A : Type 0} (k l xs ys : List A) → length k ≡ length l → length xs ≡ length ys → length (k ++ xs) ≡ length (l ++ ys)
+longer k l xs ys e f = omega (arith, e, f, length-append k xs, length-append l ys)
 
-more-exits : {T U : Tables} → Alike T U → (xs ys : List ℕ) → length xs ≡ length ys → length (T .exits ++ xs) ≡ length (U .exits ++ ys)
-more-exits {T} {U} a xs ys e = omega (arith, a .exits, length-append (T .exits) xs, length-append (U .exits) ys)
+module _ {T U : Tables} (a : Alike T U) where
+  with-element : (e : Element) → Alike (addElement T e) (addElement U e)
+  with-element e = record { constants = a .constants; elements = longer (T .elements) (U .elements) (e ∷ []) (e ∷ []) (a .elements) refl; exits = a .exits; transfers = a .transfers }
+
+  with-exits : (xs ys : List ℕ) → length xs ≡ length ys → Alike (addExits T xs) (addExits U ys)
+  with-exits xs ys e = record { constants = a .constants; elements = a .elements; exits = longer (T .exits) (U .exits) xs ys (a .exits) e; transfers = a .transfers }
+
+  with-transfer : (n : ℕ) (list : List Listed) → Alike (addTransfer T n list) (addTransfer U n list)
+  with-transfer n list =
+      record {
+        constants = a .constants;
+        elements = longer (T .elements) (U .elements) (listElements list) (listElements list) (a .elements) refl;
+        exits = a .exits;
+        transfers = longer (T .transfers) (U .transfers) _ _ (a .transfers) refl;
+      }
 
 after-same : {T U : Tables} → Alike T U → (i : Instr) → Alike (tablesAfter T i) (tablesAfter U i)
 after-same a (HLT x) = a
-after-same a (CON c) = record { constants = ap (λ (l : List ℕ). pool l c) (a .constants); elements = a .elements; exits = a .exits }
+after-same a (CON c) = record { constants = ap (λ (l : List ℕ). pool l c) (a .constants); elements = a .elements; exits = a .exits; transfers = a .transfers }
 after-same a (LOD x) = a
 after-same a (STO x) = a
-after-same a (LDE e) = record { constants = a .constants; elements = more-elements a e; exits = a .exits }
-after-same a (STE e) = record { constants = a .constants; elements = more-elements a e; exits = a .exits }
+after-same a (LDE e) = with-element a e
+after-same a (STE e) = with-element a e
 after-same a (OP o) = a
 after-same a NEG = a
 after-same a (JMP x) = a
-after-same a (BR3 x y z) = record { constants = a .constants; elements = a .elements; exits = more-exits a (x ∷ y ∷ z ∷ []) (x ∷ y ∷ z ∷ []) refl }
-after-same a (BRC ts) = record { constants = a .constants; elements = a .elements; exits = more-exits a (length ts ∷ ts) (length ts ∷ ts) refl }
+after-same a (BR3 x y z) = with-exits a (x ∷ y ∷ z ∷ []) (x ∷ y ∷ z ∷ []) refl
+after-same a (BRC ts) = with-exits a (length ts ∷ ts) (length ts ∷ ts) refl
 after-same a (DOI n d) = a
 after-same a (DOE n d) = a
+after-same a (READ n f list) = with-transfer a n list
+after-same a (PRINT n f list) = with-transfer a n list
 
 after-like : {T U : Tables} {i j : Instr} → Alike T U → Like i j → Alike (tablesAfter T i) (tablesAfter U j)
 after-like a (same i) = after-same a i
-after-like h (three {a} {b} {c} {d} {e} {f}) = record { constants = h .constants; elements = h .elements; exits = more-exits h (a ∷ b ∷ c ∷ []) (d ∷ e ∷ f ∷ []) refl }
-after-like a (many {ts} {us} e) = record { constants = a .constants; elements = a .elements; exits = more-exits a (length ts ∷ ts) (length us ∷ us) (ap suc e) }
+after-like h (three {a} {b} {c} {d} {e} {f}) = with-exits h (a ∷ b ∷ c ∷ []) (d ∷ e ∷ f ∷ []) refl
+after-like a (many {ts} {us} e) = with-exits a (length ts ∷ ts) (length us ∷ us) (ap suc e)
 after-like a (enter p) = a
 
 -- ---- code

@@ -6,6 +6,7 @@ use mathlib.Core.List.{List, [], _∷_, map}
 use native.Mathlib.Omega.{arith}
 use lib.ListN.{length, take, length-take}
 use Rattle.rules_shared.specs.House.{house1401}
+use Rattle.rules_object.specs.Kinds.{edition}
 use Rattle.rules_object.specs.Bytes.{bytesOf, concat, loopWords, lineWords, nameWords, objectBytes, bodyWords}
 use Rattle.rules_text.specs.Trees.{Statement}
 use Rattle.rules_deck.specs.Deck.{dosOf}
@@ -48,6 +49,10 @@ module _ {k : ℕ} {deck : List Statement} {n : Counts} {names constants element
   unfolding translate
   cells-are = f .kept .cells-count
 
+  edition-is : translate (house1401 k) deck .edition ≡ edition
+  unfolding translate
+  edition-is = refl
+
   digits-are : bytesOf (wordsOfBodies k (translate (house1401 k) deck .cells) (bodyWords (translate (house1401 k) deck))) ≡ bytesOf (wordsOfBodies (translate (house1401 k) deck .digits) (translate (house1401 k) deck .cells) (bodyWords (translate (house1401 k) deck)))
   unfolding translate
   digits-are = refl
@@ -60,7 +65,7 @@ module _ {k : ℕ} {deck : List Statement} {n : Counts} {names constants element
       ap (λ (b : List (List ℕ)). bytesOf (wordsOfBodies k (n .cells) b)) (bodies-are dos′ entries hx hc hd hl hn)
       ∙ ap (λ (i : ℕ). bytesOf (wordsOfBodies k i (bodyWords (translate (house1401 k) deck)))) (cells-are)
       ∙ digits-are
-      ∙ sym (object-bytes (translate (house1401 k) deck))
+      ∙ sym (object-bytes (translate (house1401 k) deck) edition-is)
 
   -- ---- what the parts ask for
 

@@ -1,4 +1,4 @@
-// 01's limits by name, for tables and comparisons in code. The book's are in `rules_shared`, in `Limits.antt` and `House.antt`.
+// 01's and 02's limits by name, for tables and comparisons in code. The book's are in `rules_shared`, in `Limits.antt` and `House.antt`.
 
 // ---- of a deck's text
 
@@ -34,6 +34,12 @@ pub const EXITS: usize = 1024;
 pub const CODE: usize = 4096;
 
 pub const CELLS: usize = 4096;
+
+pub const FORMAT_WORDS: usize = 4096;
+
+pub const LIST_ITEMS: usize = 1024;
+
+pub const TRANSFERS: usize = 400;
 
 // A statement jumps to one number, or to as many as it has exits.
 pub const JUMPS: usize = STATEMENTS + EXITS;

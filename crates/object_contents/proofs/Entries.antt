@@ -5,10 +5,10 @@ use Prim.Native.Nat.{ℕ, _+_, _*_, _≤_, _<_}
 use native.Mathlib.Omega.{arith}
 use mathlib.Core.List.{List}
 use lib.ListN.{length, getD}
-use Rattle.rules_object.specs.Object.{Element, Loop, Line, Named}
+use Rattle.rules_object.specs.Object.{Element, Loop, Line, Named, ListItem, Transfer}
 use Rattle.object_words.specs.Word.{wordAt}
 use Rattle.object_contents.specs.declared.Layout.{Layout}
-use Rattle.object_contents.specs.Layout.{elementAt, loopAt, lineAt, namedAt, objectAt, Placed}
+use Rattle.object_contents.specs.Layout.{elementAt, loopAt, lineAt, namedAt, itemAt, transferAt, objectAt, Placed}
 use Rattle.object_contents.proofs.Lists.{length-from, getD-all}
 
 module _ (e : Layout) (s : List ℕ) where
@@ -40,6 +40,18 @@ module _ (e : Layout) (s : List ℕ) where
   unfolding objectAt
   name-length = length-from (λ i. namedAt s (e .names + 20 * i)) (e .«name_count») 0
 
+  pub format-length : length (objectAt e s .formats) ≡ e .«format_count»
+  unfolding objectAt
+  format-length = length-from (λ i. wordAt s (e .formats + 4 * i)) (e .«format_count») 0
+
+  pub item-length : length (objectAt e s .items) ≡ e .«item_count»
+  unfolding objectAt
+  item-length = length-from (λ i. itemAt s (e .items + 8 * i)) (e .«item_count») 0
+
+  pub transfer-length : length (objectAt e s .transfers) ≡ e .«transfer_count»
+  unfolding objectAt
+  transfer-length = length-from (λ i. transferAt s (e .transfers + 12 * i)) (e .«transfer_count») 0
+
   pub constant-at : (i : ℕ) → i < e .«constant_count» → getD (objectAt e s .constants) i 0 ≡ wordAt s (e .constants + 4 * i)
   unfolding objectAt
   constant-at i h = getD-all (λ i. wordAt s (e .constants + 4 * i)) (e .«constant_count») i 0 h
@@ -68,6 +80,18 @@ module _ (e : Layout) (s : List ℕ) where
   unfolding objectAt
   name-at i d h = getD-all (λ i. namedAt s (e .names + 20 * i)) (e .«name_count») i d h
 
+  pub format-at : (i : ℕ) → i < e .«format_count» → getD (objectAt e s .formats) i 0 ≡ wordAt s (e .formats + 4 * i)
+  unfolding objectAt
+  format-at i h = getD-all (λ i. wordAt s (e .formats + 4 * i)) (e .«format_count») i 0 h
+
+  pub item-at : (i : ℕ) (d : ListItem) → i < e .«item_count» → getD (objectAt e s .items) i d ≡ itemAt s (e .items + 8 * i)
+  unfolding objectAt
+  item-at i d h = getD-all (λ i. itemAt s (e .items + 8 * i)) (e .«item_count») i d h
+
+  pub transfer-at : (i : ℕ) (d : Transfer) → i < e .«transfer_count» → getD (objectAt e s .transfers) i d ≡ transferAt s (e .transfers + 12 * i)
+  unfolding objectAt
+  transfer-at i d h = getD-all (λ i. transferAt s (e .transfers + 12 * i)) (e .«transfer_count») i d h
+
   pub constant-inside : Placed e s → (i : ℕ) → i < e .«constant_count» → e .constants + 4 * i + 4 ≤ length s
   constant-inside p i h = omega arith
 
@@ -85,3 +109,12 @@ module _ (e : Layout) (s : List ℕ) where
 
   pub line-inside : Placed e s → (i : ℕ) → i < e .«line_count» → e .lines + 12 * i + 12 ≤ length s
   line-inside p i h = omega arith
+
+  pub format-inside : Placed e s → (i : ℕ) → i < e .«format_count» → e .formats + 4 * i + 4 ≤ length s
+  format-inside p i h = omega arith
+
+  pub item-inside : Placed e s → (i : ℕ) → i < e .«item_count» → e .items + 8 * i + 8 ≤ length s
+  item-inside p i h = omega arith
+
+  pub transfer-inside : Placed e s → (i : ℕ) → i < e .«transfer_count» → e .transfers + 12 * i + 12 ≤ length s
+  transfer-inside p i h = omega arith

@@ -7,10 +7,10 @@ use native.Mathlib.Omega.{arith}
 use mathlib.Core.List.{List, [], _∷_, _++_, map}
 use lib.ListN.{length, getD, take, drop, length-drop}
 use lib.Seq.{getD-drop, getD-take, length-take-le, ext-getD}
-use Rattle.rules_object.specs.Bytes.{word, wordBytes, elementOf, loopOf, lineOf, namedOf, entries}
+use Rattle.rules_object.specs.Bytes.{word, wordBytes, elementOf, loopOf, lineOf, namedOf, itemOf, transferOf, entries}
 use Rattle.rules_object.proofs.Words.{bytes-cons}
 use Rattle.object_words.specs.Word.{wordAt}
-use Rattle.object_contents.specs.Layout.{listFrom, elementAt, loopAt, lineAt, namedAt}
+use Rattle.object_contents.specs.Layout.{listFrom, elementAt, loopAt, lineAt, namedAt, itemAt, transferAt}
 use Rattle.object_contents.proofs.Lists.{length-from, getD-all}
 
 -- the first n words of W are those at byte b
@@ -69,6 +69,20 @@ loop-one s W b h l =
 pub line-one : (s : List ℕ) (W : List ℕ) (b : ℕ) → Agrees W 3 s b → b + 12 ≤ length s → lineOf (take 3 W) ≡ lineAt s b
 unfolding lineAt
 line-one s W b h l =
+    let z : b + 0 ≡ b = omega arith in
+    let w : (i : ℕ) → i < 3 → word (take 3 W) i ≡ wordAt s (b + 4 * i) = λ i k. getD-take 3 W i 0 k ∙ h i k in
+    rw (w 0 (omega arith), w 1 (omega arith), w 2 (omega arith), z)
+
+pub item-one : (s : List ℕ) (W : List ℕ) (b : ℕ) → Agrees W 2 s b → b + 8 ≤ length s → itemOf (take 2 W) ≡ itemAt s b
+unfolding itemAt
+item-one s W b h l =
+    let z : b + 0 ≡ b = omega arith in
+    let w : (i : ℕ) → i < 2 → word (take 2 W) i ≡ wordAt s (b + 4 * i) = λ i k. getD-take 2 W i 0 k ∙ h i k in
+    rw (w 0 (omega arith), w 1 (omega arith), z)
+
+pub transfer-one : (s : List ℕ) (W : List ℕ) (b : ℕ) → Agrees W 3 s b → b + 12 ≤ length s → transferOf (take 3 W) ≡ transferAt s b
+unfolding transferAt
+transfer-one s W b h l =
     let z : b + 0 ≡ b = omega arith in
     let w : (i : ℕ) → i < 3 → word (take 3 W) i ≡ wordAt s (b + 4 * i) = λ i k. getD-take 3 W i 0 k ∙ h i k in
     rw (w 0 (omega arith), w 1 (omega arith), w 2 (omega arith), z)

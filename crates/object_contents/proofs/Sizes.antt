@@ -1,16 +1,23 @@
--- The table of entry sizes.
+-- The table of entry sizes, and both sides of a test.
 -- Assumes nothing.
 use mathlib.Core.Path.{_≡_, refl}
 use Prim.Native.Nat.{ℕ, zero, suc, _≤_, _<_}
-use mathlib.Core.Bool.{true, _&&_}
+use mathlib.Core.Bool.{Bool, true, false, _&&_}
 use mathlib.Core.List.{List, [], _∷_}
 use native.Mathlib.Omega.{arith}
 use lib.Dec.{leb}
 use lib.ListN.{length, getD}
 use borrow.Author.Tests.{leb-true}
 use Rattle.rules_shared.specs.Lists.{all, Each, each-none, each-more}
-use Rattle.rules_object.proofs.Passed.{both}
-use Rattle.object_bodies.specs.Edition.{count, sizes}
+use Rattle.object_bodies.specs.Edition.{mostKinds, sizes}
+
+pub and-left : (s t : Bool) → (s && t) ≡ true → s ≡ true
+and-left true t e = refl
+and-left false t e = e
+
+pub and-right : (s t : Bool) → (s && t) ≡ true → t ≡ true
+and-right true t e = e
+and-right false t e = cc
 
 pub record Sized (z : ℕ) : Type 0 where
   pub some : 0 < z
@@ -24,9 +31,8 @@ each-sized (z ∷ zs) (each-more h hs) (suc k) l = each-sized zs hs k (omega ari
 all-sized : (zs : List ℕ) → all (λ z. leb 1 z && leb z 9) zs ≡ true → Each Sized zs
 all-sized [] e = each-none
 all-sized (z ∷ zs) e =
-    let t = both (leb 1 z && leb z 9) _ e in
-    let u = both (leb 1 z) _ (t .0) in
-    each-more (record { some = leb-true 1 z (u .0); few = leb-true z 9 (u .1) }) (all-sized zs (t .1))
+    let t = and-left (leb 1 z && leb z 9) _ e in
+    each-more (record { some = leb-true 1 z (and-left (leb 1 z) _ t); few = leb-true z 9 (and-right (leb 1 z) _ t) }) (all-sized zs (and-right (leb 1 z && leb z 9) _ e))
 
-pub sized : (k : ℕ) → k < count → Sized (getD sizes k 0)
+pub sized : (k : ℕ) → k < mostKinds → Sized (getD sizes k 0)
 sized = each-sized sizes (all-sized sizes refl)

@@ -31,6 +31,10 @@ pub const DOI: u32 = 14;
 
 pub const DOE: u32 = 15;
 
+pub const READ: u32 = 16;
+
+pub const PRINT: u32 = 17;
+
 // ---- halts
 
 pub const DIVIDE_BY_ZERO: u32 = 3;
@@ -44,3 +48,7 @@ pub const BAD_PARAMETER: u32 = 6;
 pub const BAD_STACK: u32 = 7;
 
 pub const BAD_INSTRUCTION: u32 = 8;
+
+pub const RAN_OUT: u32 = 9;
+
+pub const BAD_FIELD: u32 = 10;

@@ -2,12 +2,13 @@
 -- Assumes nothing.
 use Prim.Native.Nat.{ℕ, zero, suc, _+_, _*_, _≤_, _<_}
 use mathlib.Core.Path.{_≡_, refl, sym, ap, _∙_}
-use mathlib.Core.List.{List, [], _++_}
+use mathlib.Core.List.{List, [], _∷_, _++_}
 use mathlib.Core.Option.{Option, none, some}
 use native.Mathlib.Omega.{arith}
 use native.Mathlib.Nat.{add-zero, zero-add}
 use lib.ListN.{length, getElem?, length-replicate}
 use lib.IntN.{ℤ, pos}
+use Rattle.rules_formats.specs.Walk.{noTrays}
 use Rattle.rules_object.specs.Object.{Named, Object}
 use Rattle.rules_object.specs.Bytes.{readObject}
 use Rattle.rules_object.specs.Calls.{Lent, running}
@@ -34,30 +35,32 @@ module _ (object : List ℕ) (r : Ran) (store : List ℤ) where
   unfolding ranText
   ran-refused n = go (r .number) n
     where
-      go : (m : ℕ) → (m ≡ 0 → ⊥) → ranLines names (ranOf r freshLent store) m ≡ refusedLine m (r .place)
+      go : (m : ℕ) → (m ≡ 0 → ⊥) → ranLines names (ranOf r freshLent store []) m ≡ refusedLine m (r .place)
       go zero n = absurd (n refl)
       go (suc m) n = refl
 
   pub ran-halted : r .number ≡ 0 → ranText object r store ≡ haltLine (r .halt) (r .steps) (r .sequence) ++ nameLines names store
   unfolding ranText
-  ran-halted e = ap (ranLines names (ranOf r freshLent store)) e
+  ran-halted e = ap (ranLines names (ranOf r freshLent store [])) e
 
   -- the state is not printed
-  any-lent : (l : Lent) → runLines names (ranOf r l store) ≡ ranText object r store
+  any-lent : (l : Lent) → runLines names (ranOf r l store []) ≡ ranText object r store
   unfolding ranText
   any-lent l = go (r .number)
     where
-      go : (m : ℕ) → ranLines names (ranOf r l store) m ≡ ranLines names (ranOf r freshLent store) m
+      go : (m : ℕ) → ranLines names (ranOf r l store []) m ≡ ranLines names (ranOf r freshLent store []) m
       go zero = refl
       go (suc m) = refl
 
-  -- from zeros
-  pub run-prints : (before places : List ℤ) (l : Lent) → Zero before places → Ends (running object before (lent 0 0 0 places) allowance) r l store → ranText object r store ≡ printedObject object
+  -- from zeros, with no cards and no room for lines; none are left then
+  pub run-prints : (before places : List ℤ) (l : Lent) (lines : List ℕ) → length lines ≡ 0 → Zero before places → Ends (running object before (lent 0 0 0 places) noTrays allowance) r l store lines
+      → ranText object r store ≡ printedObject object
   unfolding printedObject
-  run-prints before places l z e =
+  run-prints before places l (b ∷ lines) n z e = absurd (omega arith)
+  run-prints before places l [] n z e =
       let a : lent 0 0 0 places ≡ freshLent = ap (lent 0 0 0) (z .stack) in
-      let b : running object zeroStore freshLent allowance ≡ ranOf r l store =
-      sym (ap (λ (x : List ℤ). running object x (lent 0 0 0 places) allowance) (z .cells) ∙ ap (λ (x : Lent). running object zeroStore x allowance) a) ∙ e .is
+      let b : running object zeroStore freshLent noTrays allowance ≡ ranOf r l store [] =
+      sym (ap (λ (x : List ℤ). running object x (lent 0 0 0 places) noTrays allowance) (z .cells) ∙ ap (λ (x : Lent). running object zeroStore x noTrays allowance) a) ∙ e .is
       in
       sym (ap (runLines names) b ∙ any-lent l)
 

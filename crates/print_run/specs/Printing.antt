@@ -2,7 +2,7 @@
 -- Assumes nothing.
 use Prim.Native.Nat.{ℕ}
 use mathlib.Core.Path.{_≡_}
-use mathlib.Core.List.{List}
+use mathlib.Core.List.{List, []}
 use lib.ListN.{replicate}
 use lib.IntN.{ℤ, pos}
 use Rattle.rules_shared.specs.Limits.{limits}
@@ -18,7 +18,7 @@ mostPrinted = 168000
 
 -- what is printed of a run that is done; the state that it left is not printed
 unfoldable pub ranText : List ℕ → Ran → List ℤ → List ℕ
-ranText object r store = runLines (namesOf (readObject object)) (ranOf r freshLent store)
+ranText object r store = runLines (namesOf (readObject object)) (ranOf r freshLent store [])
 
 -- the store and the stack's places before the run
 pub record Zero (store places : List ℤ) : Type 0 where

@@ -49,6 +49,8 @@ fn run_and_print(
     let mut index = 0;
     let mut height = 0;
     let mut mark = 0;
+    let no_cards = [0u8; 0];
+    let mut no_lines = [0u8; 0];
     let ran = run_object::run(
         object,
         store,
@@ -56,6 +58,8 @@ fn run_and_print(
         &mut height,
         &mut mark,
         places,
+        &no_cards,
+        &mut no_lines,
         ALLOWANCE,
     );
     print_ran(object, ran, store, out)

@@ -12,6 +12,7 @@ use lib.ListN.{length, getElem?}
 use lib.IntN.{ℤ}
 use Rattle.rules_shared.specs.House.{House}
 use Rattle.rules_shared.specs.Runs.{Outcome, go, halt, run, steps}
+use Rattle.rules_formats.specs.Walk.{Trays, noTrays, devicesOf}
 use Rattle.rules_object.specs.Halts.{Out}
 use Rattle.rules_shared.specs.Choose.{positive}
 use Rattle.rules_object.specs.Object.{Named, Object}
@@ -19,7 +20,6 @@ use Rattle.rules_object.specs.Machine.{State, fresh, cell, step}
 use Rattle.rules_object.specs.Bytes.{readObject}
 use Rattle.rules_shared.specs.Refusals.{accepted}
 use Rattle.rules_object.specs.Calls.{checking, given, right50, right51, sequenceOf, Ran, ran, runFrom, running, taken}
-use Rattle.number.specs.Number.{digitsRule}
 use Rattle.rules_shared.proofs.RunLaws.{steps-go}
 use Rattle.rules_object.specs.Passed.{Passed}
 use Rattle.rules_object.proofs.Passed.{check-passed, both}
@@ -77,15 +77,15 @@ module _ {house : House} {deck object : List ℕ} (m : Made house deck object) (
         passes = passes;
         right50 = rights .0;
         right51 = rights .1;
-        right52 = stands-52 (fresh store) (fresh-stands passes store (rights .0) (rights .1));
+        right52 = stands-52 (fresh store (devicesOf noTrays)) (fresh-stands passes store (devicesOf noTrays) (rights .0) (rights .1));
       }
 
-  pub runs : (a : ℕ) → running object store freshLent a ≡ runFrom o (step o) a (fresh store)
+  pub runs : (trays : Trays) (a : ℕ) → running object store freshLent trays a ≡ runFrom o trays (step o) a (fresh store (devicesOf trays))
   unfolding taken accepts
-  runs a = accepts-run accepts a
+  runs trays a = accepts-run accepts trays a
 
-  pub not-refused : (a : ℕ) → running object store freshLent a .refusal ≡ accepted
-  not-refused a = ap (λ r. r .refusal) (runs a) ∙ from-accepts o (step o) a (fresh store)
+  pub not-refused : (trays : Trays) (a : ℕ) → running object store freshLent trays a .refusal ≡ accepted
+  not-refused trays a = ap (λ r. r .refusal) (runs trays a) ∙ from-accepts o trays (step o) a (fresh store (devicesOf trays))
 
   starting : Holds (heldOf (m .statements)) (namedValues object store) store
   unfolding translate
@@ -102,8 +102,8 @@ module _ {house : House} {deck object : List ℕ} (m : Made house deck object) (
   unfolding deckSteps
   steps-mean n = ap (λ r. meaningSteps (house .rule) (statementsOf r) n (begin (namedValues object store))) (m .reads)
 
-  answers : (a : ℕ) (x : Out State) → run (step o) a (fresh store) ≡ x → running object store freshLent a ≡ ran o (steps (step o) a (fresh store)) x
-  answers a x e = runs a ∙ ap (ran o (steps (step o) a (fresh store))) e
+  answers : (trays : Trays) (a : ℕ) (x : Out State) → run (step o) a (fresh store (devicesOf trays)) ≡ x → running object store freshLent trays a ≡ ran o trays (steps (step o) a (fresh store (devicesOf trays))) x
+  answers trays a x e = runs trays a ∙ ap (ran o trays (steps (step o) a (fresh store (devicesOf trays)))) e
 
   -- an answer whose store holds a standing's values, and whose mark means its loss
   alike : (r : Ran) (t : State) (s : Standing) → r .refusal ≡ accepted → r .store ≡ t .store → r .sequence ≡ sequenceOf (o .lines) (t .mark) → Holds (heldOf (m .statements)) (s .values) (t .store)
@@ -123,83 +123,83 @@ module _ {house : House} {deck object : List ℕ} (m : Made house deck object) (
       ap (λ x. lineInObject x i) (reads-back m)
       ∙ same-sequence (m .statements) (dimension-empty house (m .statements) (right m)) (suc j) (suc i) (marked j refl (omega (arith, w .0)) (omega (arith, w .1)))
 
-  halted-alike : (a n : ℕ) (h : Cause) (t : State) (s : Standing) → run (step o) a (fresh store) ≡ halt (haltOf h) t → steps (step o) a (fresh store) ≡ n → InStatement (m .statements) (s .at) (t .index)
-      → Holds (heldOf (m .statements)) (s .values) (t .store) → SameMark (m .statements) (s .lost) (t .mark) → HaltedAlike house deck object h s n (running object store freshLent a)
+  halted-alike : (trays : Trays) (a n : ℕ) (h : Cause) (t : State) (s : Standing) → run (step o) a (fresh store (devicesOf trays)) ≡ halt (haltOf h) t → steps (step o) a (fresh store (devicesOf trays)) ≡ n → InStatement (m .statements) (s .at) (t .index)
+      → Holds (heldOf (m .statements)) (s .values) (t .store) → SameMark (m .statements) (s .lost) (t .mark) → HaltedAlike house deck object h s n (running object store freshLent trays a)
   unfolding given
-  halted-alike a n h t s e f g v w =
-      let q = answers a (halt (haltOf h) t) e in
+  halted-alike trays a n h t s e f g v w =
+      let q = answers trays a (halt (haltOf h) t) e in
       record {
-        alike = alike (running object store freshLent a) t s (ap (λ x. x .refusal) q) (ap (λ x. x .store) q) (ap (λ x. x .sequence) q) v w;
+        alike = alike (running object store freshLent trays a) t s (ap (λ x. x .refusal) q) (ap (λ x. x .store) q) (ap (λ x. x .sequence) q) v w;
         halts = ap (λ x. x .halt) q;
-        at = subst (λ x. InStatement (statementsOf x) (s .at) (running object store freshLent a .lent .index)) (sym (m .reads))
+        at = subst (λ x. InStatement (statementsOf x) (s .at) (running object store freshLent trays a .lent .index)) (sym (m .reads))
             (subst (λ i. InStatement (m .statements) (s .at) i) (sym (ap (λ x. x .lent .index) q)) g);
         line = ap (λ x. lineOf object (x .lent .index)) q ∙ tells (s .at) (t .index) g;
         steps = ap (λ x. x .steps) q ∙ f;
       }
 
-  serial : (allowances : List ℕ) → series object store freshLent allowances ≡ running object store freshLent (sum allowances)
-  serial = series-run object store freshLent refl (not-refused 0)
+  serial : (trays : Trays) (allowances : List ℕ) → series object store freshLent trays allowances ≡ running object store freshLent trays (sum allowances)
+  serial trays = series-run object store freshLent refl trays (not-refused trays 0)
 
 pub halts-kept : HaltsAlike
-halts-kept house deck object store c stored n h s e allowances =
+halts-kept house deck object store trays c stored n h s e allowances =
     let m = made c in
     let a = sum allowances in
-    let x = halts-alike house (m .lawful) (m .statements) (sound (right m)) (namedValues object store) store (starting m store stored) n h s (meant-as m store stored n e) in
+    let x = halts-alike house (m .lawful) (m .statements) (sound (right m)) (namedValues object store) store (starting m store stored) (devicesOf trays) n h s (meant-as m store stored n e) in
     let count = steps-mean m store stored n in (
-      λ enough. subst (λ r. HaltedAlike house deck object h s (deckSteps house deck (namedValues object store) n) r) (sym (serial m store stored allowances))
+      λ enough. subst (λ r. HaltedAlike house deck object h s (deckSteps house deck (namedValues object store) n) r) (sym (serial m store stored trays allowances))
           (let l : meaningSteps (house .rule) (m .statements) n (begin (namedValues object store)) ≤ a = omega arith in
-          halted-alike m store stored a _ h (x .at) s (x .halted a l) (x .took a l ∙ sym count) (x .among) (x .values) (x .mark)),
+          halted-alike m store stored trays a _ h (x .at) s (x .halted a l) (x .took a l ∙ sym count) (x .among) (x .values) (x .mark)),
       λ fewer. let l : a < meaningSteps (house .rule) (m .statements) n (begin (namedValues object store)) = omega arith in
           let (t, g) = x .before a l in
-          ap (λ r. r .halt) (serial m store stored allowances ∙ answers m store stored a (go t) g),
+          ap (λ r. r .halt) (serial m store stored trays allowances ∙ answers m store stored trays a (go t) g),
     )
 
 pub goes-kept : GoesAlike
 unfolding given
-goes-kept house deck object store c stored n s e allowances just =
+goes-kept house deck object store trays c stored n s e allowances just =
     let m = made c in
     let count = steps-mean m store stored n in
-    let x = goes-alike house (m .lawful) (m .statements) (sound (right m)) (namedValues object store) store (starting m store stored) n s (meant-as m store stored n e) in
+    let x = goes-alike house (m .lawful) (m .statements) (sound (right m)) (namedValues object store) store (starting m store stored) (devicesOf trays) n s (meant-as m store stored n e) in
     let f = step (translate house (m .statements)) in
-    let g : run f (sum allowances) (fresh store) ≡ go (x .at) = ap (λ a. run f a (fresh store)) (just ∙ count) ∙ x .goes in
-    let q = serial m store stored allowances ∙ answers m store stored (sum allowances) (go (x .at)) g in
+    let g : run f (sum allowances) (fresh store (devicesOf trays)) ≡ go (x .at) = ap (λ a. run f a (fresh store (devicesOf trays))) (just ∙ count) ∙ x .goes in
+    let q = serial m store stored trays allowances ∙ answers m store stored trays (sum allowances) (go (x .at)) g in
     record {
-      alike = alike m store stored (series object store freshLent allowances) (x .at) s (ap (λ r. r .refusal) q) (ap (λ r. r .store) q) (ap (λ r. r .sequence) q) (x .values) (x .mark);
+      alike = alike m store stored (series object store freshLent trays allowances) (x .at) s (ap (λ r. r .refusal) q) (ap (λ r. r .store) q) (ap (λ r. r .sequence) q) (x .values) (x .mark);
       halts = ap (λ r. r .halt) q;
       at = ap (λ r. r .lent .index) q ∙ x .index ∙ ap (λ r. addressAt (statementsOf r) (s .at)) (sym (m .reads));
       height = ap (λ r. r .lent .height) q ∙ ap length (x .stack);
-      steps = ap (λ r. r .steps) q ∙ steps-go f (sum allowances) (fresh store) (x .at) g ∙ just;
+      steps = ap (λ r. r .steps) q ∙ steps-go f (sum allowances) (fresh store (devicesOf trays)) (x .at) g ∙ just;
     }
 
 -- a run that halts other than by 2 is the machine's, halted
-module _ {house : House} {deck object : List ℕ} (m : Made house deck object) (store : List ℤ) (stored : rightStore object store ≡ true) (a : ℕ) where
-  meant : (running object store freshLent a .halt ≡ 2 → ⊥) → Meant house deck object store (running object store freshLent a)
-  meant other = by (run (step (translate house (m .statements))) a (fresh store)) refl
+module _ {house : House} {deck object : List ℕ} (m : Made house deck object) (store : List ℤ) (stored : rightStore object store ≡ true) (trays : Trays) (a : ℕ) where
+  meant : (running object store freshLent trays a .halt ≡ 2 → ⊥) → Meant house deck object store (running object store freshLent trays a)
+  meant other = by (run (step (translate house (m .statements))) a (fresh store (devicesOf trays))) refl
     where
-      by : (x : Out State) → run (step (translate house (m .statements))) a (fresh store) ≡ x → Meant house deck object store (running object store freshLent a)
-      by (go t) e = absurd (other (ap (λ r. r .halt) (answers m store stored a (go t) e)))
+      by : (x : Out State) → run (step (translate house (m .statements))) a (fresh store (devicesOf trays)) ≡ x → Meant house deck object store (running object store freshLent trays a)
+      by (go t) e = absurd (other (ap (λ r. r .halt) (answers m store stored trays a (go t) e)))
       by (halt h t) e =
-          let x = halts-meant house (m .lawful) (m .statements) (sound (right m)) (namedValues object store) store (starting m store stored) a h t e in
+          let x = halts-meant house (m .lawful) (m .statements) (sound (right m)) (namedValues object store) store (starting m store stored) (devicesOf trays) a h t e in
           record {
             count = x .count;
             how = x .how;
             end = x .at;
             halts = means m store stored (x .count) ∙ ap some (x .halted);
-            alike = halted-alike m store stored a _ (x .how) t (x .at) (e ∙ ap (λ i. halt i t) (sym (x .told))) (x .took ∙ sym (steps-mean m store stored (x .count))) (x .among) (x .values) (x .mark);
+            alike = halted-alike m store stored trays a _ (x .how) t (x .at) (e ∙ ap (λ i. halt i t) (sym (x .told))) (x .took ∙ sym (steps-mean m store stored (x .count))) (x .among) (x .values) (x .mark);
           }
 
 pub means-kept : MeansAlike
-means-kept house deck object store c stored allowances other =
+means-kept house deck object store trays c stored allowances other =
     let m = made c in
-    let q = serial m store stored allowances in
-    subst (λ r. Meant house deck object store r) (sym q) (meant m store stored (sum allowances) (λ e. other (ap (λ r. r .halt) q ∙ e)))
+    let q = serial m store stored trays allowances in
+    subst (λ r. Meant house deck object store r) (sym q) (meant m store stored trays (sum allowances) (λ e. other (ap (λ r. r .halt) q ∙ e)))
 
 pub never-kept : NeverHalts
-never-kept house deck object store c stored never allowances = by (ℕ-discrete (series object store freshLent allowances .halt) 2)
+never-kept house deck object store trays c stored never allowances = by (ℕ-discrete (series object store freshLent trays allowances .halt) 2)
   where
-    by : Dec (series object store freshLent allowances .halt ≡ 2) → series object store freshLent allowances .halt ≡ 2
+    by : Dec (series object store freshLent trays allowances .halt ≡ 2) → series object store freshLent trays allowances .halt ≡ 2
     by (yes e) = e
-    by (no e) = let x = means-kept house deck object store c stored allowances e in absurd (never (x .count) (x .how) (x .end) (x .halts))
+    by (no e) = let x = means-kept house deck object store trays c stored allowances e in absurd (never (x .count) (x .how) (x .end) (x .halts))
 
 pub ends-kept : EndsAfterDo
 ends-kept house deck object store c stored n s e =
@@ -303,7 +303,7 @@ pub passes-kept : CompiledPasses
 passes-kept house deck object c = let m = made c in ap checking (m .bytes) ∙ compiled-passes house (m .lawful) deck (m .statements) (m .reads)
 
 pub above-kept : NeverAbove
-above-kept house deck object store l c r a =
+above-kept house deck object store l c r trays a =
     let m = made c in
-    subst (λ x. running x store l a .refusal ≡ accepted → running x store l a .lent .height ≤ house .height (deckLevels house deck)) (sym (m .bytes)) (never-above house (m .lawful) deck (m .statements) (m .reads) store l (r .forty) a)
-    (runs-exactly object store l (r .forty) a .1 r)
+    subst (λ x. running x store l trays a .refusal ≡ accepted → running x store l trays a .lent .height ≤ house .height (deckLevels house deck)) (sym (m .bytes)) (never-above house (m .lawful) deck (m .statements) (m .reads) store l (r .forty) trays a)
+    (runs-exactly object store l (r .forty) trays a .1 r)

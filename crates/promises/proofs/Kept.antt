@@ -10,6 +10,7 @@ use Rattle.rules_shared.specs.House.{House}
 use Rattle.rules_object.specs.Bytes.{objectBytes}
 use Rattle.rules_shared.specs.Refusals.{accepted, noRoom}
 use Rattle.rules_shared.specs.Output.{notWritten, writtenIf, write}
+use Rattle.rules_formats.proofs.FieldLaws.{print-read-at}
 use Rattle.rules_object.proofs.ObjectExamples.{p9, p10, p11, p12}
 use Rattle.rules_object.proofs.CheckExactly.{check-exactly}
 use Rattle.rules_object.proofs.Runnable.{runs-exactly, benches-exactly, fresh-runnable, leaves-runnable}
@@ -86,4 +87,5 @@ kept =
       tenExactly = ten-exactly;
       table = record { decks = decks-right; p9 = p9; p10 = p10; p11 = p11; p12 = p12 };
       programPrints = program-kept;
+      printedReadsBack = λ rule v fits width h before after. print-read-at (rule .ceiling) before width v after h fits;
     }

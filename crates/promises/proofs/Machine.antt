@@ -2,6 +2,7 @@
 -- Assumes nothing.
 use mathlib.Core.Path.{_≡_, ap}
 use native.Mathlib.Omega.{arith}
+use Rattle.rules_formats.specs.Walk.{devicesOf}
 use Rattle.rules_object.specs.Operations.{flowOf}
 use Rattle.rules_shared.specs.Refusals.{Refusal, accepted}
 use Rattle.rules_object.specs.Safe.{freshLent}
@@ -23,13 +24,13 @@ zero-of e = ap (λ x. x .number) e
 -- ---- 3, 4
 
 pub checked-runs-kept : CheckedRuns
-checked-runs-kept object store e right a = let r = fresh-runnable object store e right in runs-exactly object store freshLent (r .forty) a .1 r
+checked-runs-kept object store e right trays a = let r = fresh-runnable object store e right in runs-exactly object store freshLent (r .forty) trays a .1 r
 
 pub goes-on-kept : GoesOn
-goes-on-kept object store l r a b two = goes-on object store l (r .forty) a (zero-of (runs-exactly object store l (r .forty) a .1 r)) two b
+goes-on-kept object store l r trays a b two = goes-on object store l trays (r .forty) a (zero-of (runs-exactly object store l (r .forty) trays a .1 r)) two b
 
 pub steps-kept : StepsTrue
-steps-kept object store l a = (run-steps object store l a, bench-steps-of object store l a)
+steps-kept object store l trays a = (run-steps object store l trays a, bench-steps-of object store l trays a)
 
 -- ---- 5
 
@@ -40,20 +41,20 @@ heights-kept object o j =
 -- ---- 6
 
 pub no-fault-kept : NoFault
-no-fault-kept object store l r o e = runnable-no-fault object store l r o e .right
+no-fault-kept object store l r o e trays = runnable-no-fault object store l r (devicesOf trays) o e .right
 
 pub tests-nothing-kept : TestsNothing
-tests-nothing-kept object store l r o e n = (runnable-no-fault object store l r o e .guarded n, run-no-fault object store l n (r .forty))
+tests-nothing-kept object store l r o e trays n = (runnable-no-fault object store l r (devicesOf trays) o e .guarded n, run-no-fault object store l trays n (r .forty))
 
 pub cells-past-kept : CellsPast
-cells-past-kept object store extra l r a =
-    past-cells object store extra l a (r .forty) (λ q. let z = zero-of (runs-exactly object store l (r .forty) a .1 r) in omega arith)
+cells-past-kept object store extra l r trays a =
+    past-cells object store extra l trays a (r .forty) (λ q. let z = zero-of (runs-exactly object store l (r .forty) trays a .1 r) in omega arith)
 
 pub bench-is-run-kept : BenchIsRun
-bench-is-run-kept object e store a = bench-is-running object (zero-of e) store a
+bench-is-run-kept object e store trays a = bench-is-running object (zero-of e) store trays a
 
 pub bench-starts-fresh-kept : BenchStartsFresh
-bench-starts-fresh-kept object store l a = (bench-refusal-lent object store l freshLent a, λ e. bench-lent object store l freshLent a (zero-of e))
+bench-starts-fresh-kept object store l trays a = (bench-refusal-lent object store l freshLent trays a, λ e. bench-lent object store l freshLent trays a (zero-of e))
 
 pub places-kept : PlacesApart
 places-kept rows columns =

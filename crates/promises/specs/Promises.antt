@@ -1,5 +1,5 @@
 -- Every promise, each under a sentence in plain words. Decks and objects are bytes here; `compiling`, `checking`, `running`, `benching` and `mapping` are the calls,
--- `meaningOf` is what a deck means, `printed` what the program prints. A deck is compiled in a house: the calls have the 1401's with k digits, `house1401 k`. `Judged`, `Runnable`, `TouchesOnly` and `StepsOf` stand in `rules_object`, in `Promised.antt`. `proofs/Kept.antt` has the proof of each.
+-- `meaningOf` is what a deck means, `printed` what the program prints. A deck is compiled in a house: the calls have the 1401's with k digits, `house1401 k`. A run is lent trays, the bytes of its cards and the room for its lines. `Judged`, `Runnable`, `TouchesOnly` and `StepsOf` stand in `rules_object`, in `Promised.antt`. `proofs/Kept.antt` has the proof of each.
 -- Assumes nothing.
 use mathlib.Core.Path.{_≡_}
 use mathlib.Core.Logic.{_↔_}
@@ -9,9 +9,12 @@ use mathlib.Core.List.{List, [], _∷_, _++_}
 use mathlib.Core.Option.{none, some}
 use lib.ListN.{length, getElem?, take, drop}
 use lib.IntN.{ℤ, pos}
+use Rattle.number.specs.Number.{Rule, Fits}
 use Rattle.rules_shared.specs.Limits.{limits}
 use Rattle.rules_shared.specs.House.{House, house1401}
 use Rattle.rules_shared.specs.Runs.{go, halt, run}
+use Rattle.rules_formats.specs.Fields.{holds, printed as printedNumber, fieldRead}
+use Rattle.rules_formats.specs.Walk.{Trays, noTrays, devicesOf}
 use Rattle.rules_object.specs.Halts.{haltNumber}
 use Rattle.rules_shared.specs.Choose.{positive, SubscriptParts, subscriptValue, place}
 use Rattle.rules_object.specs.Object.{Named, Object}
@@ -25,7 +28,7 @@ use Rattle.rules_object.specs.Heights.{heights}
 use Rattle.rules_shared.specs.Refusals.{refusal, accepted, Refusal}
 use Rattle.rules_shared.specs.Output.{notWritten}
 use Rattle.rules_object.specs.Calls.{checking, Lent, taken, Ran, notRun, running, benching, mapping}
-use Rattle.rules_object.specs.Safe.{Right, ranWithCells, afterSteps, freshLent, In}
+use Rattle.rules_object.specs.Safe.{Right, NoFaultHalt, ranWithCells, freshLent, rest, afterRun, In}
 use Rattle.rules_object.specs.Small.{wordHLT, wordCON, wordADD, wordJMP, object, codeOnly}
 use Rattle.rules_shared.specs.Lists.{Each}
 use Rattle.rules_object.specs.Promised.{Judged, rightStore, Runnable, TouchesOnly, StepsOf}
@@ -75,11 +78,11 @@ pub record HaltedAlike (house : House) (deck object : List ℕ) (h : Cause) (m :
 -- If the meaning, which starts from the named values alone, halts, then runs one after the other halt alike, after just the steps that its statements take; allowed fewer, they halt by 2.
 abbrev pub HaltsAlike : Type 0
 HaltsAlike =
-    (house : House) (deck object : List ℕ) (store : List ℤ) → Compiled house deck object → rightStore object store ≡ true → (n : ℕ) (h : Cause) (m : Standing) →
+    (house : House) (deck object : List ℕ) (store : List ℤ) (trays : Trays) → Compiled house deck object → rightStore object store ≡ true → (n : ℕ) (h : Cause) (m : Standing) →
     meaningOf house deck (namedValues object store) n ≡ some (halt h m) → (allowances : List ℕ) →
     (deckSteps house deck (namedValues object store) n ≤ sum allowances →
-    HaltedAlike house deck object h m (deckSteps house deck (namedValues object store) n) (series object store freshLent allowances)) ×
-    (sum allowances < deckSteps house deck (namedValues object store) n → series object store freshLent allowances .halt ≡ 2)
+    HaltedAlike house deck object h m (deckSteps house deck (namedValues object store) n) (series object store freshLent trays allowances)) ×
+    (sum allowances < deckSteps house deck (namedValues object store) n → series object store freshLent trays allowances .halt ≡ 2)
 
 -- the meaning halts, and the run with it
 pub record Meant (house : House) (deck object : List ℕ) (store : List ℤ) (r : Ran) : Type 0 where
@@ -92,8 +95,8 @@ pub record Meant (house : House) (deck object : List ℕ) (store : List ℤ) (r 
 -- If runs one after the other halt other than by 2, the meaning halts alike.
 abbrev pub MeansAlike : Type 0
 MeansAlike =
-    (house : House) (deck object : List ℕ) (store : List ℤ) → Compiled house deck object → rightStore object store ≡ true → (allowances : List ℕ) →
-    (series object store freshLent allowances .halt ≡ 2 → ⊥) → Meant house deck object store (series object store freshLent allowances)
+    (house : House) (deck object : List ℕ) (store : List ℤ) (trays : Trays) → Compiled house deck object → rightStore object store ≡ true → (allowances : List ℕ) →
+    (series object store freshLent trays allowances .halt ≡ 2 → ⊥) → Meant house deck object store (series object store freshLent trays allowances)
 
 -- or the allowance is used, at the first word of the statement that comes next in the meaning, after n steps
 pub record StandsAlike (house : House) (deck object : List ℕ) (m : Standing) (n : ℕ) (r : Ran) : Type 0 where
@@ -106,16 +109,16 @@ pub record StandsAlike (house : House) (deck object : List ℕ) (m : Standing) (
 -- While the meaning goes on, runs that are allowed just the steps that its statements take stand where it stands.
 abbrev pub GoesAlike : Type 0
 GoesAlike =
-    (house : House) (deck object : List ℕ) (store : List ℤ) → Compiled house deck object → rightStore object store ≡ true → (n : ℕ) (m : Standing) →
+    (house : House) (deck object : List ℕ) (store : List ℤ) (trays : Trays) → Compiled house deck object → rightStore object store ≡ true → (n : ℕ) (m : Standing) →
     meaningOf house deck (namedValues object store) n ≡ some (go m) → (allowances : List ℕ) → sum allowances ≡ deckSteps house deck (namedValues object store) n →
-    StandsAlike house deck object m (deckSteps house deck (namedValues object store) n) (series object store freshLent allowances)
+    StandsAlike house deck object m (deckSteps house deck (namedValues object store) n) (series object store freshLent trays allowances)
 
 -- A deck that never halts is never made to halt.
 abbrev pub NeverHalts : Type 0
 NeverHalts =
-    (house : House) (deck object : List ℕ) (store : List ℤ) → Compiled house deck object → rightStore object store ≡ true →
+    (house : House) (deck object : List ℕ) (store : List ℤ) (trays : Trays) → Compiled house deck object → rightStore object store ≡ true →
     ((n : ℕ) (h : Cause) (m : Standing) → meaningOf house deck (namedValues object store) n ≡ some (halt h m) → ⊥) →
-    (allowances : List ℕ) → series object store freshLent allowances .halt ≡ 2
+    (allowances : List ℕ) → series object store freshLent trays allowances .halt ≡ 2
 
 -- A DO's end is reached only after its DO, with a step above 0: so nothing depends on what hidden cells held at the start.
 abbrev pub EndsAfterDo : Type 0
@@ -151,43 +154,44 @@ NamesOnce = (house : House) (deck object : List ℕ) → Compiled house deck obj
 -- What passes the check is run: from a fresh state and a store that 50 and 51 let pass it is never refused.
 abbrev pub CheckedRuns : Type 0
 CheckedRuns =
-    (object : List ℕ) (store : List ℤ) → checking object ≡ accepted → rightStore object store ≡ true → (a : ℕ) → running object store freshLent a .refusal ≡ accepted
+    (object : List ℕ) (store : List ℤ) → checking object ≡ accepted → rightStore object store ≡ true → (trays : Trays) (a : ℕ) → running object store freshLent trays a .refusal ≡ accepted
 
 -- From any state a run is accepted exactly if object, store and state may be run. 52 asks for no more than a path to the state with its height, numbers that fit, and a mark of the code.
 abbrev pub RunsExactly : Type 0
 RunsExactly =
-    (object : List ℕ) (store : List ℤ) (l : Lent) → length (l .places) ≡ limits .stack → (a : ℕ) → (running object store l a .refusal ≡ accepted) ↔ Runnable object store l
+    (object : List ℕ) (store : List ℤ) (l : Lent) → length (l .places) ≡ limits .stack → (trays : Trays) (a : ℕ) → (running object store l trays a .refusal ≡ accepted) ↔ Runnable object store l
 
 -- A fresh state may be run with whatever passes the check, and a right store.
 abbrev pub FreshRunnable : Type 0
 FreshRunnable = (object : List ℕ) (store : List ℤ) → checking object ≡ accepted → rightStore object store ≡ true → Runnable object store freshLent
 
--- A run of a steps stopped by halt 2, then one of b, equals one of a + b, steps added.
+-- A run of a steps stopped by halt 2, then one of b with the rest of cards and lines, equals one of a + b: steps, cards and lines are added.
 abbrev pub GoesOn : Type 0
 GoesOn =
-    (object : List ℕ) (store : List ℤ) (l : Lent) → Runnable object store l → (a b : ℕ) → running object store l a .halt ≡ 2 →
-    running object store l (a + b) ≡ afterSteps (running object store l a .steps) (running object (running object store l a .store) (running object store l a .lent) b)
+    (object : List ℕ) (store : List ℤ) (l : Lent) → Runnable object store l → (trays : Trays) (a b : ℕ) → running object store l trays a .halt ≡ 2 →
+    running object store l trays (a + b) ≡
+    afterRun (running object store l trays a) (running object (running object store l trays a .store) (running object store l trays a .lent) (rest trays (running object store l trays a)) b)
 
 -- Runs one after the other are one run of all their allowances together.
 abbrev pub SeriesIsRun : Type 0
 SeriesIsRun =
-    (object : List ℕ) (store : List ℤ) (l : Lent) → length (l .places) ≡ limits .stack → running object store l 0 .refusal ≡ accepted → (allowances : List ℕ) →
-    series object store l allowances ≡ running object store l (sum allowances)
+    (object : List ℕ) (store : List ℤ) (l : Lent) → length (l .places) ≡ limits .stack → (trays : Trays) → running object store l trays 0 .refusal ≡ accepted → (allowances : List ℕ) →
+    series object store l trays allowances ≡ running object store l trays (sum allowances)
 
 -- What a run leaves may be run again: it is never refused.
 abbrev pub NeverRefused : Type 0
 NeverRefused =
-    (object : List ℕ) (store : List ℤ) (l : Lent) → Runnable object store l → (a : ℕ) →
-    Runnable object (running object store l a .store) (running object store l a .lent)
+    (object : List ℕ) (store : List ℤ) (l : Lent) → Runnable object store l → (trays : Trays) (a : ℕ) →
+    Runnable object (running object store l trays a .store) (running object store l trays a .lent)
 
 -- ---- 4. The steps reported are the machine's, and a halt leaves all as before its instruction
 
 -- of a run and of a bench run
 abbrev pub StepsTrue : Type 0
 StepsTrue =
-    (object : List ℕ) (store : List ℤ) (l : Lent) (a : ℕ) →
-    (running object store l a .refusal ≡ accepted → StepsOf (running object store l) a) ×
-    (benching object store l a .refusal ≡ accepted → StepsOf (benching object store l) a)
+    (object : List ℕ) (store : List ℤ) (l : Lent) (trays : Trays) (a : ℕ) →
+    (running object store l trays a .refusal ≡ accepted → StepsOf (running object store l trays) a) ×
+    (benching object store l trays a .refusal ≡ accepted → StepsOf (benching object store l trays) a)
 
 -- ---- 5. The check
 
@@ -213,13 +217,14 @@ HeightsExactly = (object : List ℕ) (o : Object) → Judged object o → Exactl
 abbrev pub NoFault : Type 0
 NoFault =
     (object : List ℕ) (store : List ℤ) (l : Lent) → Runnable object store l → (o : Object) → readObject object ≡ some o →
-    (n : ℕ) (t : State) → run (step o) n (taken l store) ≡ go t → Right o t
+    (trays : Trays) (n : ℕ) (t : State) → run (step o) n (taken l store (devicesOf trays)) ≡ go t → Right o t
 
 -- so the run that tests everything is the run that tests nothing, and 7 and 8 never come
 abbrev pub TestsNothing : Type 0
 TestsNothing =
     (object : List ℕ) (store : List ℤ) (l : Lent) → Runnable object store l → (o : Object) → readObject object ≡ some o →
-    (n : ℕ) → (run (benchStep o) n (taken l store) ≡ run (step o) n (taken l store)) × (running object store l n .halt < 7)
+    (trays : Trays) (n : ℕ) →
+    (run (benchStep o) n (taken l store (devicesOf trays)) ≡ run (step o) n (taken l store (devicesOf trays))) × NoFaultHalt (running object store l trays n .halt)
 
 -- The list of the cells that a step reads or writes is whole: what the step does hangs on no other cell, and it changes no other.
 abbrev pub TouchesListed : Type 0
@@ -228,27 +233,27 @@ TouchesListed = (o : Object) (t : State) → TouchesOnly o t
 -- cells past the count neither change nor matter
 abbrev pub CellsPast : Type 0
 CellsPast =
-    (object : List ℕ) (store extra : List ℤ) (l : Lent) → Runnable object store l → (a : ℕ) →
-    running object (store ++ extra) l a ≡ ranWithCells extra (running object store l a)
+    (object : List ℕ) (store extra : List ℤ) (l : Lent) → Runnable object store l → (trays : Trays) (a : ℕ) →
+    running object (store ++ extra) l trays a ≡ ranWithCells extra (running object store l trays a)
 
 -- the bench run of what passes the check is the run from a fresh state
 abbrev pub BenchIsRun : Type 0
-BenchIsRun = (object : List ℕ) → checking object ≡ accepted → (store : List ℤ) (a : ℕ) → benching object store freshLent a ≡ running object store freshLent a
+BenchIsRun = (object : List ℕ) → checking object ≡ accepted → (store : List ℤ) (trays : Trays) (a : ℕ) → benching object store freshLent trays a ≡ running object store freshLent trays a
 
 -- Whatever state is lent to a bench run, it is the one from a fresh state: refused alike, or with the same answer.
 abbrev pub BenchStartsFresh : Type 0
 BenchStartsFresh =
-    (object : List ℕ) (store : List ℤ) (l : Lent) (a : ℕ) → (benching object store l a .refusal ≡ benching object store freshLent a .refusal) ×
-    (benching object store l a .refusal ≡ accepted → benching object store l a ≡ benching object store freshLent a)
+    (object : List ℕ) (store : List ℤ) (l : Lent) (trays : Trays) (a : ℕ) → (benching object store l trays a .refusal ≡ benching object store freshLent trays a .refusal) ×
+    (benching object store l trays a .refusal ≡ accepted → benching object store l trays a ≡ benching object store freshLent trays a)
 
 -- A bench run is accepted exactly if the bytes are an object that passes 41, and the store is right; it refuses only by 40, 41, 50 and 51.
 abbrev pub BenchesExactly : Type 0
 BenchesExactly =
-    (object : List ℕ) (store : List ℤ) (l : Lent) (a : ℕ) → (benching object store l a .refusal ≡ accepted) ↔
+    (object : List ℕ) (store : List ℤ) (l : Lent) (trays : Trays) (a : ℕ) → (benching object store l trays a .refusal ≡ accepted) ↔
     ((o : Object) × (readObject object ≡ some o) × (right41 o ≡ true) × (rightStore object store ≡ true))
 
 abbrev pub BenchRefuses : Type 0
-BenchRefuses = (object : List ℕ) (store : List ℤ) (l : Lent) (a : ℕ) → In (benching object store l a .refusal .number) (0 ∷ 40 ∷ 41 ∷ 50 ∷ 51 ∷ [])
+BenchRefuses = (object : List ℕ) (store : List ℤ) (l : Lent) (trays : Trays) (a : ℕ) → In (benching object store l trays a .refusal .number) (0 ∷ 40 ∷ 41 ∷ 50 ∷ 51 ∷ [])
 
 -- Every pair of subscripts from 1 to its dimension has a place in the array, another one for each pair; no other pair has one.
 pub record Places (rows columns : ℕ) : Type 0 where
@@ -271,19 +276,19 @@ CompiledPasses = (house : House) (deck object : List ℕ) → Compiled house dec
 -- a compiled deck never stands higher than its house has for its levels of parentheses (2p+3 for p in the 1401's), from whatever state it is run
 abbrev pub NeverAbove : Type 0
 NeverAbove =
-    (house : House) (deck object : List ℕ) (store : List ℤ) (l : Lent) → Compiled house deck object → Runnable object store l → (a : ℕ) →
-    running object store l a .lent .height ≤ house .height (deckLevels house deck)
+    (house : House) (deck object : List ℕ) (store : List ℤ) (l : Lent) → Compiled house deck object → Runnable object store l → (trays : Trays) (a : ℕ) →
+    running object store l trays a .lent .height ≤ house .height (deckLevels house deck)
 
 -- ---- 8. A refusal changes nothing; each call is a function, so that each input has one outcome
 
 abbrev pub RefusalKeeps : Type 0
 RefusalKeeps =
     ((house : House) (deck output : List ℕ) → (compiling house deck output .refusal ≡ accepted → ⊥) → compiling house deck output ≡ notWritten (compiling house deck output .refusal) output) ×
-    ((object : List ℕ) (store : List ℤ) (l : Lent) (a : ℕ) → (running object store l a .refusal ≡ accepted → ⊥) → running object store l a ≡ notRun (running object store l a .refusal) l store) ×
-    ((object : List ℕ) (store : List ℤ) (l : Lent) (a : ℕ) → (benching object store l a .refusal ≡ accepted → ⊥) → benching object store l a ≡ notRun (benching object store l a .refusal) l store) ×
+    ((object : List ℕ) (store : List ℤ) (l : Lent) (trays : Trays) (a : ℕ) → (running object store l trays a .refusal ≡ accepted → ⊥) → running object store l trays a ≡ notRun (running object store l trays a .refusal) l store trays) ×
+    ((object : List ℕ) (store : List ℤ) (l : Lent) (trays : Trays) (a : ℕ) → (benching object store l trays a .refusal ≡ accepted → ⊥) → benching object store l trays a ≡ notRun (benching object store l trays a .refusal) l store trays) ×
     ((object table : List ℕ) → (mapping object table .refusal ≡ accepted → ⊥) → mapping object table ≡ notWritten (mapping object table .refusal) table)
 
--- ---- 9. The bytes that are written read back as the same seven lists, and the other way round
+-- ---- 9. The bytes that are written read back as the same lists, and the other way round
 
 abbrev pub RoundTrip : Type 0
 RoundTrip =
@@ -330,13 +335,21 @@ pub data Prints (card deck : List ℕ) : List ℕ → Type 0 where
   -- the deck is refused whatever room its object has, by a number that only decks are refused by: never by 30, nor by 40 and above
   noDeck : (k : ℕ) (r : Refusal) → controlOf card ≡ some k → ((output : List ℕ) → compiling (house1401 k) deck output .refusal ≡ r) → (1 ≤ r .number) × (r .number ≤ 25)
       → Prints card deck (refusedLine (r .number) (r .place))
-  -- its object is run with a zero store, and not refused: the halt, and the values of the names
+  -- its object is run with a zero store, no cards and no lines, and not refused: the halt, and the values of the names
   ran : (k : ℕ) (object : List ℕ) (o : Object) (r : Ran) → controlOf card ≡ some k → Compiled (house1401 k) deck object → readObject object ≡ some o
-      → running object zeroStore freshLent 1000000 ≡ r → r .refusal ≡ accepted → Prints card deck (haltLine (r .halt) (r .steps) (r .sequence) ++ nameLines (o .names) (r .store))
+      → running object zeroStore freshLent noTrays 1000000 ≡ r → r .refusal ≡ accepted → Prints card deck (haltLine (r .halt) (r .steps) (r .sequence) ++ nameLines (o .names) (r .store))
 
 -- Of every input one of these is printed, the first 80 bytes being the control card.
 abbrev pub ProgramPrints : Type 0
 ProgramPrints = (input : List ℕ) → Prints (take cardLength input) (drop cardLength input) (printed input)
+
+-- ---- 13. What is printed reads back
+
+-- A number printed in a field that can hold it, its digits and minus, reads back as the same number from the same columns, the blanks before it and all.
+abbrev pub PrintedReadsBack : Type 0
+PrintedReadsBack =
+    (rule : Rule) (v : ℤ) → Fits rule v → (width : ℕ) → holds width v ≡ true → (before after : List ℕ) →
+    fieldRead (rule .ceiling) (take width (drop (length before) ((before ++ printedNumber width v) ++ after))) ≡ some v
 
 -- ---- all of them
 
@@ -376,3 +389,4 @@ pub record Kept : Type 0 where
   pub tenExactly : TenExactly
   pub table : Table
   pub programPrints : ProgramPrints
+  pub printedReadsBack : PrintedReadsBack

@@ -12,9 +12,9 @@ use lib.Dec.{T, leb, eqb}
 use lib.ListN.{length, getD, take, drop, replicate, length-take, length-replicate, drop-of-length-le}
 use lib.Seq.{drop-cons, getD-take, length-take-le, take-add, drop-at}
 use borrow.Author.Tests.{le-leb, lt-leb, ne-eqb, leb-true}
-use Rattle.rules_object.specs.Check.{blanks, isDigit}
+use Rattle.rules_object.specs.Check.{blanks, isDigit, character}
 use Rattle.rules_text.specs.Trees.{valueFrom, valueOf}
-use Rattle.rules_text.specs.Cards.{numberColumns, textColumns, comment, firstCard, character, characters, allDigits, withoutBlanks, numberOf, rightNumber}
+use Rattle.rules_text.specs.Cards.{numberColumns, textColumns, comment, firstCard, characters, allDigits, withoutBlanks, numberOf, rightNumber}
 use Rattle.rules_text.proofs.CardsLaws.{and-both}
 use Rattle.number.proofs.Table.{at}
 use Rattle.read_cards.specs.declared.Value.{Value}

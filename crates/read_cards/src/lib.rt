@@ -2,8 +2,8 @@
 ghost use mathlib.Core.Path.{_≡_};
 ghost use Prim.Native.Nat.{_/_, _<_};
 ghost use lib.ListN.{length};
-ghost use Rattle.rules_object.specs.Check.{blanks};
-ghost use Rattle.rules_text.specs.Cards.{columnsRead, numberColumns, comment, firstCard, character, characters};
+ghost use Rattle.rules_object.specs.Check.{blanks, character};
+ghost use Rattle.rules_text.specs.Cards.{columnsRead, numberColumns, comment, firstCard, characters};
 ghost use Rattle.read_cards.specs.Columns.{digitsOf, punchedOf, CardAt};
 
 // A statement's number as punched, 0 where none is.

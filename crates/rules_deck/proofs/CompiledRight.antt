@@ -17,10 +17,11 @@ use Rattle.rules_shared.specs.Limits.{limits}
 use Rattle.rules_shared.specs.House.{House}
 use Rattle.rules_object.specs.Object.{SubscriptEntry, Element, Loop, Line, Named, Object, ruleOf}
 use Rattle.rules_object.specs.Check.{right41, rightConstant, rightSubscript, rightElement, rightLoop, rightLine, blanks, nameTail, rightName, span, rightNamed}
-use Rattle.rules_object.specs.Operations.{Instr, HLT, CON, LOD, STO, LDE, STE, OP, NEG, JMP, BR3, BRC, DOI, DOE, operationOf, operandOf, targets, exitAt, operationAt, right43, operationNumber}
+use Rattle.rules_object.specs.Operations.{Instr, HLT, CON, LOD, STO, LDE, STE, OP, NEG, JMP, BR3, BRC, DOI, DOE, READ, PRINT, operationOf, operandOf, targets, exitAt, operationAt, right43, operationNumber}
 use Rattle.rules_shared.specs.Refusals.{atEntry}
 use Rattle.rules_shared.specs.Lists.{firstBad, Each, each-none, each-more}
 use Rattle.rules_object.specs.Calls.{refused42, refused43}
+use Rattle.rules_object.specs.Writable.{Edition, one}
 use Rattle.rules_object.proofs.Limited.{Limited, passes}
 use Rattle.rules_shared.proofs.EachLaws.{each-one, each-map}
 use Rattle.rules_text.specs.Trees.{Name, Statement}
@@ -159,6 +160,8 @@ module _ {o : Object} {m n c : ℕ} (sizes : Sizes o m n c) where
       (rw (e, one) (ap (targets o) (slice-at (suc x) ts (at-tail h)) ∙ targets-right ts (r .2)))))
   operand-right (DOI q d) x r h = lt-ltb x (length (o .dos)) (at-before (o .dos) x (at-head (h .1)))
   operand-right (DOE q d) x r h = lt-ltb x (length (o .dos)) (at-before (o .dos) x (at-head (h .1)))
+  operand-right (READ q f list) x r h = lt-ltb x (length (o .transfers)) (at-before (o .transfers) x (h .entry))
+  operand-right (PRINT q f list) x r h = lt-ltb x (length (o .transfers)) (at-before (o .transfers) x (h .entry))
 
 -- ---- the deck's object
 
@@ -166,6 +169,10 @@ module _ {house : House} {deck : List Statement} (accepted : Accepted house deck
   sizes : Sizes (translate house deck) (house .rule .ceiling) (length (codeOf deck)) (cellCount (heldOf deck))
   unfolding translate
   sizes = record { rule = sym (ap (λ (r : Rule). r .ceiling) (accepted .lawful .rule (translate house deck) refl)); code = code-length house deck; cells = refl }
+
+  pub compiled-edition : Edition (translate house deck)
+  unfolding translate
+  compiled-edition = one (accepted .lawful .edition) (record { formats = refl; items = refl; transfers = refl })
 
   limited : Limited (translate house deck)
   unfolding translate
@@ -183,10 +190,13 @@ module _ {house : House} {deck : List Statement} (accepted : Accepted house deck
         code = s .code;
         lines = omega (arith, lines-few deck 0 deck, accepted .count);
         names = omega (arith, fitting accepted .names, names-count house 0 (heldOf deck));
+        formats = omega arith;
+        items = omega arith;
+        transfers = omega arith;
       }
 
   pub passes-41 : right41 (translate house deck) ≡ true
-  passes-41 = passes (translate house deck) limited
+  passes-41 = passes (translate house deck) compiled-edition limited
 
   pub passes-42 : refused42 (translate house deck) ≡ none
   unfolding refused42 translate

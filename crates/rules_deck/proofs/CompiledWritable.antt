@@ -1,6 +1,6 @@
 -- An accepted deck's object is as its bytes hold it, so they read back as it; and it passes the check, 40 to 44.
 -- Assumes nothing.
-use mathlib.Core.Path.{_≡_, ap}
+use mathlib.Core.Path.{_≡_, ap, subst}
 use mathlib.Core.Logic.{_⊎_, inl, inr}
 use Prim.Native.Nat.{ℕ, zero, suc, _+_, _*_, _≤_, _<_}
 use native.Mathlib.Omega.{arith}
@@ -13,8 +13,9 @@ use Rattle.number.specs.Number.{add, sub, mul, div}
 use Rattle.rules_shared.specs.Limits.{limits}
 use Rattle.rules_shared.specs.House.{House}
 use Rattle.rules_object.specs.Object.{SubscriptEntry, Element, Loop, Line, Named, Object}
+use Rattle.rules_object.specs.Kinds.{edition, kindsOf, mostWords, contentsLength}
 use Rattle.rules_object.specs.Check.{span, isLetter, isDigit}
-use Rattle.rules_object.specs.Operations.{Instr, HLT, CON, LOD, STO, LDE, STE, OP, NEG, JMP, BR3, BRC, DOI, DOE, operationOf, operationNumber, flowOf}
+use Rattle.rules_object.specs.Operations.{Instr, HLT, CON, LOD, STO, LDE, STE, OP, NEG, JMP, BR3, BRC, DOI, DOE, READ, PRINT, operationOf, operationNumber, flowOf}
 use Rattle.rules_object.specs.Bytes.{objectBytes, readObject}
 use Rattle.rules_object.specs.Flow.{Reached}
 use Rattle.rules_object.specs.Calls.{passed, checked, verdict, checking}
@@ -25,7 +26,7 @@ use Rattle.rules_object.proofs.Limited.{tables-within}
 use Rattle.rules_object.proofs.RoundTrip.{all-eight, object-most, reads-back}
 use Rattle.rules_text.specs.Trees.{Name, Statement}
 use Rattle.rules_text.specs.Tokens.{isLetterOrDigit}
-use Rattle.rules_deck.specs.Translation.{heldOf, filled, translate}
+use Rattle.rules_deck.specs.Translation.{filled, translate}
 use Rattle.rules_deck.specs.Compile.{read, deckOf}
 use Rattle.rules_deck.specs.Seen.{levelsIn}
 use Rattle.rules_deck.specs.Lawful.{Lawful}
@@ -33,13 +34,13 @@ use Rattle.rules_deck.specs.Accepted.{Accepted}
 use Rattle.rules_text.specs.Spelling.{Passes, IsName, is-name}
 use Rattle.rules_text.proofs.Readers.{digit-bounds, letter-bounds}
 use Rattle.rules_deck.proofs.TestLaws.{or-one}
-use Rattle.rules_deck.proofs.FittingDeck.{names-count, fitting}
+use Rattle.rules_deck.proofs.FittingDeck.{fitting}
 use Rattle.rules_deck.proofs.Emitted.{code-length}
 use Rattle.rules_deck.proofs.HeightsCompiled.{below}
 use Rattle.rules_deck.proofs.TableCompiled.{stands, levels-most, compiled-table, compiled-height}
 use Rattle.rules_deck.proofs.RightCode.{RightSubscript, RightElement}
 use Rattle.rules_deck.proofs.RightDeck.{each-place, LoopWithin, LineWithin, NameWithin, digits-right, most, right-tables, right-loops, right-lines, right-names}
-use Rattle.rules_deck.proofs.CompiledRight.{passes-41, passes-42, passes-43, coded}
+use Rattle.rules_deck.proofs.CompiledRight.{compiled-edition, passes-41, passes-42, passes-43, coded}
 
 -- ---- names of eight bytes
 
@@ -121,7 +122,7 @@ module _ {m n cells : ℕ} (digits : m ≤ 1000000000) (code : n ≤ limits .cod
       go (inl z) = omega (arith, z .1)
       go (inr l) = omega (arith, h .inside .within, span-columns (e .rows) (e .columns) l)
 
-operation-few : (i : Instr) → operationNumber i ≤ 15
+operation-few : (i : Instr) → operationNumber i ≤ 17
 operation-few (HLT x) = omega arith
 operation-few (CON c) = omega arith
 operation-few (LOD a) = omega arith
@@ -138,14 +139,28 @@ operation-few (BR3 a b c) = omega arith
 operation-few (BRC ts) = omega arith
 operation-few (DOI q d) = omega arith
 operation-few (DOE q d) = omega arith
+operation-few (READ q f list) = omega arith
+operation-few (PRINT q f list) = omega arith
 
-word-small : (w : ℕ) → operationOf w ≤ 15 → IsWord w
+word-small : (w : ℕ) → operationOf w ≤ 17 → IsWord w
 unfolding operationOf
 word-small w h = omega arith
 
 -- ---- the deck's object
 
 module _ {house : House} {deck : List Statement} (accepted : Accepted house deck) where
+  names-writable : Each WritableNamed (translate house deck .names)
+  unfolding translate
+  names-writable = each-map (named-writable (most accepted) (fitting accepted .code) (fitting accepted .cells) (accepted .lawful)) (right-names accepted)
+
+  -- at most the bytes of an object whose bodies are all full
+  pub compiled-most : length (objectBytes (translate house deck)) ≤ contentsLength (length (kindsOf edition)) + 4 * mostWords (kindsOf edition)
+  unfolding translate
+  compiled-most =
+      let o : Object = translate house deck in
+      subst (λ (e : ℕ). length (objectBytes o) ≤ contentsLength (length (kindsOf e)) + 4 * mostWords (kindsOf e)) (accepted .lawful .edition)
+      (object-most o (all-eight (o .names) names-writable) (tables-within o (passes-41 accepted)))
+
   pub compiled-writable : Writable (translate house deck)
   unfolding translate
   compiled-writable =
@@ -154,8 +169,8 @@ module _ {house : House} {deck : List Statement} (accepted : Accepted house deck
       let n = fitting accepted .code in
       let c = fitting accepted .cells in
       let t = right-tables accepted in
-      let names : Each WritableNamed (o .names) = each-map (named-writable d n c (accepted .lawful)) (right-names accepted) in
       record {
+        edition = compiled-edition accepted;
         digits = omega (arith, digits-right accepted .1);
         cells = omega (arith, c);
         constants = each-map (λ x h. omega arith) (t .constants);
@@ -164,9 +179,12 @@ module _ {house : House} {deck : List Statement} (accepted : Accepted house deck
         dos = each-map (loop-writable d n c) (right-loops accepted);
         code = each-place (o .code) (λ a w e. let x = coded accepted a w e in word-small w (omega (arith, x .2, operation-few (x .0))));
         lines = each-map (line-writable d n c) (right-lines accepted);
-        names = names;
+        names = names-writable;
+        formats = each-none;
+        items = each-none;
+        transfers = each-none;
         someCode = omega (arith, code-length house deck, below deck (stands accepted) 0 (stands accepted .some));
-        small = omega (arith, object-most o (all-eight (o .names) names) (tables-within o (passes-41 accepted)));
+        small = omega (arith, compiled-most);
       }
 
   -- an accepted deck's bytes read back as its object

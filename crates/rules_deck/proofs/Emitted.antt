@@ -1,6 +1,6 @@
 -- The words of a translated deck decode to its code, and each operand stands in its table.
 -- Assumes nothing.
-use mathlib.Core.Path.{_≡_, refl, sym, subst}
+use mathlib.Core.Path.{_≡_, refl, sym, ap, _∙_, subst}
 use Prim.Native.Nat.{ℕ, zero, suc, _+_, _≤_}
 use native.Mathlib.Omega.{arith}
 use mathlib.Core.Bool.{Bool, true, false, cond}
@@ -15,13 +15,14 @@ use Rattle.rules_shared.proofs.EachLaws.{each-one, each-append}
 use Rattle.rules_text.specs.Trees.{Name, valueOf, Expr, con, var, elm, neg, par, bin, Target, cell, element, Form, assign, goTo, computed, ifs, loop, continue, stop, end, dimension, Statement, Range, partsOf}
 use Rattle.rules_deck.specs.Deck.{positionOf, Do, Dims, doOf, dosFrom, dosOf, dimsOf, endings, doAt}
 use Rattle.rules_deck.specs.Meaning.{third}
-use Rattle.rules_deck.specs.Translation.{Held, size, cellCount, firstCell, cellOf, heldOf, exprCode, storeCode, formCode, addressOf, loopEntry, doInstr, enterCode, statementCode, codeFrom, codeOf, noTables, translate, doiFor}
+use Rattle.rules_deck.specs.Translation.{Held, size, cellCount, firstCell, cellOf, heldOf, exprCode, storeCode, formCode, addressOf, loopEntry, doInstr, enterCode, statementCode, codeFrom, codeOf, Tables, noTables, tablesOf, translate, doiFor}
 use Rattle.rules_deck.specs.Accepted.{Among, here, there, Fitting}
 use Rattle.rules_deck.proofs.Addresses.{address-most}
 use Rattle.rules_deck.proofs.TestLaws.{clash, among-left, among-right}
 use Rattle.rules_deck.proofs.DoLaws.{among-endings}
 use Rattle.rules_deck.proofs.Rows.{do-row}
-use Rattle.rules_deck.proofs.Tables.{within-self, Bounded, Sized, Emitted, emit-length, emitted-at, decoded}
+use Rattle.rules_deck.proofs.TableLaws.{tables-append, statement-brings}
+use Rattle.rules_deck.proofs.Tables.{Grows, grows-self, Within, Bounded, Sized, Emitted, emit-length, emitted-at, decoded}
 
 pub each-at : {A : Type 0} (P : A → Type 0) (l : List A) (a : ℕ) (x : A) → getElem? l a ≡ some x → Each P l → P x
 each-at P [] a x e h = absurd (clash (sym e))
@@ -72,6 +73,29 @@ module _ (o : Object) (held : List Held) (dims : Name → Dims) (cells : (v : Na
   form-bounded address entry (dimension arrays) a b = each-none
 
 -- ---- the deck's object
+
+-- no statement is a READ or PRINT yet, so no code brings an item or a transfer
+nothing-listed : (deck : List Statement) (q : ℕ) (more : List Statement) (T : Tables)
+    → (tablesOf T (codeFrom deck q more) .items ≡ T .items) × (tablesOf T (codeFrom deck q more) .transfers ≡ T .transfers)
+nothing-listed deck q [] T = (refl, refl)
+nothing-listed deck q (s ∷ more) T =
+    let code = statementCode deck q s in
+    let both = tables-append T code (codeFrom deck (suc q) more) in
+    let b = statement-brings deck q s in
+    let r = nothing-listed deck (suc q) more (tablesOf T code) in
+    (ap (λ (U : Tables). U .items) both ∙ r .0 ∙ b .items T, ap (λ (U : Tables). U .transfers) both ∙ r .1 ∙ b .transfers T)
+
+within-object : (house : House) (deck : List Statement) → Within (tablesOf noTables (codeOf deck)) (translate house deck)
+unfolding translate codeOf
+within-object house deck =
+    let n = nothing-listed deck 0 deck noTables in
+    record {
+      constants = grows-self;
+      elements = grows-self;
+      exits = grows-self;
+      items = subst (λ l. Grows l []) (sym (n .0)) grows-self;
+      transfers = subst (λ l. Grows l []) (sym (n .1)) grows-self;
+    }
 
 module _ (house : House) (deck : List Statement) where
   pub code-length : length (translate house deck .code) ≡ length (codeOf deck)
@@ -126,11 +150,12 @@ module _ (house : House) (deck : List Statement) where
         elements = f .elements;
         exits = f .exits;
         dos = omega (arith, f .dos, length-map (dosOf deck) (loopEntry deck));
+        transfers = omega arith;
       }
 
   pub emitted : Fitting deck → (a : ℕ) (i : Instr) → getElem? (codeOf deck) a ≡ some i → Emitted (translate house deck) a i
   unfolding translate
-  emitted f a i e = emitted-at (translate house deck) noTables (codeOf deck) refl (within-self (translate house deck)) (sized f) a i e (bounded a i e)
+  emitted f a i e = emitted-at (translate house deck) noTables (codeOf deck) refl (within-object house deck) (sized f) a i e (bounded a i e)
 
   pub fetched : Fitting deck → (a : ℕ) (i : Instr) → getElem? (codeOf deck) a ≡ some i → decode (translate house deck) (getD (translate house deck .code) a 0) ≡ i
   fetched f a i e = decoded (translate house deck) a i (emitted f a i e)

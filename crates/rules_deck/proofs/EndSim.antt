@@ -11,6 +11,7 @@ use lib.IntN.{ℤ}
 use Rattle.rules_shared.specs.House.{House}
 use Rattle.rules_shared.specs.Runs.{Outcome, go, halt}
 use Rattle.rules_shared.specs.Choose.{positive, Turn, again, over, turn}
+use Rattle.rules_formats.specs.Walk.{Devices}
 use Rattle.rules_object.specs.Operations.{DOE}
 use Rattle.rules_object.specs.Machine.{State}
 use Rattle.rules_object.proofs.States.{state}
@@ -34,9 +35,9 @@ use Rattle.rules_deck.proofs.Standings.{standing, Bound, Inside, Stands
 
 -- From machine state t, inside the statement at j₀, the machine comes to what the meaning comes to, in n steps, which are no more than the statement has words from there; a halt is at that statement and at the last word reached.
 pub data Sim (house : House) (deck : List Statement) (j₀ : ℕ) (t : State) (n : ℕ) : Outcome Cause Standing → Type 0 where
-  goes : {j lost m : ℕ} {env : Values} {inside : ℕ → Bounds} {c : List ℤ} → Runs house deck n t (go (state (addressAt deck j) [] c m)) → t .index + n ≤ addressAt deck (suc j₀)
+  goes : {j lost m : ℕ} {env : Values} {inside : ℕ → Bounds} {c : List ℤ} {devices : Devices} → Runs house deck n t (go (state (addressAt deck j) [] c m devices)) → t .index + n ≤ addressAt deck (suc j₀)
       → Stands deck j env inside lost c m → (zero < n) ⊎ (j ≡ suc j₀) → Sim house deck j₀ t n (go (standing j env inside lost))
-  halts : {h : Cause} {lost p m : ℕ} {env : Values} {inside : ℕ → Bounds} {s c : List ℤ} → Runs house deck n t (halt (haltOf h) (state p s c m)) → t .index + n ≤ addressAt deck (suc j₀)
+  halts : {h : Cause} {lost p m : ℕ} {env : Values} {inside : ℕ → Bounds} {s c : List ℤ} {devices : Devices} → Runs house deck n t (halt (haltOf h) (state p s c m devices)) → t .index + n ≤ addressAt deck (suc j₀)
       → suc p ≡ t .index + n → Holds (heldOf deck) env c → SameMark deck lost m → Sim house deck j₀ t n (halt h (standing j₀ env inside lost))
 
 -- some steps first
@@ -59,9 +60,9 @@ pub record Ready (deck : List Statement) (j : ℕ) (env : Values) (inside : ℕ 
   pub more : suc j < length deck
 
 module _ (house : House) {deck : List Statement} (sound : Sound deck) {j lost m : ℕ} {env : Values} {inside : ℕ → Bounds} {c : List ℤ} (r : Ready deck j env inside lost c m) where
-  turn-sim : (d : Do) (u : Turn) {p n : ℕ} {o : Outcome Cause Standing} → Ending deck j d → getElem? (codeOf deck) p ≡ some (doInstr deck DOE d) → p < addressAt deck (suc j)
-      → Machine.act (ruled house) (doInstr deck DOE d) (state p [] c m) ≡ Machine.turned u (loopEntry deck d) (state p [] c m)
-      → Sim house deck j (state (suc p) [] c m) n o → Sim house deck j (state p [] c m) (turnedSteps u n) (turned u d (standing j env inside lost) o)
+  turn-sim : (d : Do) (u : Turn) {p n : ℕ} {devices : Devices} {o : Outcome Cause Standing} → Ending deck j d → getElem? (codeOf deck) p ≡ some (doInstr deck DOE d) → p < addressAt deck (suc j)
+      → Machine.act (ruled house) (doInstr deck DOE d) (state p [] c m devices) ≡ Machine.turned u (loopEntry deck d) (state p [] c m devices)
+      → Sim house deck j (state (suc p) [] c m devices) n o → Sim house deck j (state p [] c m devices) (turnedSteps u n) (turned u d (standing j env inside lost) o)
   turn-sim d (again i) {p} w a l e o =
       let v = variable-has deck d (w .among) in
       let f = sound .nested .after d (w .among) in
@@ -76,25 +77,25 @@ module _ (house : House) {deck : List Statement} (sound : Sound deck) {j lost m 
       }) (inl (omega arith))
   turn-sim d over {p} w a l e o = first (on (sound .fitting) a e stay) (omega arith) o
 
-  doe-acts : (d : Do) (p : ℕ) → Has (heldOf deck) (key (plain (d .variable))) → (b : Bound (heldOf deck) inside c (d .position))
-      → Machine.act (ruled house) (doInstr deck DOE d) (state p [] c m) ≡ Machine.turned (turn (env (plain (d .variable))) (b .limit) (b .step)) (loopEntry deck d) (state p [] c m)
-  doe-acts d p v b =
+  doe-acts : (d : Do) (p : ℕ) (devices : Devices) → Has (heldOf deck) (key (plain (d .variable))) → (b : Bound (heldOf deck) inside c (d .position))
+      → Machine.act (ruled house) (doInstr deck DOE d) (state p [] c m devices) ≡ Machine.turned (turn (env (plain (d .variable))) (b .limit) (b .step)) (loopEntry deck d) (state p [] c m devices)
+  doe-acts d p devices v b =
       let D = loopEntry deck d in
-      let t = state p [] c m in
+      let t = state p [] c m devices in
       let x = r .holds .same (plain (d .variable)) v in
       ap (λ e. Machine.ended e D t) (ap positive (b .step-cell) ∙ b .exceeds)
       ∙ ap (λ a. Machine.turned (turn a (Machine.cell c (D .limit)) (Machine.cell c (D .step))) D t) x
       ∙ ap (λ a. Machine.turned (turn (env (plain (d .variable))) a (Machine.cell c (D .step))) D t) (b .limit-cell)
       ∙ ap (λ a. Machine.turned (turn (env (plain (d .variable))) (b .limit) a) D t) (b .step-cell)
 
-  pub ends-sim : (es : List Do) {p : ℕ} → ((d : Do) → Among d es → Ending deck j d) → At (codeOf deck) p (map (doInstr deck DOE) es) → p + length es ≡ addressAt deck (suc j)
-      → Sim house deck j (state p [] c m) (finishSteps es env inside) (finish es (standing j env inside lost))
+  pub ends-sim : (es : List Do) {p : ℕ} {devices : Devices} → ((d : Do) → Among d es → Ending deck j d) → At (codeOf deck) p (map (doInstr deck DOE) es) → p + length es ≡ addressAt deck (suc j)
+      → Sim house deck j (state p [] c m devices) (finishSteps es env inside) (finish es (standing j env inside lost))
   ends-sim [] {p} f a e =
       let e′ : p ≡ addressAt deck (suc j) = omega arith in
       rw e′ (goes stay (omega arith) (record { holds = r .holds; mark = r .mark; around = r .next; here = r .more }) (inr refl))
-  ends-sim (d ∷ es) {p} f a e =
+  ends-sim (d ∷ es) {p} {devices} f a e =
       let w = f d here in
       let b = r .now .bound d (w .among) (range-last (sound .nested) (w .among) (w .last)) in
-      subst (λ z. Sim house deck j (state p [] c m) (endSteps z d env (finishSteps es env inside)) (endOf z d (standing j env inside lost) (finish es (standing j env inside lost)))) (sym (b .is))
-      (turn-sim d (turn (env (plain (d .variable))) (b .limit) (b .step)) w (at-head a) (omega arith) (doe-acts d p (variable-has deck d (w .among)) b)
+      subst (λ z. Sim house deck j (state p [] c m devices) (endSteps z d env (finishSteps es env inside)) (endOf z d (standing j env inside lost) (finish es (standing j env inside lost)))) (sym (b .is))
+      (turn-sim d (turn (env (plain (d .variable))) (b .limit) (b .step)) w (at-head a) (omega arith) (doe-acts d p devices (variable-has deck d (w .among)) b)
       (ends-sim es (λ d x. f d (there x)) (at-tail a) (omega arith)))

@@ -12,6 +12,7 @@ use Rattle.rules_shared.specs.House.{House}
 use Rattle.rules_shared.specs.Runs.{go, halt}
 use Rattle.rules_shared.specs.Choose.{right}
 use Rattle.rules_shared.proofs.Places.{right-constant, place-same}
+use Rattle.rules_formats.specs.Walk.{Devices}
 use Rattle.rules_object.specs.Operations.{Instr, LDE, OP, NEG}
 use Rattle.rules_object.specs.Machine.{cell, subscriptOf, placeOf, elementLoaded, operated}
 use Rattle.rules_object.proofs.States.{state}
@@ -39,34 +40,34 @@ pub known-right : {held : List Held} (l : List Name) {m : List Name} → Known h
 known-right l k = record { has = λ v a. k .has v (among-right l a) }
 
 -- The code from `pc` up to `pc′` pushes the value, in as many steps as it has words; or some of it leads to the halt, at the last word reached. In n steps.
-pub data Gives (house : House) (deck : List Statement) (pc pc′ : ℕ) (s c : List ℤ) (m n : ℕ) : Evaluated → Type 0 where
-  gives : {v : ℤ} {b : Loss} {m′ : ℕ} → Runs house deck n (state pc s c m) (go (state pc′ (v ∷ s) c m′)) → pc + n ≡ pc′ → Marked pc pc′ m m′ b → Gives house deck pc pc′ s c m n (val v b)
-  stops : {h : Cause} {b : Loss} {p m′ : ℕ} {s′ : List ℤ} → Runs house deck n (state pc s c m) (halt (haltOf h) (state p s′ c m′)) → pc + n ≤ pc′ → suc p ≡ pc + n → Marked pc pc′ m m′ b → Gives house deck pc pc′ s c m n (bad h b)
+pub data Gives (house : House) (deck : List Statement) (devices : Devices) (pc pc′ : ℕ) (s c : List ℤ) (m n : ℕ) : Evaluated → Type 0 where
+  gives : {v : ℤ} {b : Loss} {m′ : ℕ} → Runs house deck n (state pc s c m devices) (go (state pc′ (v ∷ s) c m′ devices)) → pc + n ≡ pc′ → Marked pc pc′ m m′ b → Gives house deck devices pc pc′ s c m n (val v b)
+  stops : {h : Cause} {b : Loss} {p m′ : ℕ} {s′ : List ℤ} → Runs house deck n (state pc s c m devices) (halt (haltOf h) (state p s′ c m′ devices)) → pc + n ≤ pc′ → suc p ≡ pc + n → Marked pc pc′ m m′ b → Gives house deck devices pc pc′ s c m n (bad h b)
 
-module _ {house : House} {deck : List Statement} (fit : Fitting deck) {pc p₂ m : ℕ} {s c : List ℤ} where
-  opGives : (r : Result) {n m₂ : ℕ} {v w : ℤ} {d : Loss} → pc ≤ p₂ → Runs house deck n (state pc s c m) (go (state p₂ (w ∷ v ∷ s) c m₂)) → pc + n ≡ p₂ → Marked pc p₂ m m₂ d
-      → {o : Op} → getElem? (codeOf deck) p₂ ≡ some (OP o) → apply (ruled house) o v w ≡ r → Gives house deck pc (suc p₂) s c m (n + 1) (after d r)
+module _ {house : House} {deck : List Statement} (fit : Fitting deck) {devices : Devices} {pc p₂ m : ℕ} {s c : List ℤ} where
+  opGives : (r : Result) {n m₂ : ℕ} {v w : ℤ} {d : Loss} → pc ≤ p₂ → Runs house deck n (state pc s c m devices) (go (state p₂ (w ∷ v ∷ s) c m₂ devices)) → pc + n ≡ p₂ → Marked pc p₂ m m₂ d
+      → {o : Op} → getElem? (codeOf deck) p₂ ≡ some (OP o) → apply (ruled house) o v w ≡ r → Gives house deck devices pc (suc p₂) s c m (n + 1) (after d r)
   opGives (value x e) {m₂ = m₂} {v = v} {w = w} l p z q f a =
-      gives (and-then p (on fit f (ap (λ r. operated r (state p₂ (w ∷ v ∷ s) c m₂) s) a) stay)) (omega arith)
+      gives (and-then p (on fit f (ap (λ r. operated r (state p₂ (w ∷ v ∷ s) c m₂ devices) s) a) stay)) (omega arith)
       (marked-then (widen (omega arith) (omega arith) q) (widen l (omega arith) (marked-one e m₂ p₂)))
   opGives (trouble byZero) {m₂ = m₂} {v = v} {w = w} l p z q f a =
-      stops {p = p₂} (and-then p (out fit f (ap (λ r. operated r (state p₂ (w ∷ v ∷ s) c m₂) s) a))) (omega arith) (omega arith) (widen (omega arith) (omega arith) q)
+      stops {p = p₂} (and-then p (out fit f (ap (λ r. operated r (state p₂ (w ∷ v ∷ s) c m₂ devices) s) a))) (omega arith) (omega arith) (widen (omega arith) (omega arith) q)
 
   -- the first operand has run, the second has run or halts
-  secondGives : {p₁ n n₂ m₁ : ℕ} {v : ℤ} {d : Loss} {rb : Evaluated} {o : Op} → pc ≤ p₁ → p₁ ≤ p₂ → Runs house deck n (state pc s c m) (go (state p₁ (v ∷ s) c m₁)) → pc + n ≡ p₁
-      → Marked pc p₁ m m₁ d → Gives house deck p₁ p₂ (v ∷ s) c m₁ n₂ rb → getElem? (codeOf deck) p₂ ≡ some (OP o)
-      → Gives house deck pc (suc p₂) s c m (joinedSteps (val v d) rb n n₂) (joined (ruled house) o (val v d) rb)
+  secondGives : {p₁ n n₂ m₁ : ℕ} {v : ℤ} {d : Loss} {rb : Evaluated} {o : Op} → pc ≤ p₁ → p₁ ≤ p₂ → Runs house deck n (state pc s c m devices) (go (state p₁ (v ∷ s) c m₁ devices)) → pc + n ≡ p₁
+      → Marked pc p₁ m m₁ d → Gives house deck devices p₁ p₂ (v ∷ s) c m₁ n₂ rb → getElem? (codeOf deck) p₂ ≡ some (OP o)
+      → Gives house deck devices pc (suc p₂) s c m (joinedSteps (val v d) rb n n₂) (joined (ruled house) o (val v d) rb)
   secondGives l₁ l₂ p z q (gives p′ z′ q′) f =
       opGives (apply (ruled house) _ _ _) (omega arith) (and-then p p′) (omega arith) (marked-then (widen (omega arith) l₂ q) (widen l₁ (omega arith) q′)) f refl
   secondGives l₁ l₂ p z q (stops {p = i} p′ z′ y′ q′) f =
       stops {p = i} (and-then p p′) (omega arith) (omega arith) (marked-then (widen (omega arith) (omega arith) q) (widen l₁ (omega arith) q′))
 
-  joinGives : {p₁ n n₂ : ℕ} {ra rb : Evaluated} {o : Op} → pc ≤ p₁ → p₁ ≤ p₂ → Gives house deck pc p₁ s c m n ra → ((v : ℤ) (m′ : ℕ) → Gives house deck p₁ p₂ (v ∷ s) c m′ n₂ rb)
-      → getElem? (codeOf deck) p₂ ≡ some (OP o) → Gives house deck pc (suc p₂) s c m (joinedSteps ra rb n n₂) (joined (ruled house) o ra rb)
+  joinGives : {p₁ n n₂ : ℕ} {ra rb : Evaluated} {o : Op} → pc ≤ p₁ → p₁ ≤ p₂ → Gives house deck devices pc p₁ s c m n ra → ((v : ℤ) (m′ : ℕ) → Gives house deck devices p₁ p₂ (v ∷ s) c m′ n₂ rb)
+      → getElem? (codeOf deck) p₂ ≡ some (OP o) → Gives house deck devices pc (suc p₂) s c m (joinedSteps ra rb n n₂) (joined (ruled house) o ra rb)
   joinGives l₁ l₂ (stops p z y q) g f = stops p (omega arith) y (widen (omega arith) (omega arith) q)
   joinGives l₁ l₂ (gives p z q) g f = secondGives l₁ l₂ p z q (g _ _) f
 
-  negGives : {n : ℕ} {r : Evaluated} → Gives house deck pc p₂ s c m n r → getElem? (codeOf deck) p₂ ≡ some NEG → Gives house deck pc (suc p₂) s c m (andOne r n) (negated r)
+  negGives : {n : ℕ} {r : Evaluated} → Gives house deck devices pc p₂ s c m n r → getElem? (codeOf deck) p₂ ≡ some NEG → Gives house deck devices pc (suc p₂) s c m (andOne r n) (negated r)
   negGives (gives p z q) f = gives (and-then p (on fit f refl stay)) (omega arith) (widen (omega arith) (omega arith) q)
   negGives (stops p z y q) f = stops p (omega arith) y (widen (omega arith) (omega arith) q)
 
@@ -82,24 +83,24 @@ module _ (deck : List Statement) {env : Values} {c : List ℤ} (h : Holds (heldO
   place-value v (one s) f = place-same _ _ _ _ _ _ (same-right _ s f) (right-constant _ (cell c 0) (pos 0) (pos 1))
   place-value v (two s t) f = place-same _ _ _ _ _ _ (same-right _ s (known-left (subscriptNames t) f)) (same-right _ t (known-right (subscriptNames s) f))
 
-  elem-sim : {house : House} {pc m : ℕ} {s : List ℤ} → Fitting deck → (v : Name) (ss : Subscripts) → getElem? (codeOf deck) pc ≡ some (LDE (elementEntry (heldOf deck) (dimsOf deck) v ss))
-      → (o : Option ℕ) → placeOf c (elementEntry (heldOf deck) (dimsOf deck) v ss) ≡ o → placeIn env (dimsOf deck v) ss ≡ o → Gives house deck pc (suc pc) s c m 1 (elementValue env v o)
-  elem-sim {pc = pc} {m = m} {s = s} fit v ss a none e i =
-      stops {p = pc} (out fit a (ap (λ o. elementLoaded o (elementEntry (heldOf deck) (dimsOf deck) v ss) (state pc s c m)) e)) (omega arith) (omega arith) (quiet refl refl)
-  elem-sim {pc = pc} {m = m} {s = s} fit v ss a (some p) e i =
+  elem-sim : {house : House} {devices : Devices} {pc m : ℕ} {s : List ℤ} → Fitting deck → (v : Name) (ss : Subscripts) → getElem? (codeOf deck) pc ≡ some (LDE (elementEntry (heldOf deck) (dimsOf deck) v ss))
+      → (o : Option ℕ) → placeOf c (elementEntry (heldOf deck) (dimsOf deck) v ss) ≡ o → placeIn env (dimsOf deck v) ss ≡ o → Gives house deck devices pc (suc pc) s c m 1 (elementValue env v o)
+  elem-sim {devices = devices} {pc = pc} {m = m} {s = s} fit v ss a none e i =
+      stops {p = pc} (out fit a (ap (λ o. elementLoaded o (elementEntry (heldOf deck) (dimsOf deck) v ss) (state pc s c m devices)) e)) (omega arith) (omega arith) (quiet refl refl)
+  elem-sim {devices = devices} {pc = pc} {m = m} {s = s} fit v ss a (some p) e i =
       let q : cell c (baseOf (heldOf deck) v + p) ≡ env (elementAt v p) = h .same (elementAt v p) (element-has deck env v ss p i) in
-      gives (on fit a (ap (λ o. elementLoaded o (elementEntry (heldOf deck) (dimsOf deck) v ss) (state pc s c m)) e ∙ ap (λ x. go (state (suc pc) (x ∷ s) c m)) q) stay) (omega arith) (quiet refl refl)
+      gives (on fit a (ap (λ o. elementLoaded o (elementEntry (heldOf deck) (dimsOf deck) v ss) (state pc s c m devices)) e ∙ ap (λ x. go (state (suc pc) (x ∷ s) c m devices)) q) stay) (omega arith) (quiet refl refl)
 
 -- moved to an end that is written in another way
-moved : {house : House} {deck : List Statement} {pc p p′ m n : ℕ} {s c : List ℤ} {r : Evaluated} → p ≡ p′ → Gives house deck pc p s c m n r → Gives house deck pc p′ s c m n r
-moved {house} {deck} {pc} {m = m} {n = n} {s = s} {c = c} {r = r} e g = subst (λ p. Gives house deck pc p s c m n r) e g
+moved : {house : House} {deck : List Statement} {devices : Devices} {pc p p′ m n : ℕ} {s c : List ℤ} {r : Evaluated} → p ≡ p′ → Gives house deck devices pc p s c m n r → Gives house deck devices pc p′ s c m n r
+moved {house} {deck} {devices} {pc} {m = m} {n = n} {s = s} {c = c} {r = r} e g = subst (λ p. Gives house deck devices pc p s c m n r) e g
 
 abbrev code : List Statement → Expr → List Instr
 code deck e = exprCode (heldOf deck) (dimsOf deck) e
 
-module _ {house : House} {deck : List Statement} {env : Values} {c : List ℤ} (fit : Fitting deck) (h : Holds (heldOf deck) env c) where
+module _ {house : House} {deck : List Statement} {devices : Devices} {env : Values} {c : List ℤ} (fit : Fitting deck) (h : Holds (heldOf deck) env c) where
   pub expr-sim : (e : Expr) → Known (heldOf deck) (exprPlain e) → (pc : ℕ) → At (codeOf deck) pc (exprCode (heldOf deck) (dimsOf deck) e)
-      → (s : List ℤ) (m : ℕ) → Gives house deck pc (pc + length (exprCode (heldOf deck) (dimsOf deck) e)) s c m (exprSteps (ruled house) deck env e) (eval (ruled house) deck env e)
+      → (s : List ℤ) (m : ℕ) → Gives house deck devices pc (pc + length (exprCode (heldOf deck) (dimsOf deck) e)) s c m (exprSteps (ruled house) deck env e) (eval (ruled house) deck env e)
   expr-sim (con z) f pc a s m = moved (omega arith) (gives (on fit (at-head a) refl stay) (omega arith) (quiet refl refl))
   expr-sim (var x) f pc a s m =
       rw (← h .same (plain x) (f .has x here)) (moved (omega arith) (gives (on fit (at-head a) refl stay) (omega arith) (quiet refl refl)))

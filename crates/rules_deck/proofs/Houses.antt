@@ -28,6 +28,7 @@ pub lawful1401 : (k : ℕ) → Lawful (house1401 k)
 unfolding digitsRule
 lawful1401 k =
     record {
+      edition = refl;
       rule = λ o e. ap (λ (n : ℕ). house1401 n .rule) e;
       digits = digits1401 k;
       constants = λ e. (omega arith, ten-most k (digits1401 k e .1));

@@ -8,9 +8,10 @@ use mathlib.Core.Option.{none, some}
 use lib.ListN.{replicate}
 use Rattle.rules_shared.specs.House.{house1401}
 use Rattle.rules_shared.specs.Refusals.{refusal}
+use Rattle.rules_object.specs.Check.{character}
 use Rattle.rules_text.specs.Punch.{bytes, deck}
 use Rattle.rules_text.specs.Trees.{Form, con, loop, computed, stop, valueOf, formNames, formConstants, formExits, formLast, formLevels}
-use Rattle.rules_text.specs.Cards.{cardsOf, comment, firstCard, character, textOf, numberOf, rightNumber, wrongCard, afterCard, rightDigits, rightLength, carded}
+use Rattle.rules_text.specs.Cards.{cardsOf, comment, firstCard, textOf, numberOf, rightNumber, wrongCard, afterCard, rightDigits, rightLength, carded}
 use Rattle.rules_text.specs.Tokens.{isLetterOrDigit, give, giveIf, ahead, follow, andThen, after, afterWord, choose, starts, startsDigit, allOf, whole, run, digitRun, nameRun, taken as bytesTaken, number, name, listedUpTo, listed}
 use Rattle.rules_text.specs.Grammar.{addend, linearOf, subscript, subscripts, place as targetRead, operandOf as operandRead, operand, sign, signed, sumOp, productOp, joined, more, step as grammarStep, parseIn, enough, parse, expression, assignment, plainGoTo, rightExits, computedGoTo, arithmeticIf, parameter, doLoop, arrayShape, dimensions, readAssignment, readGoTo, readComputed, readIf, readDo, readContinue, readStop, readEnd, readDimension, present, readings, firstOf, formOf}
 use Rattle.rules_deck.specs.Translation.{formPlain}

@@ -10,6 +10,7 @@ use lib.IntN.{ℤ}
 use Rattle.number.specs.Number.{Rule}
 use Rattle.rules_shared.specs.House.{House, house1401}
 use Rattle.rules_shared.specs.Runs.{go, halt, stepsFrom, steps}
+use Rattle.rules_formats.specs.Walk.{Devices}
 use Rattle.rules_object.specs.Halts.{Halt, Out}
 use Rattle.rules_object.specs.Object.{ruleOf}
 use Rattle.rules_object.specs.Operations.{Instr}
@@ -54,14 +55,14 @@ module _ {house : House} {deck : List Statement} where
       let e : steps f (a + b) s ≡ steps f a s + steps f b t = steps-add f a b s ∙ ap (λ o. steps f a s + stepsFrom o (λ u. steps f b u)) (p .is .eq) in
       record { is = seq (p .is) (q .is); took = omega (arith, p .took, q .took) }
 
-  module _ (f : Fitting deck) {i : Instr} {pc m : ℕ} {s c : List ℤ} where
-    pub on : {n : ℕ} {t : State} {o : Out State} → getElem? (codeOf deck) pc ≡ some i → act (ruled house) i (state pc s c m) ≡ go t → Runs house deck n t o
-        → Runs house deck (suc n) (state pc s c m) o
+  module _ (f : Fitting deck) {i : Instr} {pc m : ℕ} {s c : List ℤ} {devices : Devices} where
+    pub on : {n : ℕ} {t : State} {o : Out State} → getElem? (codeOf deck) pc ≡ some i → act (ruled house) i (state pc s c m devices) ≡ go t → Runs house deck n t o
+        → Runs house deck (suc n) (state pc s c m devices) o
     on {n} e a r =
-        let g = step-at house f (state pc s c m) e ∙ a in
+        let g = step-at house f (state pc s c m devices) e ∙ a in
         record { is = one g (r .is); took = ap suc (ap (λ o. stepsFrom o (λ u. steps (step (translate house deck)) n u)) g ∙ r .took) }
 
-    pub out : {t : State} {h : Halt} → getElem? (codeOf deck) pc ≡ some i → act (ruled house) i (state pc s c m) ≡ halt h t → Runs house deck 1 (state pc s c m) (halt h t)
+    pub out : {t : State} {h : Halt} → getElem? (codeOf deck) pc ≡ some i → act (ruled house) i (state pc s c m devices) ≡ halt h t → Runs house deck 1 (state pc s c m devices) (halt h t)
     out e a =
-        let g = step-at house f (state pc s c m) e ∙ a in
+        let g = step-at house f (state pc s c m devices) e ∙ a in
         record { is = last g; took = ap suc (ap (λ o. stepsFrom o (λ u. 0)) g) }

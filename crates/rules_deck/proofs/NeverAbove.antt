@@ -10,6 +10,7 @@ use lib.IntN.{ℤ}
 use Rattle.rules_shared.specs.Limits.{limits}
 use Rattle.rules_shared.specs.House.{House}
 use Rattle.rules_shared.specs.Runs.{go, halt, run, steps}
+use Rattle.rules_formats.specs.Walk.{Trays, devicesOf}
 use Rattle.rules_object.specs.Halts.{Out}
 use Rattle.rules_object.specs.Object.{Object}
 use Rattle.rules_object.specs.Operations.{flowOf}
@@ -42,37 +43,37 @@ module _ {house : House} {deck : List Statement} (good : Accepted house deck) wh
       → length (t .stack) ≤ 2 * levelsIn deck + 3
   stands-low {o = o} e p t s = accepted-height good (t .index) (length (t .stack)) (subst (λ x. Reached (flowOf x) (t .index) (length (t .stack))) e (stands-reached p t s))
 
-  accepted-above : (store : List ℤ) (l : Lent) → length (l .places) ≡ limits .stack → (a : ℕ) → running (objectBytes (translate house deck)) store l a .refusal ≡ Rattle.rules_shared.specs.Refusals.accepted
-      → running (objectBytes (translate house deck)) store l a .lent .height ≤ 2 * levelsIn deck + 3
+  accepted-above : (store : List ℤ) (l : Lent) → length (l .places) ≡ limits .stack → (trays : Trays) (a : ℕ) → running (objectBytes (translate house deck)) store l trays a .refusal ≡ Rattle.rules_shared.specs.Refusals.accepted
+      → running (objectBytes (translate house deck)) store l trays a .lent .height ≤ 2 * levelsIn deck + 3
   unfolding given
-  accepted-above store l forty a right = by (answer (objectBytes (translate house deck)) store l)
+  accepted-above store l forty trays a right = by (answer (objectBytes (translate house deck)) store l)
     where
       same : {o p : Object} → some o ≡ some p → o ≡ p
       same e = cc
 
-      left : (x : Accepts (objectBytes (translate house deck)) store l) (n : ℕ) (r : Out State) → run (step (x .object)) a (taken l store) ≡ r
-          → ran (x .object) n r .lent .height ≤ 2 * levelsIn deck + 3
+      left : (x : Accepts (objectBytes (translate house deck)) store l) (n : ℕ) (r : Out State) → run (step (x .object)) a (taken l store (devicesOf trays)) ≡ r
+          → ran (x .object) trays n r .lent .height ≤ 2 * levelsIn deck + 3
       left x n r e = go-on r e
         where
           is : x .object ≡ translate house deck
           is = same (sym (x .passes .reads) ∙ compiled-reads good)
 
-          begins : Stands (x .object) (x .table) (taken l store)
-          begins = taken-stands (x .object) (x .table) l store forty (x .right50) (x .right51) (x .right52)
+          begins : Stands (x .object) (x .table) (taken l store (devicesOf trays))
+          begins = taken-stands (x .object) (x .table) l store (devicesOf trays) forty (x .right50) (x .right51) (x .right52)
 
-          go-on : (r : Out State) → run (step (x .object)) a (taken l store) ≡ r → ran (x .object) n r .lent .height ≤ 2 * levelsIn deck + 3
-          go-on (go t) e = stands-low is (x .passes) t (run-stands (x .passes) a (taken l store) t begins e .0)
-          go-on (halt h t) e = stands-low is (x .passes) t (run-halts (x .passes) a (taken l store) t h begins e .0 .0)
+          go-on : (r : Out State) → run (step (x .object)) a (taken l store (devicesOf trays)) ≡ r → ran (x .object) trays n r .lent .height ≤ 2 * levelsIn deck + 3
+          go-on (go t) e = stands-low is (x .passes) t (run-stands (x .passes) a (taken l store (devicesOf trays)) t begins e .0)
+          go-on (halt h t) e = stands-low is (x .passes) t (run-halts (x .passes) a (taken l store (devicesOf trays)) t h begins e .0 .0)
 
-      by : Answer (objectBytes (translate house deck)) store l → running (objectBytes (translate house deck)) store l a .lent .height ≤ 2 * levelsIn deck + 3
-      by (refuses r p q) = let z : r .number ≡ 0 = ap (λ x. x .number) (sym (ap (λ x. x .refusal) (q a)) ∙ right) in absurd (omega arith)
-      by (runs x q) = rw (q a) (left x (steps (step (x .object)) a (taken l store)) (run (step (x .object)) a (taken l store)) refl)
+      by : Answer (objectBytes (translate house deck)) store l → running (objectBytes (translate house deck)) store l trays a .lent .height ≤ 2 * levelsIn deck + 3
+      by (refuses r p q) = let z : r .number ≡ 0 = ap (λ x. x .number) (sym (ap (λ x. x .refusal) (q trays a)) ∙ right) in absurd (omega arith)
+      by (runs x q) = rw (q trays a) (left x (steps (step (x .object)) a (taken l store (devicesOf trays))) (run (step (x .object)) a (taken l store (devicesOf trays))) refl)
 
-pub never-above : (house : House) → Lawful house → (bytes : List ℕ) (deck : List Statement) → deckOf house bytes ≡ read deck → (store : List ℤ) (l : Lent) → length (l .places) ≡ limits .stack → (a : ℕ)
-    → running (objectBytes (translate house deck)) store l a .refusal ≡ Rattle.rules_shared.specs.Refusals.accepted
-    → running (objectBytes (translate house deck)) store l a .lent .height ≤ house .height (deckLevels house bytes)
+pub never-above : (house : House) → Lawful house → (bytes : List ℕ) (deck : List Statement) → deckOf house bytes ≡ read deck → (store : List ℤ) (l : Lent) → length (l .places) ≡ limits .stack → (trays : Trays) (a : ℕ)
+    → running (objectBytes (translate house deck)) store l trays a .refusal ≡ Rattle.rules_shared.specs.Refusals.accepted
+    → running (objectBytes (translate house deck)) store l trays a .lent .height ≤ house .height (deckLevels house bytes)
 unfolding deckLevels
-never-above house lawful bytes deck e store l forty a right =
-    let low = accepted-above (accepted house lawful bytes deck e) store l forty a right in
+never-above house lawful bytes deck e store l forty trays a right =
+    let low = accepted-above (accepted house lawful bytes deck e) store l forty trays a right in
     let most = lawful .height (levelsIn deck) in
     rw e (omega arith)

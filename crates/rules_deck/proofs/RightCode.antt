@@ -9,7 +9,7 @@ use lib.ListN.{length, getElem?, length-map}
 use lib.IntN.{pos, natAbs, negℤ}
 use Rattle.rules_shared.specs.Limits.{limits}
 use Rattle.rules_object.specs.Object.{SubscriptEntry, Element}
-use Rattle.rules_object.specs.Operations.{Instr, HLT, CON, LOD, STO, LDE, STE, OP, NEG, JMP, BR3, BRC, DOI, DOE}
+use Rattle.rules_object.specs.Operations.{Listed, aSpan, oneElement, Instr, HLT, CON, LOD, STO, LDE, STE, OP, NEG, JMP, BR3, BRC, DOI, DOE, READ, PRINT}
 use Rattle.rules_shared.specs.Lists.{Each, each-none, each-more}
 use Rattle.rules_shared.proofs.EachLaws.{each-head, each-tail, each-one, each-append, each-left, each-right}
 use Rattle.rules_text.specs.Trees.{Name, Digits, valueOf, Addend, nothing, plus, minus, constant, linear, Subscripts, one, two, Expr, con, var, elm, neg, par, bin, Target, cell, element, written, Form, assign, goTo, computed, ifs, loop, continue, stop, end, dimension, Statement, addendConstants, optional, subscriptNames, subscriptsNames, subscriptConstants, subscriptsConstants, exprConstants, targetConstants, formConstants, formExits, Range, partsOf}
@@ -30,6 +30,10 @@ module _ (m n cells : ℕ) where
   RightElement e =
       (1 ≤ e .rows) × (1 ≤ e .columns) × (e .base + e .rows * e .columns ≤ cells) × RightSubscript (e .first) × RightSubscript (e .second)
 
+  abbrev pub RightListed : Listed → Type 0
+  RightListed (aSpan first count) = (0 < count) × (first + count ≤ cells)
+  RightListed (oneElement e) = RightElement e
+
   abbrev pub Right : Instr → Type 0
   Right (HLT x) = x ≤ 1
   Right (CON c) = c < m
@@ -44,6 +48,8 @@ module _ (m n cells : ℕ) where
   Right (BRC ts) = (limits .fewestExits ≤ length ts) × (length ts ≤ limits .mostExits) × Each (λ t. t < n) ts
   Right (DOI q d) = Unit {0}
   Right (DOE q d) = Unit {0}
+  Right (READ q f list) = Each RightListed list
+  Right (PRINT q f list) = Each RightListed list
 
 pub width-some : (c : ℕ) → 1 ≤ width c
 width-some zero = omega arith

@@ -5,7 +5,7 @@ use Prim.Native.Nat.{ℕ, suc, _+_, _-_, _*_, _≤_, _<_}
 use native.Mathlib.Nat.{zero-add}
 use native.Mathlib.Omega.{arith}
 use mathlib.Core.Bool.{Bool, true, false, _&&_, cond}
-use mathlib.Core.List.{List, [], _∷_, _++_, map}
+use mathlib.Core.List.{List, [], _∷_, map}
 use mathlib.Core.Option.{some}
 use lib.Dec.{leb, eqb}
 use lib.ListN.{length, getElem?}
@@ -13,14 +13,14 @@ use borrow.Author.Tests.{leb-true}
 use Rattle.rules_shared.specs.Limits.{limits}
 use Rattle.rules_shared.specs.House.{House}
 use Rattle.rules_object.specs.Object.{Element, Loop, Line, Named}
-use Rattle.rules_object.specs.Operations.{Instr, HLT, CON, LOD, STO, LDE, STE, OP, NEG, JMP, BR3, BRC, DOI, DOE}
+use Rattle.rules_object.specs.Operations.{Listed, aSpan, oneElement, Instr, HLT, CON, LOD, STO, LDE, STE, OP, NEG, JMP, BR3, BRC, DOI, DOE, READ, PRINT}
 use Rattle.rules_shared.specs.Lists.{Each, each-none, each-more}
 use Rattle.rules_shared.proofs.EachLaws.{each-one, each-map, each-append}
 use Rattle.rules_text.specs.Trees.{Name, Digits, valueOf, Statement, formConstants}
 use Rattle.rules_deck.specs.Deck.{positionOf, dosOf, dimsOf, width}
 use Rattle.rules_deck.specs.Meaning.{plain, elementAt}
 use Rattle.rules_deck.specs.Judge.{startsInteger, right11, right12, Reference, formReferences}
-use Rattle.rules_deck.specs.Translation.{heldOf, cellCount, formPlain, addressAt, loopEntry, codeOf, Tables, noTables, pool, tablesAfter, tablesOf, executable, linesFrom, filled, namesFrom}
+use Rattle.rules_deck.specs.Translation.{heldOf, cellCount, formPlain, addressAt, loopEntry, codeOf, Tables, noTables, pool, addElement, addExits, listElements, addTransfer, tablesAfter, tablesOf, executable, linesFrom, filled, namesFrom}
 use Rattle.rules_deck.specs.Cells.{key, limit, step}
 use Rattle.rules_deck.specs.Accepted.{Among, here, there, Accepted}
 use Rattle.rules_text.specs.Spelling.{IsName}
@@ -36,7 +36,7 @@ use Rattle.rules_deck.proofs.BodySeven.{each-here, InDeck, entry-name, 
 use Rattle.rules_text.proofs.Values.{ten-some, value-within}
 use Rattle.rules_deck.proofs.HeightsCompiled.{below}
 use Rattle.rules_deck.proofs.TableCompiled.{stands}
-use Rattle.rules_deck.proofs.RightCode.{RightElement, Right, Spanned, product-some, width-some, Fine, code-right}
+use Rattle.rules_deck.proofs.RightCode.{RightElement, RightListed, Right, Spanned, product-some, width-some, Fine, code-right}
 
 -- ---- every one of a list
 
@@ -72,11 +72,19 @@ module _ (m n cells : ℕ) where
   far : (ts : List ℕ) → Each (λ t. t < n) ts → Each (λ x. x < n + 11) ts
   far ts h = each-map (λ t l. omega arith) h
 
-  with-element : (T : Tables) (e : Element) → RightTables m n cells T → RightElement m n cells e → RightTables m n cells (record { constants = T .constants; elements = T .elements ++ (e ∷ []); exits = T .exits })
+  with-element : (T : Tables) (e : Element) → RightTables m n cells T → RightElement m n cells e → RightTables m n cells (addElement T e)
   with-element T e r h = record { constants = r .constants; elements = each-append (r .elements) (each-one h); exits = r .exits }
 
-  with-exits : (T : Tables) (ts : List ℕ) → RightTables m n cells T → Each (λ x. x < n + 11) ts → RightTables m n cells (record { constants = T .constants; elements = T .elements; exits = T .exits ++ ts })
+  with-exits : (T : Tables) (ts : List ℕ) → RightTables m n cells T → Each (λ x. x < n + 11) ts → RightTables m n cells (addExits T ts)
   with-exits T ts r h = record { constants = r .constants; elements = r .elements; exits = each-append (r .exits) h }
+
+  elements-right : (list : List Listed) → Each (RightListed m n cells) list → Each (RightElement m n cells) (listElements list)
+  elements-right [] each-none = each-none
+  elements-right (aSpan first count ∷ list) (each-more h hs) = elements-right list hs
+  elements-right (oneElement e ∷ list) (each-more h hs) = each-more h (elements-right list hs)
+
+  with-transfer : (T : Tables) (format : ℕ) (list : List Listed) → RightTables m n cells T → Each (RightListed m n cells) list → RightTables m n cells (addTransfer T format list)
+  with-transfer T format list r h = record { constants = r .constants; elements = each-append (r .elements) (elements-right list h); exits = r .exits }
 
   after-right : (T : Tables) (i : Instr) → RightTables m n cells T → Right m n cells i → RightTables m n cells (tablesAfter T i)
   after-right T (HLT x) r h = r
@@ -92,6 +100,8 @@ module _ (m n cells : ℕ) where
   after-right T (BRC ts) r h = with-exits T (length ts ∷ ts) r (each-more {x = length ts} (omega (arith, h .1)) (far ts (h .2)))
   after-right T (DOI q d) r h = r
   after-right T (DOE q d) r h = r
+  after-right T (READ q f list) r h = with-transfer T q list r h
+  after-right T (PRINT q f list) r h = with-transfer T q list r h
 
   tables-right : (T : Tables) (is : List Instr) → RightTables m n cells T → Each (Right m n cells) is → RightTables m n cells (tablesOf T is)
   tables-right T [] r h = r

@@ -11,6 +11,7 @@ use lib.IntN.{ℤ}
 use Rattle.rules_shared.specs.House.{House}
 use Rattle.rules_shared.specs.Runs.{Outcome, go}
 use Rattle.rules_shared.specs.Choose.{exit}
+use Rattle.rules_formats.specs.Walk.{Devices, noTrays, devicesOf}
 use Rattle.rules_object.specs.Operations.{DOI, DOE}
 use Rattle.rules_object.specs.Machine.{State}
 use Rattle.rules_object.proofs.States.{state}
@@ -33,11 +34,11 @@ third-known : {held : List Held} (r : Option Expr) → Known held (written exprP
 third-known none h = h
 third-known (some e) h = h
 
-module _ (house : House) {deck : List Statement} (sound : Sound deck) {j lost m : ℕ} {env : Values} {inside : ℕ → Bounds} {c : List ℤ} (st : Stands deck j env inside lost c m) where
+module _ (house : House) {deck : List Statement} (sound : Sound deck) {j lost m : ℕ} {env : Values} {inside : ℕ → Bounds} {c : List ℤ} {devices : Devices} (st : Stands deck j env inside lost c m) where
   pub exec-sim : (number : ℕ) (f : Form) → getElem? deck j ≡ some (stated number f)
       → At (codeOf deck) (addressAt deck j) (formCode (heldOf deck) (dimsOf deck) (addressOf deck) (enterCode deck j f) f ++ map (doInstr deck DOE) (endings deck number))
       → addressAt deck j + length (formCode (heldOf deck) (dimsOf deck) (addressOf deck) (enterCode deck j f) f) + length (endings deck number) ≡ addressAt deck (suc j)
-      → Sim house deck j (state (addressAt deck j) [] c m) (formSteps (ruled house) deck (endings deck number) j env inside f) (exec (ruled house) deck (endings deck number) (standing j env inside lost) f)
+      → Sim house deck j (state (addressAt deck j) [] c m devices) (formSteps (ruled house) deck (endings deck number) j env inside f) (exec (ruled house) deck (endings deck number) (standing j env inside lost) f)
   unfolding formPlain formExits
   exec-sim number (assign (cell v) e) at a l =
       let code = exprCode (heldOf deck) (dimsOf deck) e in
@@ -55,7 +56,7 @@ module _ (house : House) {deck : List Statement} (sound : Sound deck) {j lost m 
   exec-sim number (computed ns v) at a l =
       let h = known house sound st at .has v here in
       chosen-sim house sound st at ns (env (plain v)) (exit ns (env (plain v))) (λ n x. x) refl
-      (on (sound .fitting) (at-head a) (ap (λ x. go (state (suc (addressAt deck j)) (x ∷ []) c m)) (st .holds .same (plain v) h)) stay) (at-head (at-tail a)) (omega arith)
+      (on (sound .fitting) (at-head a) (ap (λ x. go (state (suc (addressAt deck j)) (x ∷ []) c m devices)) (st .holds .same (plain v) h)) stay) (at-head (at-tail a)) (omega arith)
   exec-sim number (ifs e n₁ n₂ n₃) at a l =
       let code = exprCode (heldOf deck) (dimsOf deck) e in
       let (aE, aS, aD) = at-last code _ _ a in
@@ -90,7 +91,7 @@ module _ (house : House) {deck : List Statement} (sound : Sound deck) {j lost m 
   exec-sim number (dimension arrays) at a l =
       ends-sim house sound (ready house sound st at refl refl (st .holds) (st .mark) (st .around)) (endings deck number) (ending house sound st at) a (omega arith)
 
-  at-sim : (s : Statement) → getElem? deck j ≡ some s → Sim house deck j (state (addressAt deck j) [] c m) (stepsAt (ruled house) deck (some s) (standing j env inside lost)) (execAt (ruled house) deck (some s) (standing j env inside lost))
+  at-sim : (s : Statement) → getElem? deck j ≡ some s → Sim house deck j (state (addressAt deck j) [] c m devices) (stepsAt (ruled house) deck (some s) (standing j env inside lost)) (execAt (ruled house) deck (some s) (standing j env inside lost))
   at-sim s e =
       let w : length (statementCode deck j s) ≡ length (formCode (heldOf deck) (dimsOf deck) (addressOf deck) (enterCode deck j (s .form)) (s .form)) + length (endings deck (s .number)) =
       simp (length-append, length-map) in
@@ -98,18 +99,18 @@ module _ (house : House) {deck : List Statement} (sound : Sound deck) {j lost m 
       exec-sim (s .number) (s .form) e (statement-at deck j s e) (omega (arith, address-suc deck j s e))
 
   -- one statement
-  pub step-sim : Sim house deck j (state (addressAt deck j) [] c m) (statementSteps (ruled house) deck (standing j env inside lost)) (meaningStep (ruled house) deck (standing j env inside lost))
+  pub step-sim : Sim house deck j (state (addressAt deck j) [] c m devices) (statementSteps (ruled house) deck (standing j env inside lost)) (meaningStep (ruled house) deck (standing j env inside lost))
   unfolding meaningStep statementSteps
   step-sim = by (getElem? deck j) refl
     where
-      by : (o : Option Statement) → getElem? deck j ≡ o → Sim house deck j (state (addressAt deck j) [] c m) (stepsAt (ruled house) deck (getElem? deck j) (standing j env inside lost)) (execAt (ruled house) deck (getElem? deck j) (standing j env inside lost))
+      by : (o : Option Statement) → getElem? deck j ≡ o → Sim house deck j (state (addressAt deck j) [] c m devices) (stepsAt (ruled house) deck (getElem? deck j) (standing j env inside lost)) (execAt (ruled house) deck (getElem? deck j) (standing j env inside lost))
       by none e = absurd (missing deck j (st .here) e)
         where
           missing : (l : List Statement) (i : ℕ) → i < length l → getElem? l i ≡ none → ⊥
           missing [] i l e = omega arith
           missing (x ∷ l) zero h e = let z : _≡_ {A = ℕ} 0 1 = cc in omega arith
           missing (x ∷ l) (suc i) h e = missing l i (omega arith) e
-      by (some s) e = subst (λ o. Sim house deck j (state (addressAt deck j) [] c m) (stepsAt (ruled house) deck o (standing j env inside lost)) (execAt (ruled house) deck o (standing j env inside lost))) (sym e) (at-sim s e)
+      by (some s) e = subst (λ o. Sim house deck j (state (addressAt deck j) [] c m devices) (stepsAt (ruled house) deck o (standing j env inside lost)) (execAt (ruled house) deck o (standing j env inside lost))) (sym e) (at-sim s e)
 
 within : {house : House} {deck : List Statement} {j n : ℕ} {t : State} {o : Outcome Cause Standing} → Sim house deck j t n o → t .index + n ≤ addressAt deck (suc j)
 within (goes r l st p) = l
@@ -118,4 +119,4 @@ within (halts r l p h m) = l
 -- no more steps than the statement has words
 pub steps-most : (house : House) {deck : List Statement} → Sound deck → {j lost m : ℕ} {env : Values} {inside : ℕ → Bounds} {c : List ℤ} → Stands deck j env inside lost c m
     → addressAt deck j + statementSteps (ruled house) deck (standing j env inside lost) ≤ addressAt deck (suc j)
-steps-most house sound st = within (step-sim house sound st)
+steps-most house sound st = within (step-sim house sound {devices = devicesOf noTrays} st)

@@ -25,14 +25,16 @@ pub pool-append : (pooled a b : List ℕ) → poolAll pooled (a ++ b) ≡ poolAl
 pool-append pooled [] b = refl
 pool-append pooled (c ∷ a) b = pool-append (pool pooled c) a b
 
--- Code brings the constants cs in their order, n elements and x words of exits, to whatever tables there are.
+-- Code brings the constants cs in their order, n elements and x words of exits, to whatever tables there are; no item and no transfer, for no statement is a READ or PRINT yet.
 pub record Brings (code : List Instr) (cs : List ℕ) (n x : ℕ) : Type 0 where
   pub constants : (T : Tables) → tablesOf T code .constants ≡ poolAll (T .constants) cs
   pub elements : (T : Tables) → length (tablesOf T code .elements) ≡ length (T .elements) + n
   pub exits : (T : Tables) → length (tablesOf T code .exits) ≡ length (T .exits) + x
+  pub items : (T : Tables) → tablesOf T code .items ≡ T .items
+  pub transfers : (T : Tables) → tablesOf T code .transfers ≡ T .transfers
 
 pub brings-none : Brings [] [] 0 0
-brings-none = record { constants = λ T. refl; elements = λ T. omega arith; exits = λ T. omega arith }
+brings-none = record { constants = λ T. refl; elements = λ T. omega arith; exits = λ T. omega arith; items = λ T. refl; transfers = λ T. refl }
 
 pub brings-both : {a b : List Instr} {cs ds : List ℕ} {n m x y : ℕ} → Brings a cs n x → Brings b ds m y → Brings (a ++ b) (cs ++ ds) (n + m) (x + y)
 brings-both {a} {b} {cs} {ds} {n} {m} {x} {y} g h =
@@ -48,6 +50,8 @@ brings-both {a} {b} {cs} {ds} {n} {m} {x} {y} g h =
           let p = h .exits (tablesOf T a) in
           let q = g .exits T in
           omega arith;
+      items = λ T. ap (λ (U : Tables). U .items) (tables-append T a b) ∙ h .items (tablesOf T a) ∙ g .items T;
+      transfers = λ T. ap (λ (U : Tables). U .transfers) (tables-append T a b) ∙ h .transfers (tablesOf T a) ∙ g .transfers T;
     }
 
 -- the same said otherwise
@@ -67,29 +71,29 @@ data Quiet : Instr → Type 0 where
   doe : {n : ℕ} {d : Loop} → Quiet (DOE n d)
 
 brings-quiet : {i : Instr} → Quiet i → Brings (i ∷ []) [] 0 0
-brings-quiet hlt = record { constants = λ T. refl; elements = λ T. omega arith; exits = λ T. omega arith }
-brings-quiet lod = record { constants = λ T. refl; elements = λ T. omega arith; exits = λ T. omega arith }
-brings-quiet sto = record { constants = λ T. refl; elements = λ T. omega arith; exits = λ T. omega arith }
-brings-quiet opr = record { constants = λ T. refl; elements = λ T. omega arith; exits = λ T. omega arith }
-brings-quiet sign = record { constants = λ T. refl; elements = λ T. omega arith; exits = λ T. omega arith }
-brings-quiet jmp = record { constants = λ T. refl; elements = λ T. omega arith; exits = λ T. omega arith }
-brings-quiet doi = record { constants = λ T. refl; elements = λ T. omega arith; exits = λ T. omega arith }
-brings-quiet doe = record { constants = λ T. refl; elements = λ T. omega arith; exits = λ T. omega arith }
+brings-quiet hlt = record { constants = λ T. refl; elements = λ T. omega arith; exits = λ T. omega arith; items = λ T. refl; transfers = λ T. refl }
+brings-quiet lod = record { constants = λ T. refl; elements = λ T. omega arith; exits = λ T. omega arith; items = λ T. refl; transfers = λ T. refl }
+brings-quiet sto = record { constants = λ T. refl; elements = λ T. omega arith; exits = λ T. omega arith; items = λ T. refl; transfers = λ T. refl }
+brings-quiet opr = record { constants = λ T. refl; elements = λ T. omega arith; exits = λ T. omega arith; items = λ T. refl; transfers = λ T. refl }
+brings-quiet sign = record { constants = λ T. refl; elements = λ T. omega arith; exits = λ T. omega arith; items = λ T. refl; transfers = λ T. refl }
+brings-quiet jmp = record { constants = λ T. refl; elements = λ T. omega arith; exits = λ T. omega arith; items = λ T. refl; transfers = λ T. refl }
+brings-quiet doi = record { constants = λ T. refl; elements = λ T. omega arith; exits = λ T. omega arith; items = λ T. refl; transfers = λ T. refl }
+brings-quiet doe = record { constants = λ T. refl; elements = λ T. omega arith; exits = λ T. omega arith; items = λ T. refl; transfers = λ T. refl }
 
 brings-constant : (c : ℕ) → Brings (CON c ∷ []) (c ∷ []) 0 0
-brings-constant c = record { constants = λ T. refl; elements = λ T. omega arith; exits = λ T. omega arith }
+brings-constant c = record { constants = λ T. refl; elements = λ T. omega arith; exits = λ T. omega arith; items = λ T. refl; transfers = λ T. refl }
 
 brings-load : (e : Element) → Brings (LDE e ∷ []) [] 1 0
-brings-load e = record { constants = λ T. refl; elements = λ T. length-append (T .elements) (e ∷ []); exits = λ T. omega arith }
+brings-load e = record { constants = λ T. refl; elements = λ T. length-append (T .elements) (e ∷ []); exits = λ T. omega arith; items = λ T. refl; transfers = λ T. refl }
 
 brings-store : (e : Element) → Brings (STE e ∷ []) [] 1 0
-brings-store e = record { constants = λ T. refl; elements = λ T. length-append (T .elements) (e ∷ []); exits = λ T. omega arith }
+brings-store e = record { constants = λ T. refl; elements = λ T. length-append (T .elements) (e ∷ []); exits = λ T. omega arith; items = λ T. refl; transfers = λ T. refl }
 
 brings-three : (a b c : ℕ) → Brings (BR3 a b c ∷ []) [] 0 3
-brings-three a b c = record { constants = λ T. refl; elements = λ T. omega arith; exits = λ T. length-append (T .exits) (a ∷ b ∷ c ∷ []) }
+brings-three a b c = record { constants = λ T. refl; elements = λ T. omega arith; exits = λ T. length-append (T .exits) (a ∷ b ∷ c ∷ []); items = λ T. refl; transfers = λ T. refl }
 
 brings-many : (ts : List ℕ) → Brings (BRC ts ∷ []) [] 0 (suc (length ts))
-brings-many ts = record { constants = λ T. refl; elements = λ T. omega arith; exits = λ T. length-append (T .exits) (length ts ∷ ts) }
+brings-many ts = record { constants = λ T. refl; elements = λ T. omega arith; exits = λ T. length-append (T .exits) (length ts ∷ ts); items = λ T. refl; transfers = λ T. refl }
 
 -- ---- expressions, forms and statements
 

@@ -4,17 +4,19 @@ use mathlib.Core.Path.{_≡_, refl, sym, ap, _∙_}
 use Prim.Native.Nat.{ℕ, zero, suc, _+_, _^_, _≤_, _<_}
 use native.Mathlib.Omega.{arith}
 use mathlib.Core.Bool.{Bool, true, false, cond}
-use mathlib.Core.List.{List, [], _∷_, _++_}
+use mathlib.Core.List.{List, [], _∷_, _++_, map}
 use mathlib.Core.Option.{some}
 use lib.Arith.{digits-div, digits-mod}
 use lib.Dec.{eqb}
-use lib.ListN.{length, getElem?, getD, take, drop}
-use borrow.Author.Tests.{eqb-true}
+use lib.ListN.{length, getElem?, getD, take, drop, length-map}
+use borrow.Author.Tests.{eqb-true, ne-eqb}
 use Rattle.number.specs.Number.{add, sub, mul, div}
 use Rattle.rules_shared.specs.Limits.{limits}
-use Rattle.rules_object.specs.Object.{Object}
-use Rattle.rules_object.specs.Operations.{Instr, HLT, CON, LOD, STO, LDE, STE, OP, NEG, JMP, BR3, BRC, DOI, DOE, operationOf, operandOf, meant, decode, operationNumber}
-use Rattle.rules_deck.specs.Translation.{Tables, pool, poolAt, tablesAfter, operand, wordOf, emit, tablesOf}
+use Rattle.rules_shared.specs.Lists.{Each, each-more}
+use Rattle.rules_formats.specs.Format.{Flat}
+use Rattle.rules_object.specs.Object.{Element, ListItem, Object}
+use Rattle.rules_object.specs.Operations.{Listed, aSpan, oneElement, Instr, HLT, CON, LOD, STO, LDE, STE, OP, NEG, JMP, BR3, BRC, DOI, DOE, READ, PRINT, operationOf, operandOf, noElement, noTransfer, elementAt, formatAt, listed, listAt, saysTransfer, meant, decode, operationNumber}
+use Rattle.rules_deck.specs.Translation.{Tables, pool, poolAt, listElements, addElement, addExits, listItems, addTransfer, tablesAfter, operand, wordOf, emit, tablesOf}
 use Rattle.rules_deck.proofs.Addresses.{At, none-left, has, at-head, at-tail, at-end}
 use Rattle.rules_deck.proofs.TestLaws.{clash, at-before}
 
@@ -37,6 +39,15 @@ module _ {A : Type 0} where
 
 -- ---- what an operand stands for
 
+-- the entry of a READ or PRINT tells the FORMAT whose first word is at n, and its items are the list
+pub record Transferred (o : Object) (n : ℕ) (f : Flat) (list : List Listed) (x : ℕ) : Type 0 where
+  pub first : ℕ
+  pub entry : getElem? (o .transfers) x ≡ some (record { format = n; first = first; count = length list })
+  pub items : List ListItem
+  pub stand : At (o .items) first items
+  pub say : map (listed o) items ≡ list
+  pub format : formatAt o n ≡ f
+
 abbrev pub InTables : Object → Instr → ℕ → Type 0
 InTables o (HLT y) x = x ≡ y
 InTables o (CON c) x = At (o .constants) x (c ∷ [])
@@ -51,6 +62,15 @@ InTables o (BR3 a b c) x = At (o .exits) x (a ∷ b ∷ c ∷ [])
 InTables o (BRC ts) x = At (o .exits) x (length ts ∷ ts)
 InTables o (DOI n d) x = (x ≡ n) × At (o .dos) x (d ∷ [])
 InTables o (DOE n d) x = (x ≡ n) × At (o .dos) x (d ∷ [])
+InTables o (READ n f list) x = Transferred o n f list x
+InTables o (PRINT n f list) x = Transferred o n f list x
+
+transfer-reads : (instr : ℕ → Flat → List Listed → Instr) (o : Object) {n : ℕ} {f : Flat} {list : List Listed} (x : ℕ) → Transferred o n f list x → saysTransfer instr o x ≡ instr n f list
+transfer-reads instr o {n} {f} {list} x h =
+    let count : length list ≡ length (h .items) = sym (ap length (h .say)) ∙ length-map (h .items) (listed o) in
+    let same : listAt o (record { format = n; first = h .first; count = length list }) ≡ list =
+    ap (λ (c : ℕ). map (listed o) (take c (drop (h .first) (o .items)))) count ∙ ap (map (listed o)) (slice-at (h .first) (h .items) (h .stand)) ∙ h .say in
+    ap (λ t. instr (t .format) (formatAt o (t .format)) (listAt o t)) (getD-at (o .transfers) x _ noTransfer (h .entry)) ∙ rw (h .format, same)
 
 reads : (o : Object) (i : Instr) (x : ℕ) → InTables o i x → meant o (operationNumber i) x ≡ i
 reads o (HLT y) x h = ap HLT h
@@ -78,6 +98,8 @@ reads o (BRC ts) x h =
     ap BRC (rw (one, p) (slice-at (suc x) ts (at-tail h)))
 reads o (DOI n d) x h = rw (← h .0) (ap (DOI x) (getD-at (o .dos) x d _ (at-head (h .1))))
 reads o (DOE n d) x h = rw (← h .0) (ap (DOE x) (getD-at (o .dos) x d _ (at-head (h .1))))
+reads o (READ n f list) x h = transfer-reads READ o x h
+reads o (PRINT n f list) x h = transfer-reads PRINT o x h
 
 -- ---- tables only grow
 
@@ -114,38 +136,64 @@ pool-has (b ∷ cs) c = go (eqb b c) (eqb-true b c) (pool-has cs c)
 grow-append : {A : Type 0} {l m : List A} (r : List A) → Grows (l ++ r) m → Grows l m
 grow-append {A} {l} r g = record { keeps = λ i v e. g .keeps i v (keeps-append l r i v e) }
 
+pub grows-self : {A : Type 0} {l : List A} → Grows l l
+grows-self = record { keeps = λ i v e. e }
+
 -- all of the tables stands in the object's
 pub record Within (T : Tables) (o : Object) : Type 0 where
   pub constants : Grows (T .constants) (o .constants)
   pub elements : Grows (T .elements) (o .elements)
   pub exits : Grows (T .exits) (o .exits)
+  pub items : Grows (T .items) (o .items)
+  pub transfers : Grows (T .transfers) (o .transfers)
+
+module _ {o : Object} {T : Tables} where
+  without-element : (e : Element) → Within (addElement T e) o → Within T o
+  without-element e w = record { constants = w .constants; elements = grow-append (e ∷ []) (w .elements); exits = w .exits; items = w .items; transfers = w .transfers }
+
+  without-exits : (ts : List ℕ) → Within (addExits T ts) o → Within T o
+  without-exits ts w = record { constants = w .constants; elements = w .elements; exits = grow-append ts (w .exits); items = w .items; transfers = w .transfers }
+
+  without-transfer : (n : ℕ) (list : List Listed) → Within (addTransfer T n list) o → Within T o
+  without-transfer n list w =
+      record {
+        constants = w .constants;
+        elements = grow-append (listElements list) (w .elements);
+        exits = w .exits;
+        items = grow-append (listItems (length (T .elements)) list) (w .items);
+        transfers = grow-append _ (w .transfers);
+      }
 
 within-before : (o : Object) (T : Tables) (i : Instr) → Within (tablesAfter T i) o → Within T o
 within-before o T (HLT x) w = w
 within-before o T (CON c) w =
-    record { constants = record { keeps = λ i v e. w .constants .keeps i v (keeps-pool (T .constants) c i v e) }; elements = w .elements; exits = w .exits }
+    record { constants = record { keeps = λ i v e. w .constants .keeps i v (keeps-pool (T .constants) c i v e) }; elements = w .elements; exits = w .exits; items = w .items; transfers = w .transfers }
 within-before o T (LOD a) w = w
 within-before o T (STO a) w = w
-within-before o T (LDE e) w = record { constants = w .constants; elements = grow-append (e ∷ []) (w .elements); exits = w .exits }
-within-before o T (STE e) w = record { constants = w .constants; elements = grow-append (e ∷ []) (w .elements); exits = w .exits }
+within-before o T (LDE e) w = without-element e w
+within-before o T (STE e) w = without-element e w
 within-before o T (OP p) w = w
 within-before o T NEG w = w
 within-before o T (JMP a) w = w
-within-before o T (BR3 a b c) w = record { constants = w .constants; elements = w .elements; exits = grow-append (a ∷ b ∷ c ∷ []) (w .exits) }
-within-before o T (BRC ts) w = record { constants = w .constants; elements = w .elements; exits = grow-append (length ts ∷ ts) (w .exits) }
+within-before o T (BR3 a b c) w = without-exits (a ∷ b ∷ c ∷ []) w
+within-before o T (BRC ts) w = without-exits (length ts ∷ ts) w
 within-before o T (DOI n d) w = w
 within-before o T (DOE n d) w = w
+within-before o T (READ n f list) w = without-transfer n list w
+within-before o T (PRINT n f list) w = without-transfer n list w
 
 within-start : (o : Object) (T : Tables) (is : List Instr) → Within (tablesOf T is) o → Within T o
 within-start o T [] w = w
 within-start o T (i ∷ is) w = within-before o T i (within-start o (tablesAfter T i) is w)
 
-pub within-self : (o : Object) → Within (record { constants = o .constants; elements = o .elements; exits = o .exits }) o
-within-self o = record { constants = record { keeps = λ i v e. e }; elements = record { keeps = λ i v e. e }; exits = record { keeps = λ i v e. e } }
-
 -- ---- what the code says beside its tables
 
--- A halt is STOP or END, a cell at most the count, an address at most the code's length, and a DO's entry stands at its number.
+-- a span has a cell at least
+abbrev pub HasCells : Listed → Type 0
+HasCells (aSpan first count) = 0 < count
+HasCells (oneElement e) = Unit {0}
+
+-- A halt is STOP or END, a cell at most the count, an address at most the code's length, a DO's entry stands at its number, and a FORMAT's words at their index.
 abbrev pub Bounded : Object → Instr → Type 0
 Bounded o (HLT x) = x ≤ 1
 Bounded o (CON c) = Unit {0}
@@ -160,6 +208,29 @@ Bounded o (BR3 a b c) = Unit {0}
 Bounded o (BRC ts) = Unit {0}
 Bounded o (DOI n d) = getElem? (o .dos) n ≡ some d
 Bounded o (DOE n d) = getElem? (o .dos) n ≡ some d
+Bounded o (READ n f list) = (formatAt o n ≡ f) × Each HasCells list
+Bounded o (PRINT n f list) = (formatAt o n ≡ f) × Each HasCells list
+
+-- the items of a list, its elements' entries being those from number `at` on, are the list
+list-says : (o : Object) (at : ℕ) (list : List Listed) → At (o .elements) at (listElements list) → Each HasCells list → map (listed o) (listItems at list) ≡ list
+list-says o at [] h s = refl
+list-says o at (aSpan first count ∷ list) h (each-more s ss) =
+    ap (λ (b : Bool). cond b (oneElement (elementAt o first)) (aSpan first count) ∷ map (listed o) (listItems at list)) (ne-eqb count 0 (λ e. omega arith))
+    ∙ ap (λ (l : List Listed). aSpan first count ∷ l) (list-says o at list h ss)
+list-says o at (oneElement e ∷ list) h (each-more s ss) =
+    ap (λ (d : Element). oneElement d ∷ map (listed o) (listItems (suc at) list)) (getD-at (o .elements) at e noElement (at-head h))
+    ∙ ap (λ (l : List Listed). oneElement e ∷ l) (list-says o (suc at) list (at-tail h) ss)
+
+transfer-now : (o : Object) (T : Tables) (n : ℕ) (f : Flat) (list : List Listed) → Within (addTransfer T n list) o → (formatAt o n ≡ f) × Each HasCells list → Transferred o n f list (length (T .transfers))
+transfer-now o T n f list w b =
+    record {
+      first = length (T .items);
+      entry = w .transfers .keeps _ _ (at-head (at-end (T .transfers) (record { format = n; first = length (T .items); count = length list } ∷ [])));
+      items = listItems (length (T .elements)) list;
+      stand = at-grow (w .items) (at-end (T .items) (listItems (length (T .elements)) list));
+      say = list-says o (length (T .elements)) list (at-grow (w .elements) (at-end (T .elements) (listElements list))) (b .1);
+      format = b .0;
+    }
 
 means-now : (o : Object) (T : Tables) (i : Instr) → Within (tablesAfter T i) o → Bounded o i → InTables o i (operand T i)
 means-now o T (HLT x) w b = refl
@@ -175,6 +246,8 @@ means-now o T (BR3 x y z) w b = at-grow (w .exits) (at-end (T .exits) (x ∷ y �
 means-now o T (BRC ts) w b = at-grow (w .exits) (at-end (T .exits) (length ts ∷ ts))
 means-now o T (DOI n d) w b = (refl, has b none-left)
 means-now o T (DOE n d) w b = (refl, has b none-left)
+means-now o T (READ n f list) w b = transfer-now o T n f list w b
+means-now o T (PRINT n f list) w b = transfer-now o T n f list w b
 
 -- ---- the round trip
 
@@ -199,6 +272,7 @@ pub record Sized (o : Object) : Type 0 where
   pub elements : length (o .elements) ≤ limits .elements
   pub exits : length (o .exits) ≤ limits .exits
   pub dos : length (o .dos) ≤ limits .dos
+  pub transfers : length (o .transfers) ≤ limits .transfers
 
 operand-small : (o : Object) (i : Instr) (x : ℕ) → Sized o → Bounded o i → InTables o i x → x < 2 ^ 24
 operand-small o (HLT y) x s b h = omega arith
@@ -214,6 +288,8 @@ operand-small o (BR3 t u v) x s b h = omega (arith, s .exits, at-before (o .exit
 operand-small o (BRC ts) x s b h = omega (arith, s .exits, at-before (o .exits) x (at-head h))
 operand-small o (DOI n d) x s b h = omega (arith, s .dos, at-before (o .dos) x (at-head (h .1)))
 operand-small o (DOE n d) x s b h = omega (arith, s .dos, at-before (o .dos) x (at-head (h .1)))
+operand-small o (READ n f list) x s b h = omega (arith, s .transfers, at-before (o .transfers) x (h .entry))
+operand-small o (PRINT n f list) x s b h = omega (arith, s .transfers, at-before (o .transfers) x (h .entry))
 
 -- an instruction's word in an object
 pub record Emitted (o : Object) (a : ℕ) (i : Instr) : Type 0 where

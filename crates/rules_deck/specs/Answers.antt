@@ -1,4 +1,4 @@
--- What a caller is told of a deck that is compiled and run with a zero store for 1,000,000 steps, and what its meaning comes to. Examples are said in these words.
+-- What a caller is told of a deck that is compiled and run with a zero store, no cards and no lines for 1,000,000 steps, and what its meaning comes to. Examples are said in these words.
 -- Assumes nothing.
 use Prim.Native.Nat.{ℕ}
 use mathlib.Core.Bool.{Bool, true, false}
@@ -9,6 +9,7 @@ use lib.ListN.{replicate}
 use lib.IntN.{ℤ, pos}
 use Rattle.rules_shared.specs.House.{House}
 use Rattle.rules_shared.specs.Runs.{Outcome, go, halt}
+use Rattle.rules_formats.specs.Walk.{noTrays}
 use Rattle.rules_object.specs.Halts.{haltNumber}
 use Rattle.rules_object.specs.Object.{Object}
 use Rattle.rules_object.specs.Bytes.{readObject}
@@ -33,7 +34,7 @@ abbrev pub told : List ℕ → List Key → Ran → Answer
 told object keys r = ran (r .halt) (r .steps) (r .sequence) (map (namedValues object (r .store)) keys)
 
 abbrev pub runObject : List ℕ → List Key → Answer
-runObject object keys = told object keys (running object (zeroStore (readObject object)) freshLent 1000000)
+runObject object keys = told object keys (running object (zeroStore (readObject object)) freshLent noTrays 1000000)
 
 abbrev pub runWritten : Written → List Key → Bool → Answer
 runWritten w keys true = runObject (objectIn w) keys

@@ -1,4 +1,4 @@
--- What theorems ask of a house: that the check lets its digits, constants and names pass, and that an object of it is run by its rule.
+-- What theorems ask of a house: that its objects are of an edition that is read, that the check lets its digits, constants and names pass, and that an object of it is run by its rule.
 -- Assumes nothing.
 use mathlib.Core.Path.{_≡_}
 use Prim.Native.Nat.{ℕ, _+_, _*_, _^_, _≤_}
@@ -6,9 +6,12 @@ use mathlib.Core.Bool.{true, false}
 use Rattle.rules_shared.specs.Limits.{limits}
 use Rattle.rules_shared.specs.House.{House}
 use Rattle.rules_object.specs.Object.{Object, ruleOf}
+use Rattle.rules_object.specs.Kinds.{edition}
 use Rattle.rules_text.specs.Cards.{rightDigits}
 
 pub record Lawful (house : House) : Type 0 where
+  -- the edition that is written
+  pub edition : house .edition ≡ edition
   -- an object with its digits has its rule
   pub rule : (o : Object) → o .digits ≡ house .digits → ruleOf o ≡ house .rule
   -- digits that pass 1 pass 41

@@ -8,8 +8,8 @@ use lib.Dec.{ltb, eqb, leb}
 use lib.ListN.{take}
 use lib.IntN.{ℤ, pos}
 use Rattle.rules_shared.specs.House.{House}
-use Rattle.number.specs.Number.{digitsRule}
 use Rattle.rules_shared.specs.Runs.{Outcome}
+use Rattle.rules_formats.specs.Walk.{Trays}
 use Rattle.rules_object.specs.Halts.{Halt, atStop, atEnd, divideByZero, badSubscript, badExit, badParameter}
 use Rattle.rules_object.specs.Object.{Named, Object}
 use Rattle.rules_object.specs.Check.{span}
@@ -17,7 +17,7 @@ use Rattle.rules_object.specs.Machine.{cell}
 use Rattle.rules_object.specs.Bytes.{readObject}
 use Rattle.rules_shared.specs.Output.{Written}
 use Rattle.rules_object.specs.Calls.{Lent, sequenceOf, Ran, running}
-use Rattle.rules_object.specs.Safe.{afterSteps}
+use Rattle.rules_object.specs.Safe.{rest, afterRun}
 use Rattle.rules_text.specs.Trees.{Name, Statement, formNames, formLevels}
 use Rattle.rules_text.specs.Cards.{withoutBlanks}
 use Rattle.rules_deck.specs.Deck.{sameName, Dims, dimsOf}
@@ -126,13 +126,13 @@ lineOf object index = lineInObject (readObject object) index
 
 -- ---- runs
 
--- runs one after the other, each with the last one's state and store, until one halts other than by 2; their steps are added
-abbrev pub goOn : List ℕ → Ran → List ℕ → Ran
-goOn object r [] = r
-goOn object r (a ∷ allowances) = goOn object (cond (eqb (r .halt) 2) (afterSteps (r .steps) (running object (r .store) (r .lent) a)) r) allowances
+-- runs one after the other, each with the last one's state and store and the rest of the cards and lines, until one halts other than by 2; steps, cards and lines are added
+abbrev pub goOn : List ℕ → Trays → Ran → List ℕ → Ran
+goOn object trays r [] = r
+goOn object trays r (a ∷ allowances) = goOn object trays (cond (eqb (r .halt) 2) (afterRun r (running object (r .store) (r .lent) (rest trays r) a)) r) allowances
 
-unfoldable pub series : List ℕ → List ℤ → Lent → List ℕ → Ran
-series object store l allowances = goOn object (running object store l 0) allowances
+unfoldable pub series : List ℕ → List ℤ → Lent → Trays → List ℕ → Ran
+series object store l trays allowances = goOn object trays (running object store l trays 0) allowances
 
 abbrev pub sum : List ℕ → ℕ
 sum [] = 0

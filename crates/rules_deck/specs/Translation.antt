@@ -1,4 +1,4 @@
--- The translation of a deck: its cells, its code as instructions, and the object's seven lists. 01 "Translation".
+-- The translation of a deck: its cells, its code as instructions, and the object's lists. 01 "Translation", 2026-01.
 -- Assumes nothing.
 use Prim.Native.Nat.{ℕ, zero, suc, _+_, _*_, _^_}
 use mathlib.Core.Bool.{Bool, false, _||_, cond}
@@ -7,8 +7,8 @@ use lib.Dec.{eqb, ltb}
 use lib.ListN.{length, take, replicate}
 use lib.IntN.{pos}
 use Rattle.rules_shared.specs.House.{House}
-use Rattle.rules_object.specs.Object.{SubscriptEntry, Element, Loop, Line, Named, Object}
-use Rattle.rules_object.specs.Operations.{Instr, HLT, CON, LOD, STO, LDE, STE, OP, NEG, JMP, BR3, BRC, DOI, DOE, operationNumber}
+use Rattle.rules_object.specs.Object.{SubscriptEntry, Element, Loop, Line, Named, ListItem, Transfer, Object}
+use Rattle.rules_object.specs.Operations.{Listed, aSpan, oneElement, Instr, HLT, CON, LOD, STO, LDE, STE, OP, NEG, JMP, BR3, BRC, DOI, DOE, READ, PRINT, operationNumber}
 use Rattle.rules_text.specs.Trees.{Name, valueOf, Subscript, constant, linear, Subscripts, one, two, subscriptsNames, Expr, con, var, elm, neg, par, bin, Target, cell, element, written, Form, assign, goTo, computed, ifs, loop, continue, stop, end, dimension, Statement, Phrase, sets, chooses, computes, steps, declares, Range, partsOf, gathered}
 use Rattle.rules_deck.specs.Deck.{sameName, positionOf, Do, doAt, dosOf, endings, Dims, Declared, declare, arraysIn, dimsOf, width}
 use Rattle.rules_deck.specs.Meaning.{times, addend, third}
@@ -219,9 +219,11 @@ pub record Tables : Type 0 where
   pub constants : List ℕ
   pub elements : List Element
   pub exits : List ℕ
+  pub items : List ListItem
+  pub transfers : List Transfer
 
 abbrev pub noTables : Tables
-noTables = record { constants = []; elements = []; exits = [] }
+noTables = record { constants = []; elements = []; exits = []; items = []; transfers = [] }
 
 -- constants are pooled by value
 abbrev pub pool : List ℕ → ℕ → List ℕ
@@ -232,16 +234,40 @@ abbrev pub poolAt : List ℕ → ℕ → ℕ
 poolAt [] c = 0
 poolAt (b ∷ bs) c = cond (eqb b c) 0 (suc (poolAt bs c))
 
+abbrev pub addConstant : Tables → ℕ → Tables
+addConstant T c = record { constants = pool (T .constants) c; elements = T .elements; exits = T .exits; items = T .items; transfers = T .transfers }
+
 -- each element reference has its own entry, and each IF or computed GO TO its own exits
 abbrev pub addElement : Tables → Element → Tables
-addElement T e = record { constants = T .constants; elements = T .elements ++ (e ∷ []); exits = T .exits }
+addElement T e = record { constants = T .constants; elements = T .elements ++ (e ∷ []); exits = T .exits; items = T .items; transfers = T .transfers }
 
 abbrev pub addExits : Tables → List ℕ → Tables
-addExits T ts = record { constants = T .constants; elements = T .elements; exits = T .exits ++ ts }
+addExits T ts = record { constants = T .constants; elements = T .elements; exits = T .exits ++ ts; items = T .items; transfers = T .transfers }
+
+-- each READ or PRINT has its own items and transfer, and each element of its list its own entry, from number `at` on
+abbrev pub listElements : List Listed → List Element
+listElements [] = []
+listElements (aSpan first count ∷ list) = listElements list
+listElements (oneElement e ∷ list) = e ∷ listElements list
+
+abbrev pub listItems : ℕ → List Listed → List ListItem
+listItems at [] = []
+listItems at (aSpan first count ∷ list) = record { first = first; count = count } ∷ listItems at list
+listItems at (oneElement e ∷ list) = record { first = at; count = 0 } ∷ listItems (suc at) list
+
+abbrev pub addTransfer : Tables → ℕ → List Listed → Tables
+addTransfer T format list =
+    record {
+      constants = T .constants;
+      elements = T .elements ++ listElements list;
+      exits = T .exits;
+      items = T .items ++ listItems (length (T .elements)) list;
+      transfers = T .transfers ++ (record { format = format; first = length (T .items); count = length list } ∷ []);
+    }
 
 abbrev pub tablesAfter : Tables → Instr → Tables
 tablesAfter T (HLT x) = T
-tablesAfter T (CON c) = record { constants = pool (T .constants) c; elements = T .elements; exits = T .exits }
+tablesAfter T (CON c) = addConstant T c
 tablesAfter T (LOD a) = T
 tablesAfter T (STO a) = T
 tablesAfter T (LDE e) = addElement T e
@@ -253,6 +279,8 @@ tablesAfter T (BR3 a b c) = addExits T (a ∷ b ∷ c ∷ [])
 tablesAfter T (BRC ts) = addExits T (length ts ∷ ts)
 tablesAfter T (DOI n d) = T
 tablesAfter T (DOE n d) = T
+tablesAfter T (READ n f list) = addTransfer T n list
+tablesAfter T (PRINT n f list) = addTransfer T n list
 
 abbrev pub operand : Tables → Instr → ℕ
 operand T (HLT x) = x
@@ -268,6 +296,8 @@ operand T (BR3 a b c) = length (T .exits)
 operand T (BRC ts) = length (T .exits)
 operand T (DOI n d) = n
 operand T (DOE n d) = n
+operand T (READ n f list) = length (T .transfers)
+operand T (PRINT n f list) = length (T .transfers)
 
 -- the top eight bits name the operation, the low twenty-four the operand
 unfoldable pub wordOf : Tables → Instr → ℕ
@@ -303,11 +333,12 @@ namesFrom house at (array a ∷ held) =
     record { name = filled (house .nameBytes) (a .name); first = at; rows = a .dims .rows; columns = a .dims .columns } ∷ namesFrom house (at + arraySize (a .dims)) held
 namesFrom house at (hidden q ∷ held) = namesFrom house (at + 2) held
 
--- ---- the object
+-- ---- the object; no statement is a FORMAT, READ or PRINT yet
 
 unfoldable pub translate : House → List Statement → Object
 translate house deck =
     record {
+      edition = house .edition;
       digits = house .digits;
       cells = cellCount (heldOf deck);
       constants = tablesOf noTables (codeOf deck) .constants;
@@ -317,4 +348,7 @@ translate house deck =
       code = emit noTables (codeOf deck);
       lines = linesFrom deck 0 deck;
       names = namesFrom house 0 (heldOf deck);
+      formats = [];
+      items = [];
+      transfers = [];
     }

@@ -6,9 +6,9 @@ pub mod Simulation
 pub mod Kept
 pub mod Instance
 pub mod Lengths
+pub mod Resume
 pub mod Records
 pub mod ReadBack
-pub mod Steps
 pub mod Examples
 pub mod PunchedExamples
 pub mod PunchedTells

@@ -5,4 +5,3 @@ pub mod Punched
 pub mod Spelled
 pub mod Walk
 pub mod Small
-pub mod Steps

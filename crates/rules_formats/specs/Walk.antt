@@ -1,7 +1,7 @@
 -- PRINT and READ: a FORMAT's fields walked with a list of items, over any store. 02 and 004.
 -- A line is the record as built: column 1, where 004 has the carriage's character, is a column like another. The first trouble stops the statement.
 -- Assumes nothing.
-use Prim.Native.Nat.{ℕ, zero, suc, _+_, _-_, _/_}
+use Prim.Native.Nat.{ℕ, zero, suc, _+_, _-_, _*_, _/_}
 use mathlib.Core.Bool.{Bool, true, false}
 use mathlib.Core.List.{List, [], _∷_, _++_}
 use mathlib.Core.Option.{Option, none, some}
@@ -123,6 +123,19 @@ module _ {S Item : Type 0} (ceiling : ℕ) (get : S → Item → Option ℤ) (se
 unfoldable pub reads : {S Item : Type 0} → ℕ → (S → Item → Option ℤ) → (S → Item → ℤ → Option S) → Flat → List Item → S → List Columns → Outcome (Taken S)
 reads ceiling get set f is s cs = cards ceiling get set (newScan f) cs (f .fields) is s
 
+-- ---- both
+
+-- the cards not yet taken, and the paper
+pub record Devices : Type 0 where
+  pub cards : List Columns
+  pub paper : Paper
+
+abbrev pub withCards : List Columns → Devices → Devices
+withCards cards d = record { cards = cards; paper = d .paper }
+
+abbrev pub withPaper : Paper → Devices → Devices
+withPaper paper d = record { cards = d .cards; paper = paper }
+
 -- ---- what is lent, as bytes
 
 abbrev pub cardWidth : ℕ
@@ -138,3 +151,24 @@ cardsOf bytes = cardsFrom (length bytes / cardWidth) bytes
 
 unfoldable pub roomOf : List ℕ → ℕ
 roomOf bytes = length bytes / lineWidth
+
+-- what is lent for cards and lines
+pub record Trays : Type 0 where
+  pub cards : List ℕ
+  pub lines : List ℕ
+
+-- no card, and no room for a line
+abbrev pub noTrays : Trays
+noTrays = record { cards = []; lines = [] }
+
+-- nothing printed yet
+unfoldable pub devicesOf : Trays → Devices
+devicesOf t = record { cards = cardsOf (t .cards); paper = record { lines = []; room = roomOf (t .lines) } }
+
+abbrev pub joinedLines : List Columns → List ℕ
+joinedLines [] = []
+joinedLines (l ∷ ls) = l ++ joinedLines ls
+
+-- the lines written stand first; bytes of lines not written stay
+unfoldable pub linesAfter : List Columns → List ℕ → List ℕ
+linesAfter ls lent = joinedLines ls ++ drop (lineWidth * length ls) lent

@@ -6,15 +6,17 @@ use mathlib.Core.List.{List}
 use mathlib.Core.Option.{Option, none, some}
 use Prim.Native.Nat.{ℕ, _≤_, _<_}
 use native.Mathlib.Omega.{arith}
+use lib.ListN.{length}
 use lib.IntN.{ℤ}
+use Rattle.rules_formats.specs.Walk.{Trays, devicesOf}
 use Rattle.rules_object.specs.Object.{Object}
-use Rattle.rules_object.specs.Check.{right41, rightConstant, rightElement, rightLoop, rightLine, rightNamed}
+use Rattle.rules_object.specs.Check.{right41, rightConstant, rightElement, rightLoop, rightLine, rightNamed, rightFormat, rightItem, rightTransfer}
 use Rattle.rules_object.specs.Operations.{right43, flowOf}
 use Rattle.rules_object.specs.Machine.{fresh, step, benchStep}
 use Rattle.rules_object.specs.Bytes.{readObject}
 use Rattle.rules_object.specs.Heights.{heights}
 use Rattle.rules_shared.specs.Refusals.{Refusal, refusal, atEntry, orElse, unless}
-use Rattle.rules_shared.specs.Lists.{firstBad}
+use Rattle.rules_shared.specs.Lists.{firstBad, firstFrom}
 use Rattle.rules_object.specs.Calls.{refused42, refused43, Checked, refused, passed, judged44, judged, checkedObject, checked, verdict, checking, Lent, taken, right50, right51, right52, refused50to52, notRun, runFrom, orRefused, runChecked, running, benchObject, benching}
 use Rattle.rules_object.specs.Passed.{Passed}
 use Rattle.rules_object.proofs.Passed.{or-none, unless-none, check-passed}
@@ -61,7 +63,10 @@ entries-42 o = or-if P (refused42 o) (refused43 o) by-entry (entry-if P 43 5 (fi
         and 1 (firstBad (rightConstant o) (o .constants) 0) _
         (and 2 (firstBad (rightElement o) (o .elements) 0) _
         (and 4 (firstBad (rightLoop o) (o .dos) 0) _
-        (and 6 (firstBad (rightLine o) (o .lines) 0) _ (entry-if P 42 7 (firstBad (rightNamed o) (o .names) 0) (λ n. omega arith)))))
+        (and 6 (firstBad (rightLine o) (o .lines) 0) _
+        (and 7 (firstBad (rightNamed o) (o .names) 0) _
+        (and 8 (firstFrom (rightFormat o) (length (o .formats)) 0) _
+        (and 9 (firstBad (rightItem o) (o .items) 0) _ (entry-if P 42 10 (firstBad (rightTransfer o) (o .transfers) 0) (λ n. omega arith))))))))
 
 -- ---- the check: refused by a number above 0, or passed
 
@@ -127,7 +132,7 @@ checks bytes e = by (judge bytes)
 
 -- ---- the run
 
--- the object passes the check, and the store and the state 50 to 52: whatever the allowance
+-- the object passes the check, and the store and the state 50 to 52: whatever the cards, the room for lines and the allowance
 pub record Accepts (bytes : List ℕ) (store : List ℤ) (l : Lent) : Type 0 where
   pub object : Object
   pub table : List ℕ
@@ -138,8 +143,8 @@ pub record Accepts (bytes : List ℕ) (store : List ℤ) (l : Lent) : Type 0 whe
   pub right52 : right52 object table l ≡ true
 
 pub data Answer (bytes : List ℕ) (store : List ℤ) (l : Lent) : Type 0 where
-  refuses : (r : Refusal) → 0 < r .number → ((a : ℕ) → running bytes store l a ≡ notRun r l store) → Answer bytes store l
-  runs : (x : Accepts bytes store l) → ((a : ℕ) → running bytes store l a ≡ runFrom (x .object) (step (x .object)) a (taken l store)) → Answer bytes store l
+  refuses : (r : Refusal) → 0 < r .number → ((trays : Trays) (a : ℕ) → running bytes store l trays a ≡ notRun r l store trays) → Answer bytes store l
+  runs : (x : Accepts bytes store l) → ((trays : Trays) (a : ℕ) → running bytes store l trays a ≡ runFrom (x .object) trays (step (x .object)) a (taken l store (devicesOf trays))) → Answer bytes store l
 
 pub answer : (bytes : List ℕ) (store : List ℤ) (l : Lent) → Answer bytes store l
 unfolding running
@@ -147,38 +152,39 @@ answer bytes store l = by (judge bytes)
   where
     test : (o : Object) (table : List ℕ) → checked bytes ≡ passed o table → Passed bytes o table → (r : Option Refusal) → refused50to52 o table store l ≡ r → If Above r → Answer bytes store l
     test o table e p (some r) q h =
-        refuses r h (λ a. ap (λ c. runChecked c store l a) e ∙ ap (λ r. orRefused r l store (runFrom o (step o) a (taken l store))) q)
+        refuses r h (λ trays a. ap (λ c. runChecked c store l trays a) e ∙ ap (λ r. orRefused r l store trays (runFrom o trays (step o) a (taken l store (devicesOf trays)))) q)
     test o table e p none q h =
         let q₁ = or-none (unless (right50 o store) 50) _ q in
         let q₂ = or-none (unless (right51 o store) 51) _ (q₁ .1) in
         runs (record { object = o; table = table; is = e; passes = p; right50 = unless-none _ _ (q₁ .0); right51 = unless-none _ _ (q₂ .0); right52 = unless-none _ _ (q₂ .1) })
-        (λ a. ap (λ c. runChecked c store l a) e ∙ ap (λ r. orRefused r l store (runFrom o (step o) a (taken l store))) q)
+        (λ trays a. ap (λ c. runChecked c store l trays a) e ∙ ap (λ r. orRefused r l store trays (runFrom o trays (step o) a (taken l store (devicesOf trays)))) q)
 
     by : Verdict bytes → Answer bytes store l
-    by (bad r e p w) = refuses r p (λ a. ap (λ c. runChecked c store l a) e)
+    by (bad r e p w) = refuses r p (λ trays a. ap (λ c. runChecked c store l trays a) e)
     by (good o table e p) =
         test o table e p (refused50to52 o table store l) refl
         (or-if Above (unless (right50 o store) 50) _ (unless-if Above (right50 o store) 50 (omega arith))
         (or-if Above (unless (right51 o store) 51) _ (unless-if Above (right51 o store) 51 (omega arith)) (unless-if Above (right52 o table l) 52 (omega arith))))
 
-pub accepts : (bytes : List ℕ) (store : List ℤ) (l : Lent) (a : ℕ) → running bytes store l a .refusal .number ≡ 0 → Accepts bytes store l
-accepts bytes store l a e = by (answer bytes store l)
+pub accepts : (bytes : List ℕ) (store : List ℤ) (l : Lent) (trays : Trays) (a : ℕ) → running bytes store l trays a .refusal .number ≡ 0 → Accepts bytes store l
+accepts bytes store l trays a e = by (answer bytes store l)
   where
     by : Answer bytes store l → Accepts bytes store l
-    by (refuses r p q) = let z : r .number ≡ 0 = ap (λ x. x .refusal .number) (sym (q a)) ∙ e in absurd (omega arith)
+    by (refuses r p q) = let z : r .number ≡ 0 = ap (λ x. x .refusal .number) (sym (q trays a)) ∙ e in absurd (omega arith)
     by (runs x q) = x
 
 -- an accepted run is the machine's
-pub accepts-run : {bytes : List ℕ} {store : List ℤ} {l : Lent} (x : Accepts bytes store l) (a : ℕ) → running bytes store l a ≡ runFrom (x .object) (step (x .object)) a (taken l store)
+pub accepts-run : {bytes : List ℕ} {store : List ℤ} {l : Lent} (x : Accepts bytes store l) (trays : Trays) (a : ℕ)
+    → running bytes store l trays a ≡ runFrom (x .object) trays (step (x .object)) a (taken l store (devicesOf trays))
 unfolding running
-accepts-run {store = store} {l = l} x a =
+accepts-run {store = store} {l = l} x trays a =
     let o = x .object in
     let table = x .table in
     let q₁ = ap (λ b. unless b 50) (x .right50) in
     let q₂ = ap (λ b. unless b 51) (x .right51) in
     let q₃ = ap (λ b. unless b 52) (x .right52) in
     let q : refused50to52 o table store l ≡ none = rw (q₁, q₂, q₃) refl in
-    ap (λ c. runChecked c store l a) (x .is) ∙ ap (λ r. orRefused r l store (runFrom o (step o) a (taken l store))) q
+    ap (λ c. runChecked c store l trays a) (x .is) ∙ ap (λ r. orRefused r l store trays (runFrom o trays (step o) a (taken l store (devicesOf trays)))) q
 
 -- ---- the bench run
 
@@ -193,8 +199,9 @@ abbrev pub refusedBench : Object → List ℤ → Option Refusal
 refusedBench o store = orElse (unless (right41 o) 41) (orElse (unless (right50 o store) 50) (unless (right51 o store) 51))
 
 pub data BenchAnswer (bytes : List ℕ) (store : List ℤ) : Type 0 where
-  refuses : (r : Refusal) → 0 < r .number → ((l : Lent) (a : ℕ) → benching bytes store l a ≡ notRun r l store) → BenchAnswer bytes store
-  runs : (x : Benches bytes store) → ((l : Lent) (a : ℕ) → benching bytes store l a ≡ runFrom (x .object) (benchStep (x .object)) a (fresh store)) → BenchAnswer bytes store
+  refuses : (r : Refusal) → 0 < r .number → ((l : Lent) (trays : Trays) (a : ℕ) → benching bytes store l trays a ≡ notRun r l store trays) → BenchAnswer bytes store
+  runs : (x : Benches bytes store)
+      → ((l : Lent) (trays : Trays) (a : ℕ) → benching bytes store l trays a ≡ runFrom (x .object) trays (benchStep (x .object)) a (fresh store (devicesOf trays))) → BenchAnswer bytes store
 
 pub bench-answer : (bytes : List ℕ) (store : List ℤ) → BenchAnswer bytes store
 unfolding benching
@@ -202,15 +209,15 @@ bench-answer bytes store = by (readObject bytes) refl
   where
     test : (o : Object) → readObject bytes ≡ some o → (r : Option Refusal) → refusedBench o store ≡ r → If Above r → BenchAnswer bytes store
     test o e (some r) q h =
-        refuses r h (λ l a. ap (λ p. benchObject p store l a) e ∙ ap (λ r. orRefused r l store (runFrom o (benchStep o) a (fresh store))) q)
+        refuses r h (λ l trays a. ap (λ p. benchObject p store l trays a) e ∙ ap (λ r. orRefused r l store trays (runFrom o trays (benchStep o) a (fresh store (devicesOf trays)))) q)
     test o e none q h =
         let q₁ = or-none (unless (right41 o) 41) _ q in
         let q₂ = or-none (unless (right50 o store) 50) _ (q₁ .1) in
         runs (record { object = o; reads = e; right41 = unless-none _ _ (q₁ .0); right50 = unless-none _ _ (q₂ .0); right51 = unless-none _ _ (q₂ .1) })
-        (λ l a. ap (λ p. benchObject p store l a) e ∙ ap (λ r. orRefused r l store (runFrom o (benchStep o) a (fresh store))) q)
+        (λ l trays a. ap (λ p. benchObject p store l trays a) e ∙ ap (λ r. orRefused r l store trays (runFrom o trays (benchStep o) a (fresh store (devicesOf trays)))) q)
 
     by : (p : Option Object) → readObject bytes ≡ p → BenchAnswer bytes store
-    by none e = refuses (refusal 40 0 0) (omega arith) (λ l a. ap (λ p. benchObject p store l a) e)
+    by none e = refuses (refusal 40 0 0) (omega arith) (λ l trays a. ap (λ p. benchObject p store l trays a) e)
     by (some o) e =
         test o e (refusedBench o store) refl
         (or-if Above (unless (right41 o) 41) _ (unless-if Above (right41 o) 41 (omega arith))

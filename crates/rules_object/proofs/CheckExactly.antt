@@ -5,12 +5,13 @@ use mathlib.Core.Logic.{_↔_}
 use mathlib.Core.Bool.{Bool, true, cond}
 use mathlib.Core.List.{List, [], _∷_}
 use mathlib.Core.Option.{Option, none, some}
-use Prim.Native.Nat.{ℕ, suc}
+use Prim.Native.Nat.{ℕ, zero, suc, _+_, _≤_, _<_}
 use native.Mathlib.Omega.{arith}
+use lib.ListN.{length}
 use Rattle.rules_object.specs.Object.{Object}
-use Rattle.rules_object.specs.Check.{right41, rightConstant, rightElement, rightLoop, rightLine, rightNamed}
+use Rattle.rules_object.specs.Check.{right41, rightConstant, rightElement, rightLoop, rightLine, rightNamed, rightFormat, rightItem, rightTransfer}
 use Rattle.rules_object.specs.Operations.{right43, flowOf}
-use Rattle.rules_shared.specs.Lists.{Each, each-more, firstBad}
+use Rattle.rules_shared.specs.Lists.{Each, each-more, firstBad, firstFrom}
 use Rattle.rules_object.specs.Flow.{Valid, NoTable}
 use Rattle.rules_object.specs.Heights.{heights}
 use Rattle.rules_shared.specs.Refusals.{refusal, accepted, orElse, unless}
@@ -28,6 +29,10 @@ none-bad : {A : Type 0} (test : A → Bool) (l : List A) (n : ℕ) → Each (λ 
 none-bad test [] n h = refl
 none-bad test (a ∷ more) n (each-more p ps) = ap (λ b. cond b (firstBad test more (suc n)) (some n)) p ∙ none-bad test more (suc n) ps
 
+none-from : (test : ℕ → Bool) (n i : ℕ) → ((j : ℕ) → i ≤ j → j < i + n → test j ≡ true) → firstFrom test n i ≡ none
+none-from test zero i h = refl
+none-from test (suc n) i h = ap (λ b. cond b (firstFrom test n (suc i)) (some i)) (h i (omega arith) (omega arith)) ∙ none-from test n (suc i) (λ j l m. h j (omega arith) (omega arith))
+
 judged-none : {bytes : List ℕ} {o : Object} → Judged bytes o → orElse (unless (right41 o) 41) (orElse (refused42 o) (refused43 o)) ≡ none
 unfolding refused42 refused43
 judged-none {o = o} j =
@@ -36,8 +41,11 @@ judged-none {o = o} j =
     let e₄ = none-bad (rightLoop o) (o .dos) 0 (j .dos) in
     let e₆ = none-bad (rightLine o) (o .lines) 0 (j .lines) in
     let e₇ = none-bad (rightNamed o) (o .names) 0 (j .names) in
+    let e₈ = none-from (rightFormat o) (length (o .formats)) 0 (λ i l m. j .formats i (omega arith)) in
+    let e₉ = none-bad (rightItem o) (o .items) 0 (j .items) in
+    let e₁₀ = none-bad (rightTransfer o) (o .transfers) 0 (j .transfers) in
     let e₅ = none-bad (right43 o) (o .code) 0 (each-map (λ w r. r .operand) (j .code)) in
-    rw (j .limits, e₁, e₂, e₄, e₆, e₇, e₅) refl
+    rw (j .limits, e₁, e₂, e₄, e₆, e₇, e₈, e₉, e₁₀, e₅) refl
 
 -- ---- what is left is 44
 

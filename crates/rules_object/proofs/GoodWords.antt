@@ -1,11 +1,11 @@
 -- Each word of a passed object: its entry is right, what it uses is below the cell count and within the digits, and where it leads has its height.
 -- Assumes nothing.
 use mathlib.Core.Path.{_≡_, refl, subst}
-use mathlib.Core.Bool.{true}
-use mathlib.Core.List.{List, [], _∷_}
+use mathlib.Core.Bool.{Bool, true, false, cond}
+use mathlib.Core.List.{List, [], _∷_, map}
 use Prim.Native.Nat.{ℕ, zero, suc, _+_, _-_, _*_, _≤_, _<_}
 use native.Mathlib.Omega.{arith}
-use lib.Dec.{leb}
+use lib.Dec.{ltb, leb, eqb}
 use lib.ListN.{length, getD}
 use lib.IntN.{pos}
 use borrow.Author.Tests.{ltb-true, leb-true}
@@ -13,13 +13,14 @@ use Rattle.number.specs.Number.{fits}
 use Rattle.number.proofs.Laws.{fits-yes}
 use Rattle.rules_shared.specs.Limits.{limits}
 use Rattle.rules_shared.specs.Lists.{Each, each-none, each-more}
-use Rattle.rules_object.specs.Object.{SubscriptEntry, Element, Loop, Object, ruleOf}
-use Rattle.rules_object.specs.Check.{inCells, rightConstant, rightSubscript, rightElement, rightLoop}
-use Rattle.rules_object.specs.Operations.{Instr, HLT, CON, LOD, STO, LDE, STE, OP, NEG, JMP, BR3, BRC, DOI, DOE, operationOf, operandOf, Operation, operations, unknown, decode, right43, entryRight, pops, pushes, successors, instruction, flowOf}
+use Rattle.rules_object.specs.Object.{SubscriptEntry, Element, Loop, ListItem, Object, ruleOf}
+use Rattle.rules_object.specs.Check.{inCells, rightConstant, rightSubscript, rightElement, rightLoop, rightItem}
+use Rattle.rules_object.specs.Operations.{Listed, aSpan, oneElement, Instr, HLT, CON, LOD, STO, LDE, STE, OP, NEG, JMP, BR3, BRC, DOI, DOE, READ, PRINT, operationOf, operandOf, elementAt, transferAt, listed, itemsAt, listAt, Operation, aTransfer, transferRight, operations, unknown, decode, right43, entryRight, pops, pushes, successors, instruction, flowOf}
 use Rattle.rules_object.specs.Flow.{heightAt}
 use Rattle.rules_object.specs.Safe.{Within}
 use Rattle.rules_object.specs.Passed.{Passed}
 use Rattle.rules_object.proofs.Passed.{both}
+use Rattle.rules_object.proofs.RightTransfers.{items-right, transfer-right}
 
 -- ---- what an instruction uses
 
@@ -32,6 +33,10 @@ pub record GoodLoop (o : Object) (d : Loop) : Type 0 where
   pub variable : d .variable < o .cells
   pub limit : d .limit < o .cells
   pub step : d .step < o .cells
+
+abbrev pub GoodListed : Object → Listed → Type 0
+GoodListed o (aSpan a n) = a + n ≤ o .cells
+GoodListed o (oneElement e) = GoodElement o e
 
 abbrev pub Good : Object → Instr → Type 0
 Good o (HLT x) = Unit {0}
@@ -47,6 +52,8 @@ Good o (BR3 a b c) = Unit {0}
 Good o (BRC exits) = Unit {0}
 Good o (DOI n d) = GoodLoop o d
 Good o (DOE n d) = GoodLoop o d
+Good o (READ n f is) = Each (GoodListed o) is
+Good o (PRINT n f is) = Each (GoodListed o) is
 
 subscript-good : (o : Object) (s : SubscriptEntry) → rightSubscript o s ≡ true → s .cell < o .cells
 subscript-good o s e = ltb-true _ _ (both (fits (ruleOf o) (s .plus)) _ (both (fits (ruleOf o) (pos (s .times))) _ e .1) .1)
@@ -68,6 +75,20 @@ loop-good o d q =
     let q₃ = both (inCells o (d .step)) _ (q₂ .1) in
     record { variable = ltb-true _ _ (q₁ .0); limit = ltb-true _ _ (q₂ .0); step = ltb-true _ _ (q₃ .0) }
 
+listed-good : (o : Object) → ((i : ℕ) → i < length (o .elements) → rightElement o (elementAt o i) ≡ true) → (i : ListItem) → rightItem o i ≡ true → GoodListed o (listed o i)
+unfolding rightItem
+listed-good o right i e = by (eqb (i .count) 0) e
+  where
+    by : (b : Bool) → cond b (ltb (i .first) (length (o .elements))) (leb (i .first + i .count) (o .cells)) ≡ true
+        → GoodListed o (cond b (oneElement (elementAt o (i .first))) (aSpan (i .first) (i .count)))
+    by true q = element-good o _ (right (i .first) (ltb-true _ _ q))
+    by false q = leb-true _ _ q
+
+list-good : (o : Object) → ((i : ℕ) → i < length (o .elements) → rightElement o (elementAt o i) ≡ true) → (is : List ListItem) → Each (λ i. rightItem o i ≡ true) is
+    → Each (GoodListed o) (map (listed o) is)
+list-good o right [] h = each-none
+list-good o right (i ∷ is) (each-more e h) = each-more (listed-good o right i e) (list-good o right is h)
+
 constant-good : (o : Object) (c : ℕ) → rightConstant o c ≡ true → Within o (pos c)
 unfolding rightConstant
 constant-good o c q = fits-yes (ruleOf o) (pos c) q
@@ -83,6 +104,9 @@ good-at (p ∷ ps) (each-more f r) zero x e = f x e
 good-at (p ∷ ps) (each-more f r) (suc op) x e = good-at ps r op x e
 
 module _ {bytes : List ℕ} {o : Object} {table : List ℕ} (p : Passed bytes o table) where
+  transfer-good : (x : ℕ) → aTransfer o x ≡ true → (transferRight o x ≡ true) × Each (GoodListed o) (listAt o (transferAt o x))
+  transfer-good x e = (transfer-right p x (ltb-true _ _ e), list-good o (p .elements) (itemsAt o (transferAt o x)) (items-right p (transferAt o x)))
+
   all-good : Each (GoodWord o) operations
   all-good =
       each-more (λ x e. (refl, tt))
@@ -100,7 +124,9 @@ module _ {bytes : List ℕ} {o : Object} {table : List ℕ} (p : Passed bytes o 
       (each-more (λ x e. (refl, tt))
       (each-more (λ x e. (refl, tt))
       (each-more (λ x e. let q = p .dos x (ltb-true _ _ e) in (q, loop-good o _ q))
-      (each-more (λ x e. let q = p .dos x (ltb-true _ _ e) in (q, loop-good o _ q)) each-none)))))))))))))))
+      (each-more (λ x e. let q = p .dos x (ltb-true _ _ e) in (q, loop-good o _ q))
+      (each-more transfer-good
+      (each-more transfer-good each-none)))))))))))))))))
 
   pub word-good : (a : ℕ) → a < length (o .code) → (entryRight o (getD (o .code) a 0) ≡ true) × Good o (instruction o a)
   unfolding right43 entryRight decode

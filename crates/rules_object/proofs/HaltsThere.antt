@@ -11,10 +11,12 @@ use Rattle.number.specs.Number.{Rule, Result, value, trouble, apply}
 use Rattle.rules_shared.specs.Runs.{go, halt}
 use Rattle.rules_object.specs.Halts.{Halt, badStack, badInstruction, Out}
 use Rattle.rules_shared.specs.Choose.{exit, positive, allPositive, Turn, again, over, turn}
+use Rattle.rules_formats.specs.Walk.{Outcome, fine, Paper, Taken, prints, reads}
+use Rattle.rules_formats.specs.Walk as walk
 use Rattle.rules_object.specs.Object.{Element, Loop, Object, ruleOf}
 use Rattle.rules_object.specs.Check.{inCode}
-use Rattle.rules_object.specs.Operations.{Instr, HLT, CON, LOD, STO, LDE, STE, OP, NEG, JMP, BR3, BRC, DOI, DOE, right43, instruction, entryRight}
-use Rattle.rules_object.specs.Machine.{State, cell, top, under, operated, placeOf, elementLoaded, elementStored, branched, begun, turned, ended, act, step, room, benchStep}
+use Rattle.rules_object.specs.Operations.{Instr, HLT, CON, LOD, STO, LDE, STE, OP, NEG, JMP, BR3, BRC, DOI, DOE, READ, PRINT, right43, instruction, entryRight}
+use Rattle.rules_object.specs.Machine.{State, cell, top, under, operated, placeOf, elementLoaded, elementStored, branched, begun, turned, ended, spots, spotGet, spotSet, wasRead, wasPrinted, act, step, room, benchStep}
 
 module _ (t : State) where
   -- going on, or halted at t
@@ -50,6 +52,14 @@ module _ (t : State) where
   ended-there true d = turned-there (turn (cell (t .store) (d .variable)) (cell (t .store) (d .limit)) (cell (t .store) (d .step))) d
   ended-there false d = refl
 
+  read-there : (r : Outcome (Taken (List ℤ))) → There (wasRead r t)
+  read-there (fine r) = tt
+  read-there (walk.trouble w) = refl
+
+  printed-there : (r : Outcome Paper) → There (wasPrinted r t)
+  printed-there (fine p) = tt
+  printed-there (walk.trouble w) = refl
+
   act-there : (r : Rule) (i : Instr) → There (act r i t)
   act-there r (HLT x) = refl
   act-there r (CON c) = tt
@@ -64,6 +74,8 @@ module _ (t : State) where
   act-there r (BRC exits) = branched-there (exit exits (top (t .stack)))
   act-there r (DOI n d) = begun-there (allPositive (top (under (under (t .stack)))) (top (under (t .stack))) (top (t .stack))) d (top (under (under (t .stack)))) (top (under (t .stack))) (top (t .stack))
   act-there r (DOE n d) = ended-there (positive (cell (t .store) (d .step))) d
+  act-there r (READ n f is) = read-there (reads (r .ceiling) spotGet spotSet f (spots is) (t .store) (t .devices .cards))
+  act-there r (PRINT n f is) = printed-there (prints spotGet f (spots is) (t .store) (t .devices .paper))
 
 module _ (o : Object) (t : State) where
   there : There t (step o t)

@@ -13,6 +13,7 @@ use borrow.Author.Tests.{ltb-true, leb-true, eqb-true, lt-ltb, le-leb, eq-eqb}
 use Rattle.number.specs.Number.{fits}
 use Rattle.number.proofs.Laws.{fits-yes, yes-fits}
 use Rattle.rules_shared.specs.Limits.{limits}
+use Rattle.rules_formats.specs.Walk.{Devices}
 use Rattle.rules_object.specs.Object.{Object, ruleOf}
 use Rattle.rules_object.specs.Operations.{flowOf}
 use Rattle.rules_object.specs.Machine.{State, fresh, cell, withStack}
@@ -69,10 +70,10 @@ module _ (o : Object) (store : List ℤ) where
   unfolding right51
   cells-within e f = each-cells o (o .cells) store (long-enough e) (all-each o (take (o .cells) store) f)
 
-pub taken-stands : (o : Object) (table : List ℕ) (l : Lent) (store : List ℤ) → length (l .places) ≡ limits .stack
-    → right50 o store ≡ true → right51 o store ≡ true → right52 o table l ≡ true → Stands o table (taken l store)
+pub taken-stands : (o : Object) (table : List ℕ) (l : Lent) (store : List ℤ) (devices : Devices) → length (l .places) ≡ limits .stack
+    → right50 o store ≡ true → right51 o store ≡ true → right52 o table l ≡ true → Stands o table (taken l store devices)
 unfolding right52 taken
-taken-stands o table l store forty e f g =
+taken-stands o table l store devices forty e f g =
     let g₁ = both (ltb (l .index) (length (o .code))) _ g in
     let g₂ = both (leb (heightAt table (l .index)) (limits .stack)) _ (g₁ .1) in
     let g₃ = both (eqb (l .height) (heightAt table (l .index))) _ (g₂ .1) in
@@ -91,9 +92,9 @@ taken-stands o table l store forty e f g =
       mark = leb-true _ _ (g₄ .1);
     }
 
-pub fresh-stands : {bytes : List ℕ} {o : Object} {table : List ℕ} → Passed bytes o table → (store : List ℤ) → right50 o store ≡ true → right51 o store ≡ true → Stands o table (fresh store)
+pub fresh-stands : {bytes : List ℕ} {o : Object} {table : List ℕ} → Passed bytes o table → (store : List ℤ) (devices : Devices) → right50 o store ≡ true → right51 o store ≡ true → Stands o table (fresh store devices)
 unfolding flowOf
-fresh-stands {o = o} p store e f =
+fresh-stands {o = o} p store devices e f =
     let b = p .least .valid .begins in
     record { inside = b .0; height = b .1; low = omega arith; stack = each-none; long = long-enough o store e; store = cells-within o store e f; mark = omega arith }
 
@@ -150,7 +151,7 @@ stands-52 {o} {table} t s =
     (and-true (ap (all (fits (ruleOf o))) (places-taken t) ∙ each-all o (reverse (t .stack)) (each-reverse o (t .stack) (s .stack))) (le-leb _ _ (s .mark)))))
 
 -- what is given back is taken as it was
-pub taken-given : (t : State) → taken (given t) (t .store) ≡ t
+pub taken-given : (t : State) → taken (given t) (t .store) (t .devices) ≡ t
 unfolding taken given
 taken-given t = ap (λ s. withStack s t) (ap reverse (places-taken t) ∙ reverse-reverse (t .stack))
 

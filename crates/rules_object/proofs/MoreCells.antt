@@ -3,7 +3,7 @@
 use mathlib.Core.Path.{_≡_, refl, sym, ap, ap₂, _∙_}
 use mathlib.Core.Bool.{Bool, true, false}
 use mathlib.Core.List.{List, _++_}
-use Prim.Native.Nat.{ℕ, zero, suc}
+use Prim.Native.Nat.{ℕ}
 use native.Mathlib.Omega.{arith}
 use lib.ListN.{length, length-append}
 use lib.Seq.{take-append-le}
@@ -11,7 +11,8 @@ use lib.IntN.{ℤ}
 use borrow.Author.Tests.{le-leb}
 use Rattle.number.specs.Number.{fits}
 use Rattle.rules_shared.specs.Limits.{limits}
-use Rattle.rules_shared.specs.Runs.{go, halt, then, run, steps}
+use Rattle.rules_shared.specs.Runs.{go, halt, run, steps}
+use Rattle.rules_formats.specs.Walk.{Trays, devicesOf}
 use Rattle.rules_object.specs.Halts.{Out}
 use Rattle.rules_object.specs.Object.{Object, ruleOf}
 use Rattle.rules_object.specs.Machine.{State, step}
@@ -23,6 +24,7 @@ use Rattle.rules_object.specs.Promised.{cameTo}
 use Rattle.rules_shared.proofs.RunLaws.{mapOut}
 use Rattle.rules_object.specs.Passed.{Passed}
 use Rattle.rules_object.proofs.Lents.{long-enough, taken-stands}
+use Rattle.rules_object.proofs.Leaves.{run-leaves}
 use Rattle.rules_object.proofs.Touches.{same-length}
 use Rattle.rules_object.proofs.PastCells.{run-past-cells, steps-past-cells}
 use Rattle.rules_object.proofs.Accepts.{Verdict, bad, good, judge, Answer, refuses, runs, answer}
@@ -30,25 +32,19 @@ use Rattle.rules_object.proofs.Accepts.{Verdict, bad, good, judge, Answ
 -- ---- a store comes back as long as it was lent
 
 run-long : (o : Object) (n : ℕ) (t : State) → length (cameTo (run (step o) n t) .store) ≡ length (t .store)
-run-long o zero t = refl
-run-long o (suc n) t = on (step o t) (same-length o t) (run-long o n)
-  where
-    on : (x : Out State) → length (cameTo x .store) ≡ length (t .store) → ((u : State) → length (cameTo (run (step o) n u) .store) ≡ length (u .store))
-        → length (cameTo (then x (λ u. run (step o) n u)) .store) ≡ length (t .store)
-    on (go u) e f = f u ∙ e
-    on (halt h u) e f = e
+run-long o n t = run-leaves (λ u. length (u .store) ≡ length (t .store)) (step o) (λ u e. same-length o u ∙ e) n t refl
 
-pub store-length : (bytes : List ℕ) (store : List ℤ) (l : Lent) (a : ℕ) → length (running bytes store l a .store) ≡ length store
+pub store-length : (bytes : List ℕ) (store : List ℤ) (l : Lent) (trays : Trays) (a : ℕ) → length (running bytes store l trays a .store) ≡ length store
 unfolding taken
-store-length bytes store l a = by (answer bytes store l)
+store-length bytes store l trays a = by (answer bytes store l)
   where
-    out : (o : Object) (n : ℕ) (x : Out State) → ran o n x .store ≡ cameTo x .store
+    out : (o : Object) (n : ℕ) (x : Out State) → ran o trays n x .store ≡ cameTo x .store
     out o n (go u) = refl
     out o n (halt h u) = refl
 
-    by : Answer bytes store l → length (running bytes store l a .store) ≡ length store
-    by (refuses r p q) = ap (λ x. length (x .store)) (q a)
-    by (runs x q) = ap (λ x. length (x .store)) (q a) ∙ ap length (out (x .object) _ (run (step (x .object)) a (taken l store))) ∙ run-long (x .object) a (taken l store)
+    by : Answer bytes store l → length (running bytes store l trays a .store) ≡ length store
+    by (refuses r p q) = ap (λ x. length (x .store)) (q trays a)
+    by (runs x q) = ap (λ x. length (x .store)) (q trays a) ∙ ap length (out (x .object) _ (run (step (x .object)) a (taken l store (devicesOf trays)))) ∙ run-long (x .object) a (taken l store (devicesOf trays))
 
 -- ---- cells past the count
 
@@ -61,19 +57,19 @@ module _ (c extra : List ℤ) (o : Object) where
   unfolding right51
   more-51 e = ap (all (fits (ruleOf o))) (take-append-le (o .cells) c extra (long-enough o c e))
 
-ran-more : (extra : List ℤ) (o : Object) (n : ℕ) (x : Out State) → ran o n (mapOut (withCells extra) x) ≡ ranWithCells extra (ran o n x)
+ran-more : (extra : List ℤ) (o : Object) (trays : Trays) (n : ℕ) (x : Out State) → ran o trays n (mapOut (withCells extra) x) ≡ ranWithCells extra (ran o trays n x)
 unfolding given
-ran-more extra o n (go u) = refl
-ran-more extra o n (halt h u) = refl
+ran-more extra o trays n (go u) = refl
+ran-more extra o trays n (halt h u) = refl
 
 -- where the store is not too short, further cells change nothing but that they come back behind it
-pub past-cells : (bytes : List ℕ) (c extra : List ℤ) (l : Lent) (a : ℕ) → length (l .places) ≡ limits .stack → (running bytes c l a .refusal .number ≡ 50 → ⊥)
-    → running bytes (c ++ extra) l a ≡ ranWithCells extra (running bytes c l a)
+pub past-cells : (bytes : List ℕ) (c extra : List ℤ) (l : Lent) (trays : Trays) (a : ℕ) → length (l .places) ≡ limits .stack → (running bytes c l trays a .refusal .number ≡ 50 → ⊥)
+    → running bytes (c ++ extra) l trays a ≡ ranWithCells extra (running bytes c l trays a)
 unfolding running taken
-past-cells bytes c extra l a forty not50 = by (judge bytes)
+past-cells bytes c extra l trays a forty not50 = by (judge bytes)
   where
     R : List ℤ → Object → Bool → Bool → Bool → Ran
-    R store o x y z = orRefused (orElse (unless x 50) (orElse (unless y 51) (unless z 52))) l store (runFrom o (step o) a (taken l store))
+    R store o x y z = orRefused (orElse (unless x 50) (orElse (unless y 51) (unless z 52))) l store trays (runFrom o trays (step o) a (taken l store (devicesOf trays)))
 
     on : (o : Object) (table : List ℕ) → Passed bytes o table → (x y z : Bool) → right50 o c ≡ x → right51 o c ≡ y → right52 o table l ≡ z → (R c o x y z .refusal .number ≡ 50 → ⊥)
         → R (c ++ extra) o (right50 o (c ++ extra)) (right51 o (c ++ extra)) z ≡ ranWithCells extra (R c o x y z)
@@ -84,12 +80,12 @@ past-cells bytes c extra l a forty not50 = by (judge bytes)
         rest false z f g = refl
         rest true false f g = refl
         rest true true f g =
-            let s = taken-stands o table l c forty e f g in
-            ap₂ (λ n x. ran o n x) (steps-past-cells p extra a (taken l c) s) (run-past-cells p extra a (taken l c) s) ∙ ran-more extra o (steps (step o) a (taken l c)) (run (step o) a (taken l c))
+            let s = taken-stands o table l c (devicesOf trays) forty e f g in
+            ap₂ (λ n x. ran o trays n x) (steps-past-cells p extra a (taken l c (devicesOf trays)) s) (run-past-cells p extra a (taken l c (devicesOf trays)) s) ∙ ran-more extra o trays (steps (step o) a (taken l c (devicesOf trays))) (run (step o) a (taken l c (devicesOf trays)))
 
-    by : Verdict bytes → running bytes (c ++ extra) l a ≡ ranWithCells extra (running bytes c l a)
-    by (bad r e p w) = ap (λ k. runChecked k (c ++ extra) l a) e ∙ ap (λ k. ranWithCells extra (runChecked k c l a)) (sym e)
+    by : Verdict bytes → running bytes (c ++ extra) l trays a ≡ ranWithCells extra (running bytes c l trays a)
+    by (bad r e p w) = ap (λ k. runChecked k (c ++ extra) l trays a) e ∙ ap (λ k. ranWithCells extra (runChecked k c l trays a)) (sym e)
     by (good o table e p) =
-        ap (λ k. runChecked k (c ++ extra) l a) e
-        ∙ on o table p (right50 o c) (right51 o c) (right52 o table l) refl refl refl (λ q. not50 (ap (λ k. runChecked k c l a .refusal .number) e ∙ q))
-        ∙ ap (λ k. ranWithCells extra (runChecked k c l a)) (sym e)
+        ap (λ k. runChecked k (c ++ extra) l trays a) e
+        ∙ on o table p (right50 o c) (right51 o c) (right52 o table l) refl refl refl (λ q. not50 (ap (λ k. runChecked k c l trays a .refusal .number) e ∙ q))
+        ∙ ap (λ k. ranWithCells extra (runChecked k c l trays a)) (sym e)

@@ -5,6 +5,7 @@ use mathlib.Core.List.{List}
 use mathlib.Core.Option.{some}
 use Prim.Native.Nat.{ℕ}
 use lib.IntN.{ℤ}
+use Rattle.rules_formats.specs.Walk.{Devices}
 use Rattle.rules_object.specs.Object.{Object}
 use Rattle.rules_object.specs.Machine.{State}
 use Rattle.rules_object.specs.Calls.{Lent, taken}
@@ -25,5 +26,5 @@ stands-no-fault p t s =
       counted = λ n. bench-steps p n t s;
     }
 
-pub runnable-no-fault : (bytes : List ℕ) (store : List ℤ) (l : Lent) → Runnable bytes store l → (o : Object) → readObject bytes ≡ some o → Faultless o (taken l store)
-runnable-no-fault bytes store l r o e = let x = runnable-stands r o e in stands-no-fault (x .1 .0) (taken l store) (x .1 .1)
+pub runnable-no-fault : (bytes : List ℕ) (store : List ℤ) (l : Lent) → Runnable bytes store l → (devices : Devices) (o : Object) → readObject bytes ≡ some o → Faultless o (taken l store devices)
+runnable-no-fault bytes store l r devices o e = let x = runnable-stands r devices o e in stands-no-fault (x .1 .0) (taken l store devices) (x .1 .1)

@@ -4,16 +4,16 @@ use mathlib.Core.Path.{_≡_, refl, sym, ap, _∙_, subst}
 use mathlib.Core.Bool.{Bool, true, false, _&&_, cond}
 use mathlib.Core.List.{List, [], _∷_}
 use mathlib.Core.Option.{Option, none, some}
-use Prim.Native.Nat.{ℕ, zero, suc, _<_}
+use Prim.Native.Nat.{ℕ, zero, suc, _+_, _≤_, _<_}
 use native.Mathlib.Decide.{decLt}
 use native.Mathlib.Omega.{arith}
 use lib.ListN.{length, getD, List·getD-eq-default}
 use Rattle.rules_object.specs.Object.{Object}
-use Rattle.rules_object.specs.Check.{right41, rightConstant, rightElement, rightLoop, rightLine, rightNamed}
-use Rattle.rules_object.specs.Operations.{noElement, noLoop, operationOf, operandOf, right43, flowOf, operations, unknown}
+use Rattle.rules_object.specs.Check.{right41, rightConstant, rightElement, rightLoop, rightLine, rightNamed, rightFormat, rightItem, rightTransfer}
+use Rattle.rules_object.specs.Operations.{noElement, noLoop, noTransfer, operationOf, operandOf, right43, flowOf, operations, unknown}
 use Rattle.rules_object.specs.Heights.{heights}
 use Rattle.rules_shared.specs.Refusals.{Refusal, atEntry, orElse, unless}
-use Rattle.rules_shared.specs.Lists.{firstBad, Each, each-none, each-more}
+use Rattle.rules_shared.specs.Lists.{firstBad, firstFrom, Each, each-none, each-more}
 use Rattle.rules_object.specs.Calls.{refused42, refused43, refused, passed, judged44, judged, checkedObject, checked}
 use Rattle.rules_object.specs.Bytes.{readObject}
 use Rattle.rules_object.specs.Passed.{Passed}
@@ -52,14 +52,25 @@ each-at test [] d h i l = absurd (omega arith)
 each-at test (a ∷ more) d (each-more p ps) zero l = p
 each-at test (a ∷ more) d (each-more p ps) (suc i) l = each-at test more d ps i (omega arith)
 
+-- the same of places
+from-right : (test : ℕ → Bool) (n i : ℕ) → firstFrom test n i ≡ none → (j : ℕ) → i ≤ j → j < i + n → test j ≡ true
+from-right test zero i e j l m = absurd (omega arith)
+from-right test (suc n) i e j l m = by (test i) refl e (decLt i j) (from-right test n (suc i))
+  where
+    by : (b : Bool) → test i ≡ b → cond b (firstFrom test n (suc i)) (some i) ≡ none → Dec (i < j)
+        → (firstFrom test n (suc i) ≡ none → (j : ℕ) → suc i ≤ j → j < suc i + n → test j ≡ true) → test j ≡ true
+    by false q e d ih = absurd (some-none e)
+    by true q e (yes d) ih = ih e j (omega arith) (omega arith)
+    by true q e (no d) ih = let h : i ≡ j = omega arith in subst (λ k. test k ≡ true) h q
+
 -- ---- 40 to 43 passed
 
 -- an operation that there is not is refused, wherever it stands
 right-word : (o : Object) (word : ℕ) → right43 o word ≡ true → RightWord o word
 unfolding right43
-right-word o word e = record { known = by (decLt (operationOf word) 16); operand = e }
+right-word o word e = record { known = by (decLt (operationOf word) 18); operand = e }
   where
-    by : Dec (operationOf word < 16) → operationOf word < 16
+    by : Dec (operationOf word < 18) → operationOf word < 18
     by (yes l) = l
     by (no l) =
         let q = ap (λ p. p .operandRight o (operandOf word)) (List·getD-eq-default operations unknown {n = operationOf word} (omega arith)) in
@@ -75,6 +86,9 @@ none-judged {o = o} r e =
     let l = or-none (atEntry 42 2 (firstBad (rightElement o) (o .elements) 0)) _ (c .1) in
     let d = or-none (atEntry 42 4 (firstBad (rightLoop o) (o .dos) 0)) _ (l .1) in
     let s = or-none (atEntry 42 6 (firstBad (rightLine o) (o .lines) 0)) _ (d .1) in
+    let m = or-none (atEntry 42 7 (firstBad (rightNamed o) (o .names) 0)) _ (s .1) in
+    let f = or-none (atEntry 42 8 (firstFrom (rightFormat o) (length (o .formats)) 0)) _ (m .1) in
+    let i = or-none (atEntry 42 9 (firstBad (rightItem o) (o .items) 0)) _ (f .1) in
     record {
       reads = r;
       limits = unless-none _ _ (n₁ .0);
@@ -82,7 +96,10 @@ none-judged {o = o} r e =
       elements = each-right (rightElement o) (o .elements) 0 (entry-none _ _ _ (l .0));
       dos = each-right (rightLoop o) (o .dos) 0 (entry-none _ _ _ (d .0));
       lines = each-right (rightLine o) (o .lines) 0 (entry-none _ _ _ (s .0));
-      names = each-right (rightNamed o) (o .names) 0 (entry-none _ _ _ (s .1));
+      names = each-right (rightNamed o) (o .names) 0 (entry-none _ _ _ (m .0));
+      formats = λ j l. from-right (rightFormat o) (length (o .formats)) 0 (entry-none _ _ _ (f .0)) j (omega arith) (omega arith);
+      items = each-right (rightItem o) (o .items) 0 (entry-none _ _ _ (i .0));
+      transfers = each-right (rightTransfer o) (o .transfers) 0 (entry-none _ _ _ (i .1));
       code = each-map (right-word o) (each-right (right43 o) (o .code) 0 (entry-none _ _ _ (n₂ .1)));
     }
 
@@ -130,6 +147,9 @@ check-passed bytes o table e =
       constants = each-at (rightConstant o) (o .constants) 0 (j .constants);
       elements = each-at (rightElement o) (o .elements) noElement (j .elements);
       dos = each-at (rightLoop o) (o .dos) noLoop (j .dos);
+      formats = j .formats;
+      items = j .items;
+      transfers = each-at (rightTransfer o) (o .transfers) noTransfer (j .transfers);
       words = each-at (right43 o) (o .code) 0 (each-map (λ w r. r .operand) (j .code));
       least = h .0;
       sized = h .1;

@@ -1,27 +1,32 @@
 -- Cells past the count neither change nor matter.
 -- Assumes nothing.
-use mathlib.Core.Path.{_≡_, refl, ap, ap₂, _∙_}
+use mathlib.Core.Path.{_≡_, refl, sym, ap, ap₂, _∙_}
 use mathlib.Core.Bool.{Bool, true, false}
-use mathlib.Core.List.{List, _∷_, _++_}
+use mathlib.Core.List.{List, _++_}
 use mathlib.Core.Option.{Option, none, some}
-use Prim.Native.Nat.{ℕ, suc, _+_, _*_, _≤_, _<_}
+use Prim.Native.Nat.{ℕ, _+_, _*_, _≤_, _<_}
 use native.Mathlib.Omega.{arith}
 use lib.ListN.{length, set, length-set, List·getD-append}
 use lib.Seq.{set-append-left}
 use lib.IntN.{ℤ, pos}
 use Rattle.number.specs.Number.{Rule, Result, value, apply, trouble}
 use Rattle.rules_shared.specs.Runs.{go, run, steps}
+use Rattle.rules_shared.specs.Lists.{Each}
+use Rattle.rules_formats.specs.Walk.{withCards, Outcome, fine, Paper, Taken, prints}
+use Rattle.rules_formats.specs.Walk as walk
+use Rattle.rules_formats.proofs.Simulation.{Alike, stopped, went}
 use Rattle.rules_object.specs.Halts.{Out}
 use Rattle.rules_shared.specs.Choose.{exit, place, positive, allPositive, Turn, again, over, turn}
 use Rattle.rules_object.specs.Object.{SubscriptEntry, Element, Loop, Object, ruleOf}
-use Rattle.rules_object.specs.Operations.{Instr, HLT, CON, LOD, STO, LDE, STE, OP, NEG, JMP, BR3, BRC, DOI, DOE, instruction}
-use Rattle.rules_object.specs.Machine.{State, cell, top, under, operated, subscriptOf, placeOf, elementLoaded, elementStored, branched, begun, turned, ended, act, step, goingTo, withStore, next, pushing, popping}
-use Rattle.rules_object.specs.Safe.{Stands, withCells}
+use Rattle.rules_object.specs.Operations.{Instr, HLT, CON, LOD, STO, LDE, STE, OP, NEG, JMP, BR3, BRC, DOI, DOE, READ, PRINT, instruction}
+use Rattle.rules_object.specs.Machine.{State, cell, top, under, operated, subscriptOf, placeOf, elementLoaded, elementStored, branched, begun, turned, ended, spots, spotGet, wasRead, wasPrinted, act, step, goingTo, withStore, withDevices, next, pushing, popping}
+use Rattle.rules_object.specs.Safe.{listCells, Stands, withCells}
 use Rattle.rules_shared.proofs.RunLaws.{mapOut, run-map, steps-map}
 use Rattle.rules_object.specs.Passed.{Passed}
 use Rattle.rules_object.proofs.GoodWords.{GoodElement, GoodLoop, Good, word-good}
 use Rattle.rules_shared.proofs.Places.{place-below}
-use Rattle.rules_object.proofs.Safe.{step-stands}
+use Rattle.rules_object.proofs.Safe.{list-touched, step-stands}
+use Rattle.rules_object.proofs.Spots.{each-in, AlikeAt, list-prints, list-reads}
 
 module _ (o : Object) (extra : List ℤ) (t : State) (long : o .cells ≤ length (t .store)) where
   abbrev more : Out State → Out State
@@ -83,6 +88,29 @@ module _ (o : Object) (extra : List ℤ) (t : State) (long : o .cells ≤ length
       ∙ ap (λ w. turned (turn (cell (t .store) (d .variable)) (cell (t .store) (d .limit)) w) d (withCells extra t)) (same-cell (d .step) (g .step))
       ∙ turned-more (turn (cell (t .store) (d .variable)) (cell (t .store) (d .limit)) (cell (t .store) (d .step))) d g
 
+  -- the store with the extra cells behind it
+  record WithExtra (c d : List ℤ) : Type 0 where
+    enough : o .cells ≤ length c
+    is : d ≡ c ++ extra
+
+  extra-alike : (cells : List ℕ) → Each (λ a. a < o .cells) cells → AlikeAt cells WithExtra
+  extra-alike cells low =
+      record {
+        same = λ c d r a h. let l = each-in a cells low h in let n = r .enough in sym (ap (λ x. cell x a) (r .is) ∙ List·getD-append c extra (pos 0) a (omega arith));
+        sets = λ c d r a v h.
+            let l = each-in a cells low h in
+            let n = r .enough in
+            record { enough = omega (arith, length-set c a v); is = ap (λ x. set x a v) (r .is) ∙ set-append-left c extra a v (omega arith) };
+      }
+
+  read-more : {r r′ : Outcome (Taken (List ℤ))} → Alike WithExtra r r′ → wasRead r′ (withCells extra t) ≡ more (wasRead r t)
+  read-more stopped = refl
+  read-more (went {cs = cs} h) = ap (λ c. go (next (withDevices (withCards cs (t .devices)) (withStore c t)))) (h .is)
+
+  printed-more : (r : Outcome Paper) → wasPrinted r (withCells extra t) ≡ more (wasPrinted r t)
+  printed-more (fine p) = refl
+  printed-more (walk.trouble w) = refl
+
   act-more : (r : Rule) (i : Instr) → Good o i → act r i (withCells extra t) ≡ more (act r i t)
   act-more r (HLT x) g = refl
   act-more r (CON c) g = refl
@@ -101,6 +129,12 @@ module _ (o : Object) (extra : List ℤ) (t : State) (long : o .cells ≤ length
       begun-more (allPositive (top (under (under (t .stack)))) (top (under (t .stack))) (top (t .stack))) d (top (under (under (t .stack)))) (top (under (t .stack))) (top (t .stack)) g
   act-more r (DOE n d) g =
       ap (λ z. ended (positive z) d (withCells extra t)) (same-cell (d .step) (g .step)) ∙ ended-more (positive (cell (t .store) (d .step))) d g
+  act-more r (READ n f is) g =
+      read-more (list-reads is WithExtra (extra-alike (listCells is) (list-touched o is g)) f (t .store) (t .store ++ extra) (record { enough = long; is = refl }) (r .ceiling) (t .devices .cards))
+  act-more r (PRINT n f is) g =
+      ap (λ p. wasPrinted p (withCells extra t))
+      (sym (list-prints is WithExtra (extra-alike (listCells is) (list-touched o is g)) f (t .store) (t .store ++ extra) (record { enough = long; is = refl }) (t .devices .paper)))
+      ∙ printed-more (prints spotGet f (spots is) (t .store) (t .devices .paper))
 
 module _ {bytes : List ℕ} {o : Object} {table : List ℕ} (p : Passed bytes o table) (extra : List ℤ) where
   step-more : (t : State) → Stands o table t → step o (withCells extra t) ≡ mapOut (withCells extra) (step o t)

@@ -13,6 +13,7 @@ use lib.Seq.{take-append-seam, drop-append-seam}
 use borrow.Author.Tests.{leb-true}
 use lib.IntN.{ℤ}
 use Rattle.rules_shared.specs.Runs.{go, halt, run, steps}
+use Rattle.rules_formats.specs.Walk.{Trays, devicesOf}
 use Rattle.rules_object.specs.Halts.{Out}
 use Rattle.rules_object.specs.Object.{Object}
 use Rattle.rules_object.specs.Check.{right41}
@@ -37,80 +38,89 @@ check-accepts bytes e = by (judge bytes)
 -- ---- run and bench
 
 -- a run that refuses what was lent, and nothing else; or that accepts it
-abbrev One : Lent → List ℤ → Ran → Type 0
-One l store r = ((0 < r .refusal .number) × (r ≡ notRun (r .refusal) l store)) ⊎ (r .refusal ≡ accepted)
+abbrev One : Lent → List ℤ → Trays → Ran → Type 0
+One l store trays r = ((0 < r .refusal .number) × (r ≡ notRun (r .refusal) l store trays)) ⊎ (r .refusal ≡ accepted)
 
-pub from-accepts : (o : Object) (f : State → Out State) (a : ℕ) (t : State) → runFrom o f a t .refusal ≡ accepted
-from-accepts o f a t = by (run f a t)
+pub from-accepts : (o : Object) (trays : Trays) (f : State → Out State) (a : ℕ) (t : State) → runFrom o trays f a t .refusal ≡ accepted
+from-accepts o trays f a t = by (run f a t)
   where
-    by : (x : Out State) → ran o (steps f a t) x .refusal ≡ accepted
+    by : (x : Out State) → ran o trays (steps f a t) x .refusal ≡ accepted
     by (go u) = refl
     by (halt h u) = refl
 
 -- each field of it
-not-run : (l : Lent) (store : List ℤ) (r : Ran) → r ≡ notRun (r .refusal) l store → Unchanged l store r
-not-run l store r e =
-    record { noHalt = ap (λ x. x .halt) e; noSteps = ap (λ x. x .steps) e; noSequence = ap (λ x. x .sequence) e; sameLent = ap (λ x. x .lent) e; sameStore = ap (λ x. x .store) e }
+not-run : (l : Lent) (store : List ℤ) (trays : Trays) (r : Ran) → r ≡ notRun (r .refusal) l store trays → Unchanged l store trays r
+not-run l store trays r e =
+    record {
+      noHalt = ap (λ x. x .halt) e;
+      noSteps = ap (λ x. x .steps) e;
+      noSequence = ap (λ x. x .sequence) e;
+      sameLent = ap (λ x. x .lent) e;
+      sameStore = ap (λ x. x .store) e;
+      noCards = ap (λ x. x .cardsTaken) e;
+      noLines = ap (λ x. x .linesWritten) e;
+      sameLines = ap (λ x. x .lines) e;
+    }
 
-one-refuses : (l : Lent) (store : List ℤ) (r : Ran) → One l store r → 0 < r .refusal .number → Unchanged l store r
-one-refuses l store r (inl x) p = not-run l store r (x .1)
-one-refuses l store r (inr e) p = let z : r .refusal .number ≡ 0 = ap (λ x. x .number) e in absurd (omega arith)
+one-refuses : (l : Lent) (store : List ℤ) (trays : Trays) (r : Ran) → One l store trays r → 0 < r .refusal .number → Unchanged l store trays r
+one-refuses l store trays r (inl x) p = not-run l store trays r (x .1)
+one-refuses l store trays r (inr e) p = let z : r .refusal .number ≡ 0 = ap (λ x. x .number) e in absurd (omega arith)
 
-one-keeps : (l : Lent) (store : List ℤ) (r : Ran) → One l store r → (r .refusal ≡ accepted → ⊥) → r ≡ notRun (r .refusal) l store
-one-keeps l store r (inl x) n = x .1
-one-keeps l store r (inr e) n = absurd (n e)
+one-keeps : (l : Lent) (store : List ℤ) (trays : Trays) (r : Ran) → One l store trays r → (r .refusal ≡ accepted → ⊥) → r ≡ notRun (r .refusal) l store trays
+one-keeps l store trays r (inl x) n = x .1
+one-keeps l store trays r (inr e) n = absurd (n e)
 
-one-accepts : (l : Lent) (store : List ℤ) (r : Ran) → One l store r → r .refusal .number ≡ 0 → r .refusal ≡ accepted
-one-accepts l store r (inl x) e = absurd (let z = x .0 in omega arith)
-one-accepts l store r (inr q) e = q
+one-accepts : (l : Lent) (store : List ℤ) (trays : Trays) (r : Ran) → One l store trays r → r .refusal .number ≡ 0 → r .refusal ≡ accepted
+one-accepts l store trays r (inl x) e = absurd (let z = x .0 in omega arith)
+one-accepts l store trays r (inr q) e = q
 
-module _ (bytes : List ℕ) (store : List ℤ) (l : Lent) (a : ℕ) where
-  run-one : One l store (running bytes store l a)
+module _ (bytes : List ℕ) (store : List ℤ) (l : Lent) (trays : Trays) (a : ℕ) where
+  run-one : One l store trays (running bytes store l trays a)
   run-one = by (answer bytes store l)
     where
-      by : Answer bytes store l → One l store (running bytes store l a)
-      by (refuses r p q) = subst (One l store) (sym (q a)) (inl (p, refl))
-      by (runs x q) = inr (ap (λ z. z .refusal) (q a) ∙ from-accepts _ _ a _)
+      by : Answer bytes store l → One l store trays (running bytes store l trays a)
+      by (refuses r p q) = subst (One l store trays) (sym (q trays a)) (inl (p, refl))
+      by (runs x q) = inr (ap (λ z. z .refusal) (q trays a) ∙ from-accepts _ trays _ a _)
 
-  pub run-refuses : 0 < running bytes store l a .refusal .number → Unchanged l store (running bytes store l a)
-  run-refuses p = one-refuses l store _ run-one p
+  pub run-refuses : 0 < running bytes store l trays a .refusal .number → Unchanged l store trays (running bytes store l trays a)
+  run-refuses p = one-refuses l store trays _ run-one p
 
-  pub run-keeps : (running bytes store l a .refusal ≡ accepted → ⊥) → running bytes store l a ≡ notRun (running bytes store l a .refusal) l store
-  run-keeps n = one-keeps l store _ run-one n
+  pub run-keeps : (running bytes store l trays a .refusal ≡ accepted → ⊥) → running bytes store l trays a ≡ notRun (running bytes store l trays a .refusal) l store trays
+  run-keeps n = one-keeps l store trays _ run-one n
 
-  pub run-accepts : running bytes store l a .refusal .number ≡ 0 → running bytes store l a .refusal ≡ accepted
-  run-accepts e = one-accepts l store _ run-one e
+  pub run-accepts : running bytes store l trays a .refusal .number ≡ 0 → running bytes store l trays a .refusal ≡ accepted
+  run-accepts e = one-accepts l store trays _ run-one e
 
-  bench-one : One l store (benching bytes store l a)
+  bench-one : One l store trays (benching bytes store l trays a)
   bench-one = by (bench-answer bytes store)
     where
-      by : BenchAnswer bytes store → One l store (benching bytes store l a)
-      by (refuses r p q) = subst (One l store) (sym (q l a)) (inl (p, refl))
-      by (runs x q) = inr (ap (λ z. z .refusal) (q l a) ∙ from-accepts _ _ a _)
+      by : BenchAnswer bytes store → One l store trays (benching bytes store l trays a)
+      by (refuses r p q) = subst (One l store trays) (sym (q l trays a)) (inl (p, refl))
+      by (runs x q) = inr (ap (λ z. z .refusal) (q l trays a) ∙ from-accepts _ trays _ a _)
 
-  pub bench-refuses : 0 < benching bytes store l a .refusal .number → Unchanged l store (benching bytes store l a)
-  bench-refuses p = one-refuses l store _ bench-one p
+  pub bench-refuses : 0 < benching bytes store l trays a .refusal .number → Unchanged l store trays (benching bytes store l trays a)
+  bench-refuses p = one-refuses l store trays _ bench-one p
 
-  pub bench-keeps : (benching bytes store l a .refusal ≡ accepted → ⊥) → benching bytes store l a ≡ notRun (benching bytes store l a .refusal) l store
-  bench-keeps n = one-keeps l store _ bench-one n
+  pub bench-keeps : (benching bytes store l trays a .refusal ≡ accepted → ⊥) → benching bytes store l trays a ≡ notRun (benching bytes store l trays a .refusal) l store trays
+  bench-keeps n = one-keeps l store trays _ bench-one n
 
-  pub bench-accepts : benching bytes store l a .refusal .number ≡ 0 → benching bytes store l a .refusal ≡ accepted
-  bench-accepts e = one-accepts l store _ bench-one e
+  pub bench-accepts : benching bytes store l trays a .refusal .number ≡ 0 → benching bytes store l trays a .refusal ≡ accepted
+  bench-accepts e = one-accepts l store trays _ bench-one e
 
 -- ---- by which numbers a bench run refuses
 
 abbrev BenchNumber : Refusal → Type 0
 BenchNumber r = In (r .number) (0 ∷ 40 ∷ 41 ∷ 50 ∷ 51 ∷ [])
 
-pub bench-only : (bytes : List ℕ) (store : List ℤ) (l : Lent) (a : ℕ) → In (benching bytes store l a .refusal .number) (0 ∷ 40 ∷ 41 ∷ 50 ∷ 51 ∷ [])
+pub bench-only : (bytes : List ℕ) (store : List ℤ) (l : Lent) (trays : Trays) (a : ℕ) → In (benching bytes store l trays a .refusal .number) (0 ∷ 40 ∷ 41 ∷ 50 ∷ 51 ∷ [])
 unfolding benching
-bench-only bytes store l a = by (readObject bytes)
+bench-only bytes store l trays a = by (readObject bytes)
   where
-    on : (o : Object) (r : Option Refusal) → If BenchNumber r → BenchNumber (orRefused r l store (runFrom o (benchStep o) a (fresh store)) .refusal)
+    on : (o : Object) (r : Option Refusal) → If BenchNumber r → BenchNumber (orRefused r l store trays (runFrom o trays (benchStep o) a (fresh store (devicesOf trays))) .refusal)
     on o (some r) h = h
-    on o none h = inl (ap (λ r. r .number) (from-accepts o (benchStep o) a (fresh store)))
+    on o none h = inl (ap (λ r. r .number) (from-accepts o trays (benchStep o) a (fresh store (devicesOf trays))))
 
-    by : (p : Option Object) → BenchNumber (benchObject p store l a .refusal)
+    by : (p : Option Object) → BenchNumber (benchObject p store l trays a .refusal)
     by none = inr (inl refl)
     by (some o) =
         on o (refusedBench o store)
@@ -121,12 +131,12 @@ bench-only bytes store l a = by (readObject bytes)
 -- ---- a refusal by the check
 
 -- is the run's too
-pub run-checks : (bytes : List ℕ) → 0 < checking bytes .number → (store : List ℤ) (l : Lent) (a : ℕ) → running bytes store l a .refusal ≡ checking bytes
+pub run-checks : (bytes : List ℕ) → 0 < checking bytes .number → (store : List ℤ) (l : Lent) (trays : Trays) (a : ℕ) → running bytes store l trays a .refusal ≡ checking bytes
 unfolding running checking
-run-checks bytes some′ store l a = by (judge bytes)
+run-checks bytes some′ store l trays a = by (judge bytes)
   where
-    by : Verdict bytes → runChecked (checked bytes) store l a .refusal ≡ verdict (checked bytes)
-    by (bad r q p w) = ap (λ c. runChecked c store l a .refusal) q ∙ ap verdict (sym q)
+    by : Verdict bytes → runChecked (checked bytes) store l trays a .refusal ≡ verdict (checked bytes)
+    by (bad r q p w) = ap (λ c. runChecked c store l trays a .refusal) q ∙ ap verdict (sym q)
     by (good o table q p) = let z : verdict (checked bytes) .number ≡ 0 = ap (λ c. verdict c .number) q in absurd (omega arith)
 
 -- and the map's
@@ -139,18 +149,18 @@ map-checks bytes some′ table = by (judge bytes)
     by (good o heights q p) = let z : verdict (checked bytes) .number ≡ 0 = ap (λ c. verdict c .number) q in absurd (omega arith)
 
 -- and, by 40 or 41, the bench run's
-pub bench-checks : (bytes : List ℕ) → 0 < checking bytes .number → checking bytes .number < 42 → (store : List ℤ) (l : Lent) (a : ℕ) → benching bytes store l a .refusal ≡ checking bytes
+pub bench-checks : (bytes : List ℕ) → 0 < checking bytes .number → checking bytes .number < 42 → (store : List ℤ) (l : Lent) (trays : Trays) (a : ℕ) → benching bytes store l trays a .refusal ≡ checking bytes
 unfolding benching checking
-bench-checks bytes some′ few store l a = by (judge bytes)
+bench-checks bytes some′ few store l trays a = by (judge bytes)
   where
-    is : {r : Refusal} → checked bytes ≡ refused r → Why bytes r → benchObject (readObject bytes) store l a .refusal ≡ r
-    is q (unread e) = ap (λ p. benchObject p store l a .refusal) e
+    is : {r : Refusal} → checked bytes ≡ refused r → Why bytes r → benchObject (readObject bytes) store l trays a .refusal ≡ r
+    is q (unread e) = ap (λ p. benchObject p store l trays a .refusal) e
     is q (over o e f) =
-        ap (λ p. benchObject p store l a .refusal) e
-        ∙ ap (λ b. orRefused (orElse (unless b 41) (orElse (unless (right50 o store) 50) (unless (right51 o store) 51))) l store (runFrom o (benchStep o) a (fresh store)) .refusal) f
+        ap (λ p. benchObject p store l trays a .refusal) e
+        ∙ ap (λ b. orRefused (orElse (unless b 41) (orElse (unless (right50 o store) 50) (unless (right51 o store) 51))) l store trays (runFrom o trays (benchStep o) a (fresh store (devicesOf trays))) .refusal) f
     is q (later r o e f h) = let z : verdict (checked bytes) .number ≡ r .number = ap (λ c. verdict c .number) q in absurd (omega arith)
 
-    by : Verdict bytes → benchObject (readObject bytes) store l a .refusal ≡ verdict (checked bytes)
+    by : Verdict bytes → benchObject (readObject bytes) store l trays a .refusal ≡ verdict (checked bytes)
     by (bad r q p w) = is q w ∙ ap verdict (sym q)
     by (good o table q p) = let z : verdict (checked bytes) .number ≡ 0 = ap (λ c. verdict c .number) q in absurd (omega arith)
 

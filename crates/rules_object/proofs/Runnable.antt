@@ -12,6 +12,7 @@ use lib.ListN.{length}
 use lib.IntN.{ℤ}
 use Rattle.rules_shared.specs.Limits.{limits}
 use Rattle.rules_shared.specs.Lists.{each-none}
+use Rattle.rules_formats.specs.Walk.{Devices, Trays, devicesOf}
 use Rattle.rules_object.specs.Object.{Object}
 use Rattle.rules_object.specs.Check.{right41}
 use Rattle.rules_object.specs.Machine.{fresh, step, benchStep}
@@ -51,23 +52,23 @@ module _ {bytes : List ℕ} {store : List ℤ} {l : Lent} where
         forty = forty;
       }
 
-pub runs-exactly : (bytes : List ℕ) (store : List ℤ) (l : Lent) → length (l .places) ≡ limits .stack → (a : ℕ) → (running bytes store l a .refusal ≡ accepted) ↔ Runnable bytes store l
-runs-exactly bytes store l forty a = (
-  λ e. accepts-runnable forty (accepts bytes store l a (ap (λ r. r .number) e)),
-  λ r. let x = runnable-accepts r in ap (λ z. z .refusal) (accepts-run x a) ∙ from-accepts (x .object) (step (x .object)) a (taken l store),
+pub runs-exactly : (bytes : List ℕ) (store : List ℤ) (l : Lent) → length (l .places) ≡ limits .stack → (trays : Trays) (a : ℕ) → (running bytes store l trays a .refusal ≡ accepted) ↔ Runnable bytes store l
+runs-exactly bytes store l forty trays a = (
+  λ e. accepts-runnable forty (accepts bytes store l trays a (ap (λ r. r .number) e)),
+  λ r. let x = runnable-accepts r in ap (λ z. z .refusal) (accepts-run x trays a) ∙ from-accepts (x .object) trays (step (x .object)) a (taken l store (devicesOf trays)),
 )
 
 -- a bench run is accepted by 40, 41, 50 and 51 alone
-pub benches-exactly : (bytes : List ℕ) (store : List ℤ) (l : Lent) (a : ℕ)
-    → (benching bytes store l a .refusal ≡ accepted) ↔ ((o : Object) × (readObject bytes ≡ some o) × (right41 o ≡ true) × (rightStore bytes store ≡ true))
+pub benches-exactly : (bytes : List ℕ) (store : List ℤ) (l : Lent) (trays : Trays) (a : ℕ)
+    → (benching bytes store l trays a .refusal ≡ accepted) ↔ ((o : Object) × (readObject bytes ≡ some o) × (right41 o ≡ true) × (rightStore bytes store ≡ true))
 unfolding benching rightStore
-benches-exactly bytes store l a = (there (bench-answer bytes store), back)
+benches-exactly bytes store l trays a = (there (bench-answer bytes store), back)
   where
-    there : BenchAnswer bytes store → benching bytes store l a .refusal ≡ accepted → (o : Object) × (readObject bytes ≡ some o) × (right41 o ≡ true) × (rightStore bytes store ≡ true)
-    there (refuses r p q) e = let z : r .number ≡ 0 = ap (λ x. x .refusal .number) (sym (q l a)) ∙ ap (λ r. r .number) e in absurd (omega arith)
+    there : BenchAnswer bytes store → benching bytes store l trays a .refusal ≡ accepted → (o : Object) × (readObject bytes ≡ some o) × (right41 o ≡ true) × (rightStore bytes store ≡ true)
+    there (refuses r p q) e = let z : r .number ≡ 0 = ap (λ x. x .refusal .number) (sym (q l trays a)) ∙ ap (λ r. r .number) e in absurd (omega arith)
     there (runs x q) e = (x .object, x .reads, x .right41, ap (λ p. rightStoreOf p store) (x .reads) ∙ and-true (x .right50) (x .right51))
 
-    back : (o : Object) × (readObject bytes ≡ some o) × (right41 o ≡ true) × (rightStore bytes store ≡ true) → benching bytes store l a .refusal ≡ accepted
+    back : (o : Object) × (readObject bytes ≡ some o) × (right41 o ≡ true) × (rightStore bytes store ≡ true) → benching bytes store l trays a .refusal ≡ accepted
     back x =
         let o = x .0 in
         let s = both (right50 o store) (right51 o store) (sym (ap (λ p. rightStoreOf p store) (x .1)) ∙ x .3) in
@@ -75,21 +76,21 @@ benches-exactly bytes store l a = (there (bench-answer bytes store), back)
         let q₂ = s .0 in
         let q₃ = s .1 in
         let q : refusedBench o store ≡ none = rw (q₁, q₂, q₃) refl in
-        ap (λ p. benchObject p store l a .refusal) (x .1) ∙ ap (λ r. orRefused r l store (runFrom o (benchStep o) a (fresh store)) .refusal) q ∙ from-accepts o (benchStep o) a (fresh store)
+        ap (λ p. benchObject p store l trays a .refusal) (x .1) ∙ ap (λ r. orRefused r l store trays (runFrom o trays (benchStep o) a (fresh store (devicesOf trays))) .refusal) q ∙ from-accepts o trays (benchStep o) a (fresh store (devicesOf trays))
 
 -- ---- from the start, and again
 
 pub fresh-runnable : (bytes : List ℕ) (store : List ℤ) → checking bytes ≡ accepted → rightStore bytes store ≡ true → Runnable bytes store freshLent
 fresh-runnable bytes store e s = record { passes = e; stored = s; stands = λ o r. record { reached = first; stack = each-none; mark = omega arith }; forty = refl }
 
-pub leaves-runnable : (bytes : List ℕ) (store : List ℤ) (l : Lent) → Runnable bytes store l → (a : ℕ) → Runnable bytes (running bytes store l a .store) (running bytes store l a .lent)
-leaves-runnable bytes store l r a =
-    let e = ap (λ r. r .number) (runs-exactly bytes store l (r .forty) a .1 r) in
-    runs-exactly bytes _ _ (places-forty bytes store l (r .forty) a) 0 .0 (leaves-right bytes store l (r .forty) a e 0)
+pub leaves-runnable : (bytes : List ℕ) (store : List ℤ) (l : Lent) → Runnable bytes store l → (trays : Trays) (a : ℕ) → Runnable bytes (running bytes store l trays a .store) (running bytes store l trays a .lent)
+leaves-runnable bytes store l r trays a =
+    let e = ap (λ r. r .number) (runs-exactly bytes store l (r .forty) trays a .1 r) in
+    runs-exactly bytes _ _ (places-forty bytes store l trays (r .forty) a) trays 0 .0 (leaves-right bytes store l trays (r .forty) a e trays 0)
 
 -- the object's state, and that it stands
-pub runnable-stands : {bytes : List ℕ} {store : List ℤ} {l : Lent} → Runnable bytes store l → (o : Object) → readObject bytes ≡ some o → (table : List ℕ) × (Passed bytes o table × Stands o table (taken l store))
-runnable-stands {bytes} {store} {l} r o e =
+pub runnable-stands : {bytes : List ℕ} {store : List ℤ} {l : Lent} → Runnable bytes store l → (devices : Devices) (o : Object) → readObject bytes ≡ some o → (table : List ℕ) × (Passed bytes o table × Stands o table (taken l store devices))
+runnable-stands {bytes} {store} {l} r devices o e =
     let x = runnable-accepts r in
-    subst (λ p. (table : List ℕ) × (Passed bytes p table × Stands p table (taken l store))) (one-object bytes (x .passes .reads) e)
-    (x .table, (x .passes, taken-stands (x .object) (x .table) l store (r .forty) (x .right50) (x .right51) (x .right52)))
+    subst (λ p. (table : List ℕ) × (Passed bytes p table × Stands p table (taken l store devices))) (one-object bytes (x .passes .reads) e)
+    (x .table, (x .passes, taken-stands (x .object) (x .table) l store devices (r .forty) (x .right50) (x .right51) (x .right52)))

@@ -1,11 +1,13 @@
--- What the steps of a run are, and that a halt other than 2 leaves store and state as one step less leaves them; so of a bench run. Promise 4.
+-- What the steps of a run are, and that a halt other than 2 leaves store, state, cards and lines as one step less leaves them; so of a bench run. Promise 4.
 -- Assumes nothing.
 use mathlib.Core.Path.{_≡_, refl, sym, ap, _∙_}
 use mathlib.Core.List.{List}
 use Prim.Native.Nat.{ℕ, _-_}
 use native.Mathlib.Omega.{arith}
+use lib.ListN.{length}
 use lib.IntN.{ℤ}
 use Rattle.rules_shared.specs.Runs.{go, halt, run, steps}
+use Rattle.rules_formats.specs.Walk.{cardsOf, Trays, devicesOf, linesAfter}
 use Rattle.rules_object.specs.Halts.{Halt, Out}
 use Rattle.rules_object.specs.Object.{Object}
 use Rattle.rules_object.specs.Machine.{State, fresh, step, benchStep}
@@ -18,9 +20,9 @@ use Rattle.rules_object.proofs.Accepts.{accepts, accepts-run, BenchAnsw
 use Rattle.rules_object.proofs.GoesOn.{not-two}
 
 -- a call that runs a step function that halts where it stands
-module _ (o : Object) (f : State → Out State) (there : (t u : State) (h : Halt) → f t ≡ halt h u → u ≡ t) (t : State) (call : ℕ → Ran) (runs : (a : ℕ) → call a ≡ runFrom o f a t) (a : ℕ) where
-  is : (b : ℕ) (x : Out State) → run f b t ≡ x → call b ≡ ran o (steps f b t) x
-  is b x e = runs b ∙ ap (ran o (steps f b t)) e
+module _ (o : Object) (trays : Trays) (f : State → Out State) (there : (t u : State) (h : Halt) → f t ≡ halt h u → u ≡ t) (t : State) (call : ℕ → Ran) (runs : (a : ℕ) → call a ≡ runFrom o trays f a t) (a : ℕ) where
+  is : (b : ℕ) (x : Out State) → run f b t ≡ x → call b ≡ ran o trays (steps f b t) x
+  is b x e = runs b ∙ ap (ran o trays (steps f b t)) e
 
   halts-so : (h : Halt) (u : State) → run f a t ≡ halt h u → HaltsAt call a
   halts-so h u e =
@@ -28,15 +30,18 @@ module _ (o : Object) (f : State → Out State) (there : (t u : State) (h : Halt
       let q = is a (halt h u) e in
       let s : call a .steps ≡ n = ap (λ r. r .steps) q in
       let w = goes-before f a t u h e in
-      let less : call (call a .steps - 1) ≡ ran o (steps f (n - 1) t) (go (w .0)) = ap (λ m. call (m - 1)) s ∙ is (n - 1) (go (w .0)) (w .1 .0) in
+      let less : call (call a .steps - 1) ≡ ran o trays (steps f (n - 1) t) (go (w .0)) = ap (λ m. call (m - 1)) s ∙ is (n - 1) (go (w .0)) (w .1 .0) in
       let stays = there (w .0) u h (w .1 .1) in
       let one = steps-some f a t u h e in
       record {
         some = omega arith;
-        exact = ap call s ∙ is n (halt h u) (halts-at f a t u h e) ∙ ap (λ m. ran o m (halt h u)) (steps-at f a t u h e) ∙ sym q;
+        exact = ap call s ∙ is n (halt h u) (halts-at f a t u h e) ∙ ap (λ m. ran o trays m (halt h u)) (steps-at f a t u h e) ∙ sym q;
         before = ap (λ r. r .halt) less;
         sameStore = ap (λ r. r .store) q ∙ ap (λ v. v .store) stays ∙ sym (ap (λ r. r .store) less);
         sameLent = ap (λ r. r .lent) q ∙ ap given stays ∙ sym (ap (λ r. r .lent) less);
+        sameCards = ap (λ r. r .cardsTaken) q ∙ ap (λ v. length (cardsOf (trays .cards)) - length (v .devices .cards)) stays ∙ sym (ap (λ r. r .cardsTaken) less);
+        sameCount = ap (λ r. r .linesWritten) q ∙ ap (λ v. length (v .devices .paper .lines)) stays ∙ sym (ap (λ r. r .linesWritten) less);
+        sameLines = ap (λ r. r .lines) q ∙ ap (λ v. linesAfter (v .devices .paper .lines) (trays .lines)) stays ∙ sym (ap (λ r. r .lines) less);
       }
 
   steps-of : StepsOf call a
@@ -49,14 +54,14 @@ module _ (o : Object) (f : State → Out State) (there : (t u : State) (h : Halt
       by (halt h u) e =
           record { whole = λ two. absurd (not-two h (sym (ap (λ r. r .halt) (is a (halt h u) e)) ∙ two)); other = λ n. halts-so h u e }
 
-pub run-steps : (bytes : List ℕ) (store : List ℤ) (l : Lent) (a : ℕ) → running bytes store l a .refusal ≡ accepted → StepsOf (running bytes store l) a
-run-steps bytes store l a e =
-    let x = accepts bytes store l a (ap (λ r. r .number) e) in
-    steps-of (x .object) (step (x .object)) (step-there (x .object)) (taken l store) (running bytes store l) (accepts-run x) a
+pub run-steps : (bytes : List ℕ) (store : List ℤ) (l : Lent) (trays : Trays) (a : ℕ) → running bytes store l trays a .refusal ≡ accepted → StepsOf (running bytes store l trays) a
+run-steps bytes store l trays a e =
+    let x = accepts bytes store l trays a (ap (λ r. r .number) e) in
+    steps-of (x .object) trays (step (x .object)) (step-there (x .object)) (taken l store (devicesOf trays)) (running bytes store l trays) (accepts-run x trays) a
 
-pub bench-steps-of : (bytes : List ℕ) (store : List ℤ) (l : Lent) (a : ℕ) → benching bytes store l a .refusal ≡ accepted → StepsOf (benching bytes store l) a
-bench-steps-of bytes store l a e = by (bench-answer bytes store)
+pub bench-steps-of : (bytes : List ℕ) (store : List ℤ) (l : Lent) (trays : Trays) (a : ℕ) → benching bytes store l trays a .refusal ≡ accepted → StepsOf (benching bytes store l trays) a
+bench-steps-of bytes store l trays a e = by (bench-answer bytes store)
   where
-    by : BenchAnswer bytes store → StepsOf (benching bytes store l) a
-    by (refuses r p q) = let z : r .number ≡ 0 = ap (λ x. x .refusal .number) (sym (q l a)) ∙ ap (λ r. r .number) e in absurd (omega arith)
-    by (runs x q) = steps-of (x .object) (benchStep (x .object)) (bench-there (x .object)) (fresh store) (benching bytes store l) (q l) a
+    by : BenchAnswer bytes store → StepsOf (benching bytes store l trays) a
+    by (refuses r p q) = let z : r .number ≡ 0 = ap (λ x. x .refusal .number) (sym (q l trays a)) ∙ ap (λ r. r .number) e in absurd (omega arith)
+    by (runs x q) = steps-of (x .object) trays (benchStep (x .object)) (bench-there (x .object)) (fresh store (devicesOf trays)) (benching bytes store l trays) (q l trays) a

@@ -1,4 +1,4 @@
--- An object's bytes, and any bytes read as an object. 01 "Object" and 40.
+-- An object's bytes, and any bytes read as an object. 01 "Object" and 40, 2026-01.
 -- Assumes nothing.
 use Prim.Native.Nat.{ℕ, zero, suc, _+_, _-_, _*_, _/_, _%_, _^_}
 use mathlib.Core.Bool.{_&&_, cond}
@@ -7,8 +7,8 @@ use mathlib.Core.Option.{Option, none, some}
 use lib.Dec.{ltb, leb, eqb}
 use lib.ListN.{length, getD, take, drop}
 use lib.IntN.{ℤ, pos, negsuc}
-use Rattle.rules_object.specs.Object.{Element, Loop, Line, Named, Object}
-use Rattle.rules_object.specs.Kinds.{Kind, edition, kindsOf, entrySizes, contentsLength}
+use Rattle.rules_object.specs.Object.{Element, Loop, Line, Named, ListItem, Transfer, Object}
+use Rattle.rules_object.specs.Kinds.{Kind, kindsOf, entrySizes, contentsLength}
 
 -- ---- words are u32, little-endian
 
@@ -57,15 +57,21 @@ lineWords l = l .sequence ∷ l .number ∷ l .address ∷ []
 abbrev pub nameWords : Named → List ℕ
 nameWords n = wordsOf (n .name) ++ (n .first ∷ n .rows ∷ n .columns ∷ [])
 
+abbrev pub itemWords : ListItem → List ℕ
+itemWords i = i .first ∷ i .count ∷ []
+
+abbrev pub transferWords : Transfer → List ℕ
+transferWords t = t .format ∷ t .first ∷ t .count ∷ []
+
 -- the bodies in the order of their kinds, each as its entries
 abbrev pub bodies : Object → List (List (List ℕ))
 bodies o =
     map oneWord (o .constants) ∷ map elementWords (o .elements) ∷ map oneWord (o .exits) ∷ map loopWords (o .dos) ∷ map oneWord (o .code) ∷ map lineWords (o .lines)
-    ∷ map nameWords (o .names) ∷ []
+    ∷ map nameWords (o .names) ∷ map oneWord (o .formats) ∷ map itemWords (o .items) ∷ map transferWords (o .transfers) ∷ []
 
--- and each as its words
+-- and each as its words, as many bodies as its edition has
 abbrev pub bodyWords : Object → List (List ℕ)
-bodyWords o = map concat (bodies o)
+bodyWords o = map concat (take (length (kindsOf (o .edition))) (bodies o))
 
 -- and back: word i of an entry
 abbrev pub word : List ℕ → ℕ → ℕ
@@ -90,6 +96,12 @@ lineOf e = record { sequence = word e 0; number = word e 1; address = word e 2 }
 abbrev pub namedOf : List ℕ → Named
 namedOf e = record { name = wordBytes (word e 0) ++ wordBytes (word e 1); first = word e 2; rows = word e 3; columns = word e 4 }
 
+abbrev pub itemOf : List ℕ → ListItem
+itemOf e = record { first = word e 0; count = word e 1 }
+
+abbrev pub transferOf : List ℕ → Transfer
+transferOf e = record { format = word e 0; first = word e 1; count = word e 2 }
+
 -- the first n entries of z words each
 abbrev pub entries : ℕ → ℕ → List ℕ → List (List ℕ)
 entries zero z ws = []
@@ -104,7 +116,7 @@ bodyTable kind at (b ∷ bs) = kind ∷ at ∷ 4 * length b ∷ bodyTable (suc k
 
 unfoldable pub objectWords : Object → List ℕ
 objectWords o =
-    edition ∷ o .digits ∷ o .cells ∷ length (bodyWords o) ∷ (bodyTable 1 (contentsLength (length (bodyWords o))) (bodyWords o) ++ concat (bodyWords o))
+    o .edition ∷ o .digits ∷ o .cells ∷ length (bodyWords o) ∷ (bodyTable 1 (contentsLength (length (bodyWords o))) (bodyWords o) ++ concat (bodyWords o))
 
 unfoldable pub objectBytes : Object → List ℕ
 objectBytes o = bytesOf (objectWords o)
@@ -130,13 +142,14 @@ body bs kind = getD bs (kind - 1) []
 abbrev pub entriesOf : List Kind → List (List ℕ) → ℕ → List (List ℕ)
 entriesOf kinds bs kind = entries (length (body bs kind) / getD (entrySizes kinds) (kind - 1) 1) (getD (entrySizes kinds) (kind - 1) 1) (body bs kind)
 
--- the seven lists; no code at all is wrong
-abbrev pub objectOf : List Kind → ℕ → ℕ → Option (List (List ℕ)) → Option Object
-objectOf kinds k cells none = none
-objectOf kinds k cells (some bs) =
+-- the lists, empty where the edition has no such body; no code at all is wrong
+abbrev pub objectOf : List Kind → ℕ → ℕ → ℕ → Option (List (List ℕ)) → Option Object
+objectOf kinds e k cells none = none
+objectOf kinds e k cells (some bs) =
     cond (eqb (length (body bs 5)) 0) none
     (some
     (record {
+      edition = e;
       digits = k;
       cells = cells;
       constants = body bs 1;
@@ -146,13 +159,16 @@ objectOf kinds k cells (some bs) =
       code = body bs 5;
       lines = map lineOf (entriesOf kinds bs 6);
       names = map namedOf (entriesOf kinds bs 7);
+      formats = body bs 8;
+      items = map itemOf (entriesOf kinds bs 9);
+      transfers = map transferOf (entriesOf kinds bs 10);
     }))
 
 -- after the edition: k, cell count, body count; then the contents of the bodies, and the bodies
 abbrev pub readBy : List Kind → List ℕ → Option Object
 readBy kinds ws =
     cond (ltb 0 (length kinds) && eqb (word ws 3) (length kinds))
-    (objectOf kinds (word ws 1) (word ws 2) (readBodies (entrySizes kinds) 1 (contentsLength (length kinds)) (take (3 * length kinds) (drop 4 ws)) (drop (3 * length kinds) (drop 4 ws)))) none
+    (objectOf kinds (word ws 0) (word ws 1) (word ws 2) (readBodies (entrySizes kinds) 1 (contentsLength (length kinds)) (take (3 * length kinds) (drop 4 ws)) (drop (3 * length kinds) (drop 4 ws)))) none
 
 -- by the kinds of its edition, if there is such an edition
 abbrev pub readWords : List ℕ → Option Object

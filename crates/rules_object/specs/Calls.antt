@@ -1,25 +1,26 @@
--- What the calls on objects answer: check, run, bench and map, each with one outcome for whatever is lent. 01 "Refusal numbers", "Running".
+-- What the calls on objects answer: check, run, bench and map, each with one outcome for whatever is lent. 01 "Refusal numbers", "Running", 2026-01.
 -- Assumes nothing.
 use Prim.Native.Nat.{ℕ, zero, suc, _-_}
 use mathlib.Core.Bool.{Bool, _&&_, cond}
 use mathlib.Core.List.{List, [], _∷_, _++_, map, reverse}
 use mathlib.Core.Option.{Option, none, some}
 use lib.Dec.{ltb, leb, eqb}
-use lib.ListN.{length, take, drop, replicate}
+use lib.ListN.{length, take, replicate}
 use lib.IntN.{ℤ, pos}
 use Rattle.number.specs.Number.{fits}
 use Rattle.rules_shared.specs.Limits.{limits}
 use Rattle.rules_shared.specs.Runs.{go, halt, run, steps}
+use Rattle.rules_formats.specs.Walk.{Devices, cardsOf, Trays, devicesOf, linesAfter}
 use Rattle.rules_object.specs.Halts.{haltNumber, Out}
 use Rattle.rules_object.specs.Object.{Line, Object, ruleOf}
-use Rattle.rules_object.specs.Check.{right41, rightConstant, rightElement, rightLoop, rightLine, rightNamed}
+use Rattle.rules_object.specs.Check.{right41, rightConstant, rightElement, rightLoop, rightLine, rightNamed, rightFormat, rightItem, rightTransfer}
 use Rattle.rules_object.specs.Operations.{right43, flowOf}
 use Rattle.rules_object.specs.Machine.{State, fresh, step, benchStep, goingTo, withStack, withMark}
 use Rattle.rules_object.specs.Bytes.{concat, bytesOf, nameWords, readObject}
 use Rattle.rules_object.specs.Flow.{heightAt}
 use Rattle.rules_object.specs.Heights.{heights}
 use Rattle.rules_shared.specs.Refusals.{Refusal, refusal, accepted, atEntry, orElse, unless, noRoom}
-use Rattle.rules_shared.specs.Lists.{all, firstBad}
+use Rattle.rules_shared.specs.Lists.{all, firstBad, firstFrom}
 use Rattle.rules_shared.specs.Output.{Written, notWritten, write}
 
 -- ---- the check: 40 to 44
@@ -30,7 +31,10 @@ refused42 o =
     orElse (atEntry 42 1 (firstBad (rightConstant o) (o .constants) 0))
     (orElse (atEntry 42 2 (firstBad (rightElement o) (o .elements) 0))
     (orElse (atEntry 42 4 (firstBad (rightLoop o) (o .dos) 0))
-    (orElse (atEntry 42 6 (firstBad (rightLine o) (o .lines) 0)) (atEntry 42 7 (firstBad (rightNamed o) (o .names) 0)))))
+    (orElse (atEntry 42 6 (firstBad (rightLine o) (o .lines) 0))
+    (orElse (atEntry 42 7 (firstBad (rightNamed o) (o .names) 0))
+    (orElse (atEntry 42 8 (firstFrom (rightFormat o) (length (o .formats)) 0))
+    (orElse (atEntry 42 9 (firstBad (rightItem o) (o .items) 0)) (atEntry 42 10 (firstBad (rightTransfer o) (o .transfers) 0))))))))
 
 unfoldable pub refused43 : Object → Option Refusal
 refused43 o = atEntry 43 5 (firstBad (right43 o) (o .code) 0)
@@ -72,8 +76,8 @@ pub record Lent : Type 0 where
   pub mark : ℕ
   pub places : List ℤ
 
-unfoldable pub taken : Lent → List ℤ → State
-taken l store = goingTo (l .index) (withStack (reverse (take (l .height) (l .places))) (withMark (l .mark) (fresh store)))
+unfoldable pub taken : Lent → List ℤ → Devices → State
+taken l store devices = goingTo (l .index) (withStack (reverse (take (l .height) (l .places))) (withMark (l .mark) (fresh store devices)))
 
 -- places above the height come back 0
 unfoldable pub given : State → Lent
@@ -120,48 +124,75 @@ pub record Ran : Type 0 where
   pub sequence : ℕ
   pub lent : Lent
   pub store : List ℤ
+  -- cards taken and lines written by this call, and what was lent for lines
+  pub cardsTaken : ℕ
+  pub linesWritten : ℕ
+  pub lines : List ℕ
 
 -- a refusal changes nothing that was lent
-abbrev pub notRun : Refusal → Lent → List ℤ → Ran
-notRun r l store = record { refusal = r; halt = 0; steps = 0; sequence = 0; lent = l; store = store }
+abbrev pub notRun : Refusal → Lent → List ℤ → Trays → Ran
+notRun r l store trays =
+    record { refusal = r; halt = 0; steps = 0; sequence = 0; lent = l; store = store; cardsTaken = 0; linesWritten = 0; lines = trays .lines }
 
--- with other steps and another store
-abbrev pub ranWith : ℕ → List ℤ → Ran → Ran
-ranWith n store r = record { refusal = r .refusal; halt = r .halt; steps = n; sequence = r .sequence; lent = r .lent; store = store }
+-- with another store
+abbrev pub ranWith : List ℤ → Ran → Ran
+ranWith store r =
+    record {
+      refusal = r .refusal;
+      halt = r .halt;
+      steps = r .steps;
+      sequence = r .sequence;
+      lent = r .lent;
+      store = store;
+      cardsTaken = r .cardsTaken;
+      linesWritten = r .linesWritten;
+      lines = r .lines;
+    }
 
-abbrev pub halted : ℕ → ℕ → Object → State → Ran
-halted h n o t = record { refusal = accepted; halt = h; steps = n; sequence = sequenceOf (o .lines) (t .mark); lent = given t; store = t .store }
+abbrev pub halted : ℕ → ℕ → Object → Trays → State → Ran
+halted h n o trays t =
+    record {
+      refusal = accepted;
+      halt = h;
+      steps = n;
+      sequence = sequenceOf (o .lines) (t .mark);
+      lent = given t;
+      store = t .store;
+      cardsTaken = length (cardsOf (trays .cards)) - length (t .devices .cards);
+      linesWritten = length (t .devices .paper .lines);
+      lines = linesAfter (t .devices .paper .lines) (trays .lines);
+    }
 
 -- halt 2 where the allowance is used
-abbrev pub ran : Object → ℕ → Out State → Ran
-ran o n (go t) = halted 2 n o t
-ran o n (halt h t) = halted (haltNumber h) n o t
+abbrev pub ran : Object → Trays → ℕ → Out State → Ran
+ran o trays n (go t) = halted 2 n o trays t
+ran o trays n (halt h t) = halted (haltNumber h) n o trays t
 
-abbrev pub runFrom : Object → (State → Out State) → ℕ → State → Ran
-runFrom o f allowance t = ran o (steps f allowance t) (run f allowance t)
+abbrev pub runFrom : Object → Trays → (State → Out State) → ℕ → State → Ran
+runFrom o trays f allowance t = ran o trays (steps f allowance t) (run f allowance t)
 
-abbrev pub orRefused : Option Refusal → Lent → List ℤ → Ran → Ran
-orRefused (some r) l store a = notRun r l store
-orRefused none l store a = a
+abbrev pub orRefused : Option Refusal → Lent → List ℤ → Trays → Ran → Ran
+orRefused (some r) l store trays a = notRun r l store trays
+orRefused none l store trays a = a
 
-abbrev pub runChecked : Checked → List ℤ → Lent → ℕ → Ran
-runChecked (refused r) store l allowance = notRun r l store
-runChecked (passed o table) store l allowance =
-    orRefused (refused50to52 o table store l) l store (runFrom o (step o) allowance (taken l store))
+abbrev pub runChecked : Checked → List ℤ → Lent → Trays → ℕ → Ran
+runChecked (refused r) store l trays allowance = notRun r l store trays
+runChecked (passed o table) store l trays allowance =
+    orRefused (refused50to52 o table store l) l store trays (runFrom o trays (step o) allowance (taken l store (devicesOf trays)))
 
 -- the call `run`
-unfoldable pub running : List ℕ → List ℤ → Lent → ℕ → Ran
-running bytes store l allowance = runChecked (checked bytes) store l allowance
+unfoldable pub running : List ℕ → List ℤ → Lent → Trays → ℕ → Ran
+running bytes store l trays allowance = runChecked (checked bytes) store l trays allowance
 
-abbrev pub benchObject : Option Object → List ℤ → Lent → ℕ → Ran
-benchObject none store l allowance = notRun (refusal 40 0 0) l store
-benchObject (some o) store l allowance =
-    orRefused (orElse (unless (right41 o) 41) (orElse (unless (right50 o store) 50) (unless (right51 o store) 51))) l store
-    (runFrom o (benchStep o) allowance (fresh store))
+abbrev pub benchObject : Option Object → List ℤ → Lent → Trays → ℕ → Ran
+benchObject none store l trays allowance = notRun (refusal 40 0 0) l store trays
+benchObject (some o) store l trays allowance =
+    orRefused (orElse (unless (right41 o) 41) (orElse (unless (right50 o store) 50) (unless (right51 o store) 51))) l store trays
+    (runFrom o trays (benchStep o) allowance (fresh store (devicesOf trays)))
 
 -- The call `bench`: it starts fresh; what was lent for the state takes the state after it.
-unfoldable pub benching : List ℕ → List ℤ → Lent → ℕ → Ran
-benching bytes store l allowance = benchObject (readObject bytes) store l allowance
+unfoldable pub benching : List ℕ → List ℤ → Lent → Trays → ℕ → Ran
+benching bytes store l trays allowance = benchObject (readObject bytes) store l trays allowance
 
 -- ---- the map: body 7
 

@@ -1,15 +1,17 @@
--- What the checker judges of the numbers and of the entries of an object: 41 and 42. 01 "Refusal numbers".
+-- What the checker judges of the numbers and of the entries of an object: 41 and 42. 01 "Refusal numbers", 2026-01.
 -- Assumes nothing.
 use Prim.Native.Nat.{ℕ, zero, suc, _+_, _*_}
-use mathlib.Core.Bool.{Bool, true, false, _&&_, _||_, cond}
+use mathlib.Core.Bool.{Bool, true, false, _&&_, _||_, not, cond}
 use mathlib.Core.List.{List, [], _∷_, map}
 use lib.Dec.{ltb, leb, eqb}
-use lib.ListN.{length}
+use lib.ListN.{length, getD, drop}
 use lib.IntN.{pos}
 use Rattle.number.specs.Number.{fits}
 use Rattle.rules_shared.specs.Limits.{limits}
-use Rattle.rules_object.specs.Object.{SubscriptEntry, Element, Loop, Line, Named, Object, ruleOf}
-use Rattle.rules_object.specs.Kinds.{Kind, edition, kindsOf}
+use Rattle.rules_formats.specs.Punched.{rightNumber}
+use Rattle.rules_formats.specs.Words.{wordKind, wordOperand, isEnd}
+use Rattle.rules_object.specs.Object.{SubscriptEntry, Element, Loop, Line, Named, ListItem, Transfer, Object, ruleOf}
+use Rattle.rules_object.specs.Kinds.{Kind, kindsOf}
 use Rattle.rules_object.specs.Bytes.{bodies}
 
 -- ---- 41: k not 1-9; cells or a table over its limit
@@ -21,7 +23,7 @@ countsWithin (k ∷ kinds) [] = true
 countsWithin (k ∷ kinds) (n ∷ counts) = leb n (k .most) && countsWithin kinds counts
 
 unfoldable pub right41 : Object → Bool
-right41 o = leb 1 (o .digits) && (leb (o .digits) (limits .digits) && (leb (o .cells) (limits .cells) && countsWithin (kindsOf edition) (map length (bodies o))))
+right41 o = leb 1 (o .digits) && (leb (o .digits) (limits .digits) && (leb (o .cells) (limits .cells) && countsWithin (kindsOf (o .edition)) (map length (bodies o))))
 
 -- ---- 42: entries
 
@@ -77,3 +79,49 @@ span (suc r) (suc c) = suc r * suc c
 
 unfoldable pub rightNamed : Object → Named → Bool
 rightNamed o n = rightName (n .name) && ((leb 1 (n .rows) || eqb (n .columns) 0) && leb (n .first + span (n .rows) (n .columns)) (o .cells))
+
+-- ---- 42 of FORMATs, lists and transfers
+
+-- . ) + $ * - / , ( =
+abbrev pub others : List ℕ
+others = 46 ∷ 41 ∷ 43 ∷ 36 ∷ 42 ∷ 45 ∷ 47 ∷ 44 ∷ 40 ∷ 61 ∷ []
+
+abbrev pub among : ℕ → List ℕ → Bool
+among c [] = false
+among c (x ∷ xs) = eqb c x || among c xs
+
+-- what a deck can hold
+unfoldable pub character : ℕ → Bool
+character c = eqb c 32 || (isLetter c || (isDigit c || among c others))
+
+-- by kind: I and X have a number of a FORMAT, H a character, a slash nothing
+unfoldable pub rightField : ℕ → ℕ → Bool
+rightField kind n = cond (eqb kind 1) (rightNumber n) (cond (eqb kind 2) (rightNumber n) (cond (eqb kind 3) (character n) (eqb kind 4 && eqb n 0)))
+
+abbrev pub formatWord : Object → ℕ → ℕ
+formatWord o i = getD (o .formats) i 0
+
+-- where the FORMAT begins that has the word at i: after the end before it
+abbrev pub formatStart : Object → ℕ → ℕ
+formatStart o zero = 0
+formatStart o (suc i) = cond (isEnd (formatWord o i)) (suc i) (formatStart o i)
+
+-- The word at i: an end leads back to a word of its own FORMAT before it; any other word is a field, and not the last word of all.
+unfoldable pub rightFormat : Object → ℕ → Bool
+rightFormat o i =
+    cond (isEnd (formatWord o i)) (leb (formatStart o i) (wordOperand (formatWord o i)) && ltb (wordOperand (formatWord o i)) i)
+    (rightField (wordKind (formatWord o i)) (wordOperand (formatWord o i)) && ltb (suc i) (length (o .formats)))
+
+unfoldable pub rightItem : Object → ListItem → Bool
+rightItem o i = cond (eqb (i .count) 0) (ltb (i .first) (length (o .elements))) (leb (i .first + i .count) (o .cells))
+
+-- an I stands before the FORMAT's end
+abbrev pub hasNumber : List ℕ → Bool
+hasNumber [] = false
+hasNumber (w ∷ words) = not (isEnd w) && (eqb (wordKind w) 1 || hasNumber words)
+
+-- the first word of a FORMAT, items of the table, and an I in the FORMAT if there are any
+unfoldable pub rightTransfer : Object → Transfer → Bool
+rightTransfer o t =
+    ltb (t .format) (length (o .formats)) && (eqb (formatStart o (t .format)) (t .format) && (leb (t .first + t .count) (length (o .items)) &&
+    (eqb (t .count) 0 || hasNumber (drop (t .format) (o .formats)))))

@@ -1,8 +1,8 @@
--- The kinds of an object's bodies: what reading, writing, 41 and the longest object go by. 01 "Object", "Limits".
+-- The kinds of an object's bodies: what reading, writing, 41 and the longest object go by. 01 "Object", "Limits", 2026-01.
 -- Assumes nothing.
 use Prim.Native.Nat.{ℕ, _+_, _*_}
 use mathlib.Core.Bool.{cond}
-use mathlib.Core.List.{List, [], _∷_, map}
+use mathlib.Core.List.{List, [], _∷_, _++_, map}
 use lib.Dec.{eqb}
 use Rattle.rules_shared.specs.Limits.{limits}
 
@@ -15,18 +15,29 @@ pub record Kind : Type 0 where
 abbrev pub edition : ℕ
 edition = 1
 
--- by kind from 1 on: constants, elements, exits, DOs, code, statements, names; an edition that is none has no kinds
-abbrev pub kindsOf : ℕ → List Kind
-kindsOf e =
-    cond (eqb e edition)
-    (record { words = 1; most = limits .constants }
+-- by kind from 1 on: constants, elements, exits, DOs, code, statements, names
+abbrev pub firstKinds : List Kind
+firstKinds =
+    record { words = 1; most = limits .constants }
     ∷ record { words = 9; most = limits .elements }
     ∷ record { words = 1; most = limits .exits }
     ∷ record { words = 4; most = limits .dos }
     ∷ record { words = 1; most = limits .code }
     ∷ record { words = 3; most = limits .statements }
     ∷ record { words = 5; most = limits .names }
-    ∷ []) []
+    ∷ []
+
+-- from 8 on, since edition 2: format words, list items, transfers
+abbrev pub transferKinds : List Kind
+transferKinds =
+    record { words = 1; most = limits .formatWords }
+    ∷ record { words = 2; most = limits .listItems }
+    ∷ record { words = 3; most = limits .transfers }
+    ∷ []
+
+-- an edition that is none has no kinds
+abbrev pub kindsOf : ℕ → List Kind
+kindsOf e = cond (eqb e 1) firstKinds (cond (eqb e 2) (firstKinds ++ transferKinds) [])
 
 abbrev pub entrySizes : List Kind → List ℕ
 entrySizes kinds = map (λ (k : Kind). k .words) kinds

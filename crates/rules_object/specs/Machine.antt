@@ -1,8 +1,8 @@
--- The machine: its state, one step of it, and a step with the tests of a bench run. 01 "Translation", "Running".
+-- The machine: its state, one step of it, and a step with the tests of a bench run. 01 "Translation", "Running", 2026-01.
 -- Assumes nothing.
 use Prim.Native.Nat.{ℕ, zero, suc, _+_, _-_}
 use mathlib.Core.Bool.{Bool, true, false, _&&_, cond}
-use mathlib.Core.List.{List, [], _∷_}
+use mathlib.Core.List.{List, [], _∷_, _++_}
 use mathlib.Core.Option.{Option, none, some}
 use lib.Dec.{leb}
 use lib.ListN.{length, getD, set}
@@ -10,23 +10,26 @@ use lib.IntN.{ℤ, pos, negℤ}
 use Rattle.number.specs.Number.{Rule, Result, value, byZero, apply, Loss, Trouble, trouble}
 use Rattle.rules_shared.specs.Limits.{limits}
 use Rattle.rules_shared.specs.Runs.{go, halt}
-use Rattle.rules_object.specs.Halts.{Halt, atStop, atEnd, divideByZero, badSubscript, badExit, badParameter, badStack, badInstruction, Out}
+use Rattle.rules_object.specs.Halts.{Halt, atStop, atEnd, divideByZero, badSubscript, badExit, badParameter, badStack, badInstruction, ranOut, badField, Out}
 use Rattle.rules_shared.specs.Choose.{sign3, exit, SubscriptParts, place, positive, allPositive, Turn, again, over, turn, marked}
+use Rattle.rules_formats.specs.Walk.{Devices, withCards, withPaper, Paper, Taken, prints, reads, fine}
+use Rattle.rules_formats.specs.Walk as walk
 use Rattle.rules_object.specs.Object.{SubscriptEntry, Element, Loop, Object, ruleOf}
 use Rattle.rules_object.specs.Check.{inCode}
-use Rattle.rules_object.specs.Operations.{Instr, HLT, CON, LOD, STO, LDE, STE, OP, NEG, JMP, BR3, BRC, DOI, DOE, right43, entryRight, instruction, pops, pushes}
+use Rattle.rules_object.specs.Operations.{Listed, aSpan, oneElement, Instr, HLT, CON, LOD, STO, LDE, STE, OP, NEG, JMP, BR3, BRC, DOI, DOE, READ, PRINT, right43, entryRight, instruction, pops, pushes}
 
 -- ---- the state
 
--- the index of the instruction to be done, the stack (its top first), the store, and the drop mark: 1 plus the first dropping instruction, or 0
+-- the index of the instruction to be done, the stack (its top first), the store, the drop mark (1 plus the first dropping instruction, or 0), and the cards and the paper
 pub record State : Type 0 where
   pub index : ℕ
   pub stack : List ℤ
   pub store : List ℤ
   pub mark : ℕ
+  pub devices : Devices
 
-abbrev pub fresh : List ℤ → State
-fresh cells = record { index = 0; stack = []; store = cells; mark = 0 }
+abbrev pub fresh : List ℤ → Devices → State
+fresh cells devices = record { index = 0; stack = []; store = cells; mark = 0; devices = devices }
 
 abbrev pub cell : List ℤ → ℕ → ℤ
 cell store a = getD store a (pos 0)
@@ -42,16 +45,19 @@ under (v ∷ s) = s
 
 -- the state but for one thing
 abbrev pub goingTo : ℕ → State → State
-goingTo a t = record { index = a; stack = t .stack; store = t .store; mark = t .mark }
+goingTo a t = record { index = a; stack = t .stack; store = t .store; mark = t .mark; devices = t .devices }
 
 abbrev pub withStack : List ℤ → State → State
-withStack s t = record { index = t .index; stack = s; store = t .store; mark = t .mark }
+withStack s t = record { index = t .index; stack = s; store = t .store; mark = t .mark; devices = t .devices }
 
 abbrev pub withStore : List ℤ → State → State
-withStore cells t = record { index = t .index; stack = t .stack; store = cells; mark = t .mark }
+withStore cells t = record { index = t .index; stack = t .stack; store = cells; mark = t .mark; devices = t .devices }
 
 abbrev pub withMark : ℕ → State → State
-withMark m t = record { index = t .index; stack = t .stack; store = t .store; mark = m }
+withMark m t = record { index = t .index; stack = t .stack; store = t .store; mark = m; devices = t .devices }
+
+abbrev pub withDevices : Devices → State → State
+withDevices d t = record { index = t .index; stack = t .stack; store = t .store; mark = t .mark; devices = d }
 
 abbrev pub next : State → State
 next t = goingTo (suc (t .index)) t
@@ -111,6 +117,60 @@ abbrev pub ended : Bool → Loop → State → Out State
 ended true d t = turned (turn (cell (t .store) (d .variable)) (cell (t .store) (d .limit)) (cell (t .store) (d .step))) d t
 ended false d t = halt badParameter t
 
+-- ---- READ and PRINT
+
+-- where a number of a list stands: a cell, or an element, whose subscripts are worked out when it is come to
+pub data Spot : Type 0 where
+  aCell : ℕ → Spot
+  anElement : Element → Spot
+
+abbrev pub cellSpots : ℕ → ℕ → List Spot
+cellSpots a zero = []
+cellSpots a (suc n) = aCell a ∷ cellSpots (suc a) n
+
+abbrev pub spots : List Listed → List Spot
+spots [] = []
+spots (aSpan a n ∷ list) = cellSpots a n ++ spots list
+spots (oneElement e ∷ list) = anElement e ∷ spots list
+
+abbrev pub elementSpot : ℕ → Option ℕ → Option ℕ
+elementSpot base none = none
+elementSpot base (some p) = some (base + p)
+
+-- its cell, unless a subscript is wrong
+abbrev pub spotCell : List ℤ → Spot → Option ℕ
+spotCell store (aCell a) = some a
+spotCell store (anElement e) = elementSpot (e .base) (placeOf store e)
+
+abbrev pub cellIn : List ℤ → Option ℕ → Option ℤ
+cellIn store none = none
+cellIn store (some a) = some (cell store a)
+
+abbrev pub storeWith : List ℤ → ℤ → Option ℕ → Option (List ℤ)
+storeWith store v none = none
+storeWith store v (some a) = some (set store a v)
+
+unfoldable pub spotGet : List ℤ → Spot → Option ℤ
+spotGet store x = cellIn store (spotCell store x)
+
+unfoldable pub spotSet : List ℤ → Spot → ℤ → Option (List ℤ)
+spotSet store x v = storeWith store v (spotCell store x)
+
+abbrev pub haltIn : walk.Trouble → Halt
+haltIn walk.badSubscript = badSubscript
+haltIn walk.ranOut = ranOut
+haltIn walk.badField = badField
+
+abbrev pub wasPrinted : walk.Outcome Paper → State → Out State
+wasPrinted (fine p) t = go (next (withDevices (withPaper p (t .devices)) t))
+wasPrinted (walk.trouble w) t = halt (haltIn w) t
+
+abbrev pub wasRead : walk.Outcome (Taken (List ℤ)) → State → Out State
+wasRead (fine r) t = go (next (withDevices (withCards (r .cards) (t .devices)) (withStore (r .store) t)))
+wasRead (walk.trouble w) t = halt (haltIn w) t
+
+-- ---- any instruction
+
 abbrev pub halts : ℕ → Halt
 halts zero = atStop
 halts (suc r) = atEnd
@@ -130,6 +190,8 @@ act r (BRC exits) t = branched (exit exits (top (t .stack))) t
 act r (DOI n d) t =
     begun (allPositive (top (under (under (t .stack)))) (top (under (t .stack))) (top (t .stack))) d (top (under (under (t .stack)))) (top (under (t .stack))) (top (t .stack)) t
 act r (DOE n d) t = ended (positive (cell (t .store) (d .step))) d t
+act r (READ n f is) t = wasRead (reads (r .ceiling) spotGet spotSet f (spots is) (t .store) (t .devices .cards)) t
+act r (PRINT n f is) t = wasPrinted (prints spotGet f (spots is) (t .store) (t .devices .paper)) t
 
 -- one step of a run
 unfoldable pub step : Object → State → Out State

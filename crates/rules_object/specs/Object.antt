@@ -1,4 +1,4 @@
--- The object: seven lists with the digits and the cell count. 01 "Object".
+-- The object: its edition, the digits, the cell count and ten lists, the last three of edition 2. 01 "Object", 2026-01.
 -- Assumes nothing.
 use Prim.Native.Nat.{ℕ}
 use mathlib.Core.List.{List}
@@ -38,7 +38,19 @@ pub record Named : Type 0 where
   pub rows : ℕ
   pub columns : ℕ
 
+-- an item of a READ's or PRINT's list: the first of so many cells; or, with the count 0, an element's entry
+pub record ListItem : Type 0 where
+  pub first : ℕ
+  pub count : ℕ
+
+-- a READ or PRINT: the index of its FORMAT's first word, its first item and how many it has
+pub record Transfer : Type 0 where
+  pub format : ℕ
+  pub first : ℕ
+  pub count : ℕ
+
 pub record Object : Type 0 where
+  pub edition : ℕ
   pub digits : ℕ
   pub cells : ℕ
   pub constants : List ℕ
@@ -48,6 +60,9 @@ pub record Object : Type 0 where
   pub code : List ℕ
   pub lines : List Line
   pub names : List Named
+  pub formats : List ℕ
+  pub items : List ListItem
+  pub transfers : List Transfer
 
 abbrev pub ruleOf : Object → Rule
 ruleOf o = digitsRule (o .digits)

@@ -1,18 +1,26 @@
--- The operations of the machine: what a word says, what 43 and a bench run ask of it, and the flow of control that 44 is about. 01 "Translation", "Refusal numbers".
+-- The operations of the machine: what a word says, what 43 and a bench run ask of it, and the flow of control that 44 is about. 01 "Translation", "Refusal numbers", 2026-01.
 -- Assumes nothing.
 use Prim.Native.Nat.{ℕ, suc, _+_, _/_, _%_, _^_}
-use mathlib.Core.Bool.{Bool, true, false, _&&_}
-use mathlib.Core.List.{List, [], _∷_}
+use mathlib.Core.Bool.{Bool, true, false, _&&_, _||_, cond}
+use mathlib.Core.List.{List, [], _∷_, map}
 use lib.Dec.{ltb, leb, eqb}
 use lib.ListN.{length, getD, take, drop}
 use lib.IntN.{pos}
 use Rattle.number.specs.Number.{Op, add, sub, mul, div}
 use Rattle.rules_shared.specs.Limits.{limits}
-use Rattle.rules_object.specs.Object.{SubscriptEntry, Element, Loop, Object}
+use Rattle.rules_shared.specs.Lists.{all}
+use Rattle.rules_formats.specs.Format.{Flat}
+use Rattle.rules_formats.specs.Words.{isEnd, formatFrom}
+use Rattle.rules_object.specs.Object.{SubscriptEntry, Element, Loop, ListItem, Transfer, Object}
 use Rattle.rules_object.specs.Flow.{Flow}
-use Rattle.rules_object.specs.Check.{inCode, inCells, rightConstant, rightElement, rightLoop}
+use Rattle.rules_object.specs.Check.{inCode, inCells, rightConstant, rightElement, rightLoop, rightFormat, rightItem, rightTransfer}
 
 -- ---- what a word says
+
+-- an item of a list: so many cells from the first, or an element
+pub data Listed : Type 0 where
+  aSpan : ℕ → ℕ → Listed
+  oneElement : Element → Listed
 
 -- an operation with what its operand stands for
 pub data Instr : Type 0 where
@@ -28,6 +36,8 @@ pub data Instr : Type 0 where
   BRC : List ℕ → Instr
   -- a DO by its entry's number, and the entry
   DOI DOE : ℕ → Loop → Instr
+  -- a FORMAT by the index of its first word, and what it is; and the list
+  READ PRINT : ℕ → Flat → List Listed → Instr
 
 -- the top eight bits name the operation, the low twenty-four the operand
 unfoldable pub operationOf : ℕ → ℕ
@@ -46,6 +56,9 @@ noElement = record { base = 0; rows = 0; columns = 0; first = noSubscript; secon
 abbrev pub noLoop : Loop
 noLoop = record { variable = 0; limit = 0; step = 0; body = 0 }
 
+abbrev pub noTransfer : Transfer
+noTransfer = record { format = 0; first = 0; count = 0 }
+
 -- the entries by number
 abbrev pub constantAt : Object → ℕ → ℕ
 constantAt o x = getD (o .constants) x 0
@@ -58,6 +71,21 @@ exitAt o x = getD (o .exits) x 0
 
 abbrev pub loopAt : Object → ℕ → Loop
 loopAt o x = getD (o .dos) x noLoop
+
+abbrev pub transferAt : Object → ℕ → Transfer
+transferAt o x = getD (o .transfers) x noTransfer
+
+abbrev pub formatAt : Object → ℕ → Flat
+formatAt o first = formatFrom first (drop first (o .formats))
+
+abbrev pub listed : Object → ListItem → Listed
+listed o i = cond (eqb (i .count) 0) (oneElement (elementAt o (i .first))) (aSpan (i .first) (i .count))
+
+abbrev pub itemsAt : Object → Transfer → List ListItem
+itemsAt o t = take (t .count) (drop (t .first) (o .items))
+
+abbrev pub listAt : Object → Transfer → List Listed
+listAt o t = map (listed o) (itemsAt o t)
 
 -- ---- the table of operations
 
@@ -102,6 +130,26 @@ elementRight o x = rightElement o (elementAt o x)
 abbrev pub loopRight : Object → ℕ → Bool
 loopRight o x = rightLoop o (loopAt o x)
 
+abbrev pub aTransfer : Object → ℕ → Bool
+aTransfer o x = ltb x (length (o .transfers))
+
+-- every word of a FORMAT from the one at i on, its end too
+abbrev pub formatRight : Object → ℕ → List ℕ → Bool
+formatRight o i [] = true
+formatRight o i (w ∷ words) = rightFormat o i && (isEnd w || formatRight o (suc i) words)
+
+-- an item, and the element's entry that it uses
+abbrev pub itemRight : Object → ListItem → Bool
+itemRight o i = rightItem o i && (cond (eqb (i .count) 0) (elementRight o (i .first)) true)
+
+-- a transfer, every word of its FORMAT, and every item of its list
+abbrev pub transferRight : Object → ℕ → Bool
+transferRight o x =
+    rightTransfer o (transferAt o x) && (formatRight o (transferAt o x .format) (drop (transferAt o x .format) (o .formats)) && all (itemRight o) (itemsAt o (transferAt o x)))
+
+abbrev pub saysTransfer : (ℕ → Flat → List Listed → Instr) → Object → ℕ → Instr
+saysTransfer instr o x = instr (transferAt o x .format) (formatAt o (transferAt o x .format)) (listAt o (transferAt o x))
+
 -- by number
 abbrev pub operations : List Operation
 operations =
@@ -120,7 +168,9 @@ operations =
     record { says = λ o x. BR3 (exitAt o x) (exitAt o (x + 1)) (exitAt o (x + 2)); operandRight = threeExits; entryRight = noEntry; pops = 1; pushes = 0 } ∷
     record { says = λ o x. BRC (take (exitAt o x) (drop (x + 1) (o .exits))); operandRight = countedExits; entryRight = noEntry; pops = 1; pushes = 0 } ∷
     record { says = λ o x. DOI x (loopAt o x); operandRight = aLoop; entryRight = loopRight; pops = 3; pushes = 0 } ∷
-    record { says = λ o x. DOE x (loopAt o x); operandRight = aLoop; entryRight = loopRight; pops = 0; pushes = 0 } ∷ []
+    record { says = λ o x. DOE x (loopAt o x); operandRight = aLoop; entryRight = loopRight; pops = 0; pushes = 0 } ∷
+    record { says = saysTransfer READ; operandRight = aTransfer; entryRight = transferRight; pops = 0; pushes = 0 } ∷
+    record { says = saysTransfer PRINT; operandRight = aTransfer; entryRight = transferRight; pops = 0; pushes = 0 } ∷ []
 
 -- that of no other number
 abbrev pub unknown : Operation
@@ -165,6 +215,8 @@ operationNumber (BR3 a b c) = 12
 operationNumber (BRC ts) = 13
 operationNumber (DOI n d) = 14
 operationNumber (DOE n d) = 15
+operationNumber (READ n f is) = 16
+operationNumber (PRINT n f is) = 17
 
 abbrev pub pops : Instr → ℕ
 pops i = operationAt (operationNumber i) .pops
@@ -187,6 +239,8 @@ successors a (BR3 t u v) = t ∷ u ∷ v ∷ []
 successors a (BRC ts) = ts
 successors a (DOI n d) = suc a ∷ []
 successors a (DOE n d) = d .body ∷ suc a ∷ []
+successors a (READ n f is) = suc a ∷ []
+successors a (PRINT n f is) = suc a ∷ []
 
 unfoldable pub flowOf : Object → Flow
 flowOf o =

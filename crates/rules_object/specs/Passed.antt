@@ -6,9 +6,10 @@ use mathlib.Core.List.{List}
 use mathlib.Core.Option.{some}
 use Prim.Native.Nat.{ℕ, _<_}
 use lib.ListN.{length, getD}
+use Rattle.rules_shared.specs.Lists.{Each}
 use Rattle.rules_object.specs.Object.{Object}
-use Rattle.rules_object.specs.Check.{right41, rightConstant, rightElement, rightLoop}
-use Rattle.rules_object.specs.Operations.{noElement, noLoop, right43, flowOf}
+use Rattle.rules_object.specs.Check.{right41, rightConstant, rightElement, rightLoop, rightFormat, rightItem, rightTransfer}
+use Rattle.rules_object.specs.Operations.{noElement, noLoop, noTransfer, right43, flowOf}
 use Rattle.rules_object.specs.Bytes.{readObject}
 use Rattle.rules_object.specs.Flow.{Least}
 
@@ -18,6 +19,9 @@ pub record Passed (bytes : List ℕ) (o : Object) (table : List ℕ) : Type 0 wh
   pub constants : (i : ℕ) → i < length (o .constants) → rightConstant o (getD (o .constants) i 0) ≡ true
   pub elements : (i : ℕ) → i < length (o .elements) → rightElement o (getD (o .elements) i noElement) ≡ true
   pub dos : (i : ℕ) → i < length (o .dos) → rightLoop o (getD (o .dos) i noLoop) ≡ true
+  pub formats : (i : ℕ) → i < length (o .formats) → rightFormat o i ≡ true
+  pub items : Each (λ i. rightItem o i ≡ true) (o .items)
+  pub transfers : (i : ℕ) → i < length (o .transfers) → rightTransfer o (getD (o .transfers) i noTransfer) ≡ true
   pub words : (a : ℕ) → a < length (o .code) → right43 o (getD (o .code) a 0) ≡ true
   pub least : Least (flowOf o) table
   pub sized : length table ≡ length (o .code)

@@ -5,15 +5,16 @@ use mathlib.Core.Logic.{_⊎_}
 use mathlib.Core.Bool.{true}
 use mathlib.Core.List.{List, [], _∷_, _++_}
 use mathlib.Core.Option.{Option, none, some}
-use Prim.Native.Nat.{ℕ, _+_, _-_, _≤_, _<_}
+use Prim.Native.Nat.{ℕ, zero, suc, _+_, _-_, _*_, _≤_, _<_}
 use lib.ListN.{length, getD, take, drop, replicate}
 use lib.IntN.{ℤ, pos}
 use Rattle.number.specs.Number.{Fits}
 use Rattle.rules_shared.specs.Limits.{limits}
 use Rattle.rules_shared.specs.Runs.{go, halt, run, steps}
+use Rattle.rules_formats.specs.Walk.{cardWidth, lineWidth, Trays}
 use Rattle.rules_object.specs.Halts.{Halt, haltNumber, Out}
 use Rattle.rules_object.specs.Object.{Element, Loop, Object, ruleOf}
-use Rattle.rules_object.specs.Operations.{Instr, HLT, CON, LOD, STO, LDE, STE, OP, NEG, JMP, BR3, BRC, DOI, DOE, right43, entryRight, pops, pushes, instruction}
+use Rattle.rules_object.specs.Operations.{Listed, aSpan, oneElement, Instr, HLT, CON, LOD, STO, LDE, STE, OP, NEG, JMP, BR3, BRC, DOI, DOE, READ, PRINT, right43, entryRight, pops, pushes, instruction}
 use Rattle.rules_object.specs.Machine.{State, cell, placeOf, step, benchStep, withStore}
 use Rattle.rules_object.specs.Flow.{heightAt}
 use Rattle.rules_shared.specs.Refusals.{accepted}
@@ -34,6 +35,16 @@ elementCells e store = e .first .cell ∷ e .second .cell ∷ elementCell e (pla
 abbrev pub loopCells : Loop → List ℕ
 loopCells d = d .variable ∷ d .limit ∷ d .step ∷ []
 
+abbrev pub cellsFrom : ℕ → ℕ → List ℕ
+cellsFrom a zero = []
+cellsFrom a (suc n) = a ∷ cellsFrom (suc a) n
+
+-- all cells of an element's array: which of them is read or written may hang on what the statement reads before
+abbrev pub listCells : List Listed → List ℕ
+listCells [] = []
+listCells (aSpan a n ∷ list) = cellsFrom a n ++ listCells list
+listCells (oneElement e ∷ list) = e .first .cell ∷ e .second .cell ∷ (cellsFrom (e .base) (e .rows * e .columns) ++ listCells list)
+
 abbrev pub touchedBy : Instr → List ℤ → List ℕ
 touchedBy (HLT x) store = []
 touchedBy (CON c) store = []
@@ -48,6 +59,8 @@ touchedBy (BR3 a b c) store = []
 touchedBy (BRC exits) store = []
 touchedBy (DOI n d) store = loopCells d
 touchedBy (DOE n d) store = loopCells d
+touchedBy (READ n f is) store = listCells is
+touchedBy (PRINT n f is) store = listCells is
 
 unfoldable pub touches : Object → State → List ℕ
 touches o t = touchedBy (instruction o (t .index)) (t .store)
@@ -61,6 +74,7 @@ pub record AgreeIn (cells : List ℕ) (t u : State) : Type 0 where
   pub index : t .index ≡ u .index
   pub stack : t .stack ≡ u .stack
   pub mark : t .mark ≡ u .mark
+  pub devices : t .devices ≡ u .devices
   pub long : length (t .store) ≡ length (u .store)
   pub values : (a : ℕ) → In a cells → cell (t .store) a ≡ cell (u .store) a
 
@@ -80,10 +94,15 @@ pub record Right (o : Object) (t : State) : Type 0 where
   pub pushed : length (t .stack) - pops (instruction o (t .index)) + pushes (instruction o (t .index)) ≤ limits .stack
   pub cells : Each (λ a. a < o .cells) (touches o t)
 
+-- 7 and 8 are faults
+pub record NoFaultHalt (number : ℕ) : Type 0 where
+  pub notStack : number ≡ 7 → ⊥
+  pub notInstruction : number ≡ 8 → ⊥
+
 -- at every state of the unguarded run from t the instruction can be done, no halt is 7 or 8, and the guarded run is the same, step by step
 pub record Faultless (o : Object) (t : State) : Type 0 where
   pub right : (n : ℕ) (u : State) → run (step o) n t ≡ go u → Right o u
-  pub halts : (n : ℕ) (h : Halt) (u : State) → run (step o) n t ≡ halt h u → haltNumber h < 7
+  pub halts : (n : ℕ) (h : Halt) (u : State) → run (step o) n t ≡ halt h u → NoFaultHalt (haltNumber h)
   pub guarded : (n : ℕ) → run (benchStep o) n t ≡ run (step o) n t
   pub counted : (n : ℕ) → steps (benchStep o) n t ≡ steps (step o) n t
 
@@ -109,7 +128,7 @@ abbrev pub withCells : List ℤ → State → State
 withCells extra t = withStore (t .store ++ extra) t
 
 abbrev pub ranWithCells : List ℤ → Ran → Ran
-ranWithCells extra r = ranWith (r .steps) (r .store ++ extra) r
+ranWithCells extra r = ranWith (r .store ++ extra) r
 
 -- ---- runs of bytes, compared
 
@@ -117,19 +136,37 @@ ranWithCells extra r = ranWith (r .steps) (r .store ++ extra) r
 abbrev pub freshLent : Lent
 freshLent = record { index = 0; height = 0; mark = 0; places = replicate (limits .stack) (pos 0) }
 
--- the same after n steps more
-abbrev pub afterSteps : ℕ → Ran → Ran
-afterSteps n r = ranWith (n + r .steps) (r .store) r
+-- what a run leaves of the cards and of the room for lines
+unfoldable pub rest : Trays → Ran → Trays
+rest trays r = record { cards = drop (cardWidth * r .cardsTaken) (trays .cards); lines = drop (lineWidth * r .linesWritten) (r .lines) }
+
+-- two runs as one, the second with the rest: what the second leaves, with the steps, cards and lines of both
+unfoldable pub afterRun : Ran → Ran → Ran
+afterRun q r =
+    record {
+      refusal = r .refusal;
+      halt = r .halt;
+      steps = q .steps + r .steps;
+      sequence = r .sequence;
+      lent = r .lent;
+      store = r .store;
+      cardsTaken = q .cardsTaken + r .cardsTaken;
+      linesWritten = q .linesWritten + r .linesWritten;
+      lines = take (lineWidth * q .linesWritten) (q .lines) ++ r .lines;
+    }
 
 -- ---- a refusal changes nothing
 
 -- what was lent came back as it was, and every other field is 0
-pub record Unchanged (l : Lent) (store : List ℤ) (r : Ran) : Type 0 where
+pub record Unchanged (l : Lent) (store : List ℤ) (trays : Trays) (r : Ran) : Type 0 where
   pub noHalt : r .halt ≡ 0
   pub noSteps : r .steps ≡ 0
   pub noSequence : r .sequence ≡ 0
   pub sameLent : r .lent ≡ l
   pub sameStore : r .store ≡ store
+  pub noCards : r .cardsTaken ≡ 0
+  pub noLines : r .linesWritten ≡ 0
+  pub sameLines : r .lines ≡ trays .lines
 
 pub record MapUnchanged (table : List ℕ) (m : Written) : Type 0 where
   pub noLength : m .length ≡ 0

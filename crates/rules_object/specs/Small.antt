@@ -4,7 +4,7 @@ use Prim.Native.Nat.{ℕ, _+_, _*_, _^_}
 use mathlib.Core.List.{List, [], _++_}
 use lib.ListN.{take, replicate}
 use lib.IntN.{ℤ}
-use Rattle.rules_object.specs.Object.{Element, Loop, Line, Named, Object}
+use Rattle.rules_object.specs.Object.{Element, Loop, Line, Named, ListItem, Transfer, Object}
 
 -- words of code, by operation and operand
 abbrev pub does : ℕ → ℕ → ℕ
@@ -58,9 +58,29 @@ wordDOI x = does 14 x
 abbrev pub wordDOE : ℕ → ℕ
 wordDOE x = does 15 x
 
+abbrev pub wordREAD : ℕ → ℕ
+wordREAD x = does 16 x
+
+abbrev pub wordPRINT : ℕ → ℕ
+wordPRINT x = does 17 x
+
 abbrev pub object : ℕ → List ℕ → List Element → List ℕ → List Loop → List ℕ → Object
 object cells constants elements exits dos code =
-    record { digits = 5; cells = cells; constants = constants; elements = elements; exits = exits; dos = dos; code = code; lines = []; names = [] }
+    record {
+      edition = 1;
+      digits = 5;
+      cells = cells;
+      constants = constants;
+      elements = elements;
+      exits = exits;
+      dos = dos;
+      code = code;
+      lines = [];
+      names = [];
+      formats = [];
+      items = [];
+      transfers = [];
+    }
 
 -- code alone, with no entry and no cell
 abbrev pub codeOnly : List ℕ → Object
@@ -82,8 +102,55 @@ named name first rows columns = record { name = take 8 (name ++ replicate 8 32);
 
 abbrev pub withLines : List Line → Object → Object
 withLines lines o =
-    record { digits = o .digits; cells = o .cells; constants = o .constants; elements = o .elements; exits = o .exits; dos = o .dos; code = o .code; lines = lines; names = o .names }
+    record {
+      edition = o .edition;
+      digits = o .digits;
+      cells = o .cells;
+      constants = o .constants;
+      elements = o .elements;
+      exits = o .exits;
+      dos = o .dos;
+      code = o .code;
+      lines = lines;
+      names = o .names;
+      formats = o .formats;
+      items = o .items;
+      transfers = o .transfers;
+    }
 
 abbrev pub withNames : List Named → Object → Object
 withNames names o =
-    record { digits = o .digits; cells = o .cells; constants = o .constants; elements = o .elements; exits = o .exits; dos = o .dos; code = o .code; lines = o .lines; names = names }
+    record {
+      edition = o .edition;
+      digits = o .digits;
+      cells = o .cells;
+      constants = o .constants;
+      elements = o .elements;
+      exits = o .exits;
+      dos = o .dos;
+      code = o .code;
+      lines = o .lines;
+      names = names;
+      formats = o .formats;
+      items = o .items;
+      transfers = o .transfers;
+    }
+
+-- of edition 2, with FORMATs, list items and transfers
+abbrev pub withTransfers : List ℕ → List ListItem → List Transfer → Object → Object
+withTransfers formats items transfers o =
+    record {
+      edition = 2;
+      digits = o .digits;
+      cells = o .cells;
+      constants = o .constants;
+      elements = o .elements;
+      exits = o .exits;
+      dos = o .dos;
+      code = o .code;
+      lines = o .lines;
+      names = o .names;
+      formats = formats;
+      items = items;
+      transfers = transfers;
+    }

@@ -1,10 +1,11 @@
--- What an object's lists must be for its bytes to hold them: words, signed words, names of eight bytes, and code.
+-- What an object's lists must be for its bytes to hold them: words, signed words, names of eight bytes, and code; no list that its edition has no body for.
 -- Assumes nothing.
 use mathlib.Core.Path.{_≡_}
 use Prim.Native.Nat.{ℕ, _^_, _<_}
+use mathlib.Core.List.{[]}
 use lib.ListN.{length}
 use lib.IntN.{ℤ, pos, negsuc}
-use Rattle.rules_object.specs.Object.{SubscriptEntry, Element, Loop, Line, Named, Object}
+use Rattle.rules_object.specs.Object.{SubscriptEntry, Element, Loop, Line, Named, ListItem, Transfer, Object}
 use Rattle.rules_object.specs.Bytes.{objectBytes}
 use Rattle.rules_shared.specs.Lists.{Each}
 
@@ -48,7 +49,27 @@ pub record WritableNamed (n : Named) : Type 0 where
   pub rows : IsWord (n .rows)
   pub columns : IsWord (n .columns)
 
+pub record WritableItem (i : ListItem) : Type 0 where
+  pub first : IsWord (i .first)
+  pub count : IsWord (i .count)
+
+pub record WritableTransfer (t : Transfer) : Type 0 where
+  pub format : IsWord (t .format)
+  pub first : IsWord (t .first)
+  pub count : IsWord (t .count)
+
+-- edition 1 has no bodies for READ and PRINT
+pub record NoTransfers (o : Object) : Type 0 where
+  pub formats : o .formats ≡ []
+  pub items : o .items ≡ []
+  pub transfers : o .transfers ≡ []
+
+pub data Edition (o : Object) : Type 0 where
+  one : o .edition ≡ 1 → NoTransfers o → Edition o
+  two : o .edition ≡ 2 → Edition o
+
 pub record Writable (o : Object) : Type 0 where
+  pub edition : Edition o
   pub digits : IsWord (o .digits)
   pub cells : IsWord (o .cells)
   pub constants : Each IsWord (o .constants)
@@ -58,6 +79,9 @@ pub record Writable (o : Object) : Type 0 where
   pub code : Each IsWord (o .code)
   pub lines : Each WritableLine (o .lines)
   pub names : Each WritableNamed (o .names)
+  pub formats : Each IsWord (o .formats)
+  pub items : Each WritableItem (o .items)
+  pub transfers : Each WritableTransfer (o .transfers)
   pub someCode : 0 < length (o .code)
   -- so that each body's first byte is a word
   pub small : length (objectBytes o) < 2 ^ 32

@@ -8,26 +8,20 @@ use native.Mathlib.Omega.{arith}
 use lib.ListN.{length, replicate, length-replicate}
 use borrow.Author.Tests.{le-leb}
 use Rattle.rules_shared.specs.House.{House}
-use Rattle.rules_object.specs.Object.{Object}
 use Rattle.rules_object.specs.Bytes.{objectBytes}
 use Rattle.rules_shared.specs.Refusals.{accepted, noRoom}
 use Rattle.rules_shared.specs.Output.{writtenIf, write}
-use Rattle.rules_object.proofs.Limited.{tables-within}
-use Rattle.rules_object.proofs.RoundTrip.{all-eight, object-most}
 use Rattle.rules_text.specs.Trees.{Statement}
 use Rattle.rules_deck.specs.Translation.{translate}
 use Rattle.rules_deck.specs.Compile.{Read, read, deckOf, writeRead, compiling}
 use Rattle.rules_deck.specs.Lawful.{Lawful}
 use Rattle.rules_deck.specs.Accepted.{Accepted}
 use Rattle.rules_deck.proofs.AcceptedDeck.{accepted as accepted-deck}
-use Rattle.rules_deck.proofs.CompiledRight.{passes-41}
-use Rattle.rules_deck.proofs.CompiledWritable.{compiled-writable}
+use Rattle.rules_deck.proofs.CompiledWritable.{compiled-most}
 use Rattle.rules_program.specs.Program.{mostBytes}
 
 pub object-fits : {house : House} {deck : List Statement} → Accepted house deck → length (objectBytes (translate house deck)) ≤ mostBytes
-object-fits {house} {deck} c =
-    let o : Object = translate house deck in
-    object-most o (all-eight (o .names) (compiled-writable c .names)) (tables-within o (passes-41 c))
+object-fits c = compiled-most c
 
 -- a deck that is read is compiled
 pub room-enough : (house : House) → Lawful house → (bytes : List ℕ) (deck : List Statement) → deckOf house bytes ≡ read deck → compiling house bytes (replicate mostBytes 0) .refusal ≡ accepted

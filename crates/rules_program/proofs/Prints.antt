@@ -15,6 +15,7 @@ use Rattle.number.specs.Number.{fits}
 use Rattle.number.proofs.Laws.{digits-some, yes-fits}
 use Rattle.rules_shared.specs.Limits.{limits}
 use Rattle.rules_shared.specs.House.{House, house1401}
+use Rattle.rules_formats.specs.Walk.{noTrays, devicesOf}
 use Rattle.rules_object.specs.Object.{Object, ruleOf}
 use Rattle.rules_object.specs.Check.{right41}
 use Rattle.rules_object.specs.Machine.{fresh, step}
@@ -24,6 +25,7 @@ use Rattle.rules_shared.specs.Lists.{all}
 use Rattle.rules_shared.specs.Output.{writtenIf, write}
 use Rattle.rules_object.specs.Calls.{taken, given, right50, right51, Ran, running}
 use Rattle.rules_object.specs.Safe.{freshLent}
+use Rattle.rules_object.specs.Writable.{Edition}
 use Rattle.rules_object.proofs.Passed.{check-passed}
 use Rattle.rules_object.proofs.Limited.{limited}
 use Rattle.rules_object.proofs.Lents.{and-true, fresh-stands, stands-52}
@@ -37,7 +39,7 @@ use Rattle.rules_deck.specs.Seen.{objectIn}
 use Rattle.rules_deck.specs.Lawful.{Lawful}
 use Rattle.rules_deck.proofs.Houses.{lawful1401}
 use Rattle.rules_deck.proofs.AcceptedDeck.{accepted as accepted-deck}
-use Rattle.rules_deck.proofs.CompiledRight.{passes-41}
+use Rattle.rules_deck.proofs.CompiledRight.{compiled-edition, passes-41}
 use Rattle.rules_deck.proofs.CompiledWritable.{compiled-reads, compiled-checked}
 use Rattle.rules_deck.proofs.RefusedDeck.{ReadNumbered, refused-numbered}
 use Rattle.rules_program.specs.Text.{haltLine, refusedLine, nameLines}
@@ -51,10 +53,10 @@ all-same test z zero m e = refl
 all-same test z (suc n) zero e = refl
 all-same test z (suc n) (suc m) e = and-true e (all-same test z n m e)
 
-module _ (o : Object) (right : right41 o ≡ true) where
+module _ (o : Object) (edition : Edition o) (right : right41 o ≡ true) where
   zero-50 : right50 o zeroStore ≡ true
   unfolding right50
-  zero-50 = le-leb (o .cells) (length zeroStore) (omega (arith, limited o right .cells, length-replicate {A = ℤ} (limits .cells) (pos 0)))
+  zero-50 = le-leb (o .cells) (length zeroStore) (omega (arith, limited o edition right .cells, length-replicate {A = ℤ} (limits .cells) (pos 0)))
 
   zero-51 : right51 o zeroStore ≡ true
   unfolding right51
@@ -78,25 +80,26 @@ module _ (house : House) (lawful : Lawful house) (bytes : List ℕ) (deck : List
   runs =
       let c = compiled-checked house lawful bytes deck reads in
       let p = check-passed object o (c .0) (c .1) in
+      let edition = compiled-edition (accepted-deck house lawful bytes deck reads) in
       let right = passes-41 (accepted-deck house lawful bytes deck reads) in
       record {
         object = o;
         table = c .0;
         is = c .1;
         passes = p;
-        right50 = zero-50 o right;
-        right51 = zero-51 o right;
-        right52 = stands-52 (fresh zeroStore) (fresh-stands p zeroStore (zero-50 o right) (zero-51 o right));
+        right50 = zero-50 o edition right;
+        right51 = zero-51 o edition right;
+        right52 = stands-52 (fresh zeroStore (devicesOf noTrays)) (fresh-stands p zeroStore (devicesOf noTrays) (zero-50 o edition right) (zero-51 o edition right));
       }
 
-  pub run-accepted : running object zeroStore freshLent allowance .refusal ≡ accepted
-  run-accepted = ap (λ (r : Ran). r .refusal) (accepts-run runs allowance) ∙ from-accepts (runs .object) (step (runs .object)) allowance (taken freshLent zeroStore)
+  pub run-accepted : running object zeroStore freshLent noTrays allowance .refusal ≡ accepted
+  run-accepted = ap (λ (r : Ran). r .refusal) (accepts-run runs noTrays allowance) ∙ from-accepts (runs .object) noTrays (step (runs .object)) allowance (taken freshLent zeroStore (devicesOf noTrays))
 
-  printed-object : printedObject object ≡ linesOf o (running object zeroStore freshLent allowance)
+  printed-object : printedObject object ≡ linesOf o (running object zeroStore freshLent noTrays allowance)
   unfolding printedObject
   printed-object =
-      ap (λ (p : Option Object). runLines (namesOf p) (running object zeroStore freshLent allowance)) (compiled-reads (accepted-deck house lawful bytes deck reads))
-      ∙ ap (ranLines (o .names) (running object zeroStore freshLent allowance)) (ap (λ (r : Refusal). r .number) run-accepted)
+      ap (λ (p : Option Object). runLines (namesOf p) (running object zeroStore freshLent noTrays allowance)) (compiled-reads (accepted-deck house lawful bytes deck reads))
+      ∙ ap (ranLines (o .names) (running object zeroStore freshLent noTrays allowance)) (ap (λ (r : Refusal). r .number) run-accepted)
 
   -- wherever there is room for it
   pub object-written : (output : List ℕ) → compiling house bytes output .refusal ≡ accepted → objectIn (compiling house bytes output) ≡ object
@@ -133,7 +136,7 @@ no-deck input k r c e =
     by (suc n) l = refl
 
 pub run-printed : (input : List ℕ) (k : ℕ) (deck : List Statement) → controlDigits input ≡ some k → deckOf (house1401 k) (drop cardLength input) ≡ read deck
-    → printed input ≡ linesOf (translate (house1401 k) deck) (running (objectBytes (translate (house1401 k) deck)) zeroStore freshLent allowance)
+    → printed input ≡ linesOf (translate (house1401 k) deck) (running (objectBytes (translate (house1401 k) deck)) zeroStore freshLent noTrays allowance)
 unfolding printed
 run-printed input k deck c e =
     ap (deckLines (drop cardLength input)) c ∙ deck-printed (house1401 k) (lawful1401 k) (drop cardLength input) deck e ∙ printed-object (house1401 k) (lawful1401 k) (drop cardLength input) deck e

@@ -8,14 +8,14 @@ use Rattle.number.specs.Number.{digitsRule, fits, keep, drops, kept, divided, a
 use Rattle.rules_object.specs.Halts.{haltNumber}
 use Rattle.rules_shared.specs.Choose.{place, turn}
 use Rattle.rules_object.specs.Bytes.{signedOf, signedWord, objectWords, objectBytes, readObject}
-use Rattle.rules_object.specs.Check.{right41, rightConstant, rightElement, rightLoop, rightLine, rightNamed}
+use Rattle.rules_object.specs.Check.{right41, rightConstant, rightElement, rightLoop, rightLine, rightNamed, character}
 use Rattle.rules_object.specs.Operations.{operationOf, operandOf, decode, right43, flowOf, entryRight}
 use Rattle.rules_object.specs.Machine.{step, benchStep}
 use Rattle.rules_object.specs.Heights.{heights}
 use Rattle.rules_shared.specs.Output.{write}
 use Rattle.rules_object.specs.Calls.{refused42, refused43, checked, checking, taken, given, right50, right51, right52, sequenceOf, running, benching, mapOf, mapping}
 use Rattle.rules_text.specs.Trees.{valueOf, formNames, formConstants, formExits, formLast, formLevels}
-use Rattle.rules_text.specs.Cards.{cardsOf, comment, firstCard, character, textOf, numberOf, rightNumber, wrongCard, afterCard, rightDigits, rightLength, carded}
+use Rattle.rules_text.specs.Cards.{cardsOf, comment, firstCard, textOf, numberOf, rightNumber, wrongCard, afterCard, rightDigits, rightLength, carded}
 use Rattle.rules_text.specs.Tokens.{isLetterOrDigit, give, giveIf, ahead, follow, andThen, after, afterWord, choose, starts, startsDigit, allOf, whole, run, digitRun, nameRun, taken as bytesTaken, number, name, listedUpTo, listed}
 use Rattle.rules_text.specs.Grammar.{addend, linearOf, subscript, subscripts, place as targetRead, operandOf as operandRead, operand, sign, signed, sumOp, productOp, joined, more, step as grammarStep, parseIn, enough, parse, expression, assignment, plainGoTo, rightExits, computedGoTo, arithmeticIf, parameter, doLoop, arrayShape, dimensions, readAssignment, readGoTo, readComputed, readIf, readDo, readContinue, readStop, readEnd, readDimension, present, readings, firstOf, formOf}
 use Rattle.rules_deck.specs.Deck.{dosOf, endings, dimsOf}

@@ -9,6 +9,7 @@ use lib.ListN.{length, take, drop, replicate}
 use lib.IntN.{ℤ, pos}
 use Rattle.rules_shared.specs.Limits.{limits}
 use Rattle.rules_shared.specs.House.{house1401}
+use Rattle.rules_formats.specs.Walk.{noTrays}
 use Rattle.rules_object.specs.Object.{Named, Object}
 use Rattle.rules_object.specs.Kinds.{edition, kindsOf, mostWords, contentsLength}
 use Rattle.rules_object.specs.Bytes.{readObject}
@@ -40,7 +41,7 @@ controlOf (c ∷ rest) = cond (eqb (length (c ∷ rest)) cardLength && all isBla
 unfoldable pub controlDigits : List ℕ → Option ℕ
 controlDigits input = controlOf (take cardLength input)
 
--- ---- the run, with a zero store and 1,000,000 steps
+-- ---- the run, with a zero store, no cards, no lines and 1,000,000 steps
 
 abbrev pub allowance : ℕ
 allowance = 1000000
@@ -63,7 +64,7 @@ abbrev pub runLines : List Named → Ran → List ℕ
 runLines names r = ranLines names r (r .refusal .number)
 
 unfoldable pub printedObject : List ℕ → List ℕ
-printedObject object = runLines (namesOf (readObject object)) (running object zeroStore freshLent allowance)
+printedObject object = runLines (namesOf (readObject object)) (running object zeroStore freshLent noTrays allowance)
 
 -- ---- the whole
 

@@ -6,6 +6,8 @@ use Rattle.number.specs.Number.{Rule, digitsRule}
 use Rattle.rules_shared.specs.Limits.{limits}
 
 pub record House : Type 0 where
+  -- the edition of its objects
+  pub edition : ℕ
   -- k, as the object tells it, and what it may be
   pub digits : ℕ
   pub fewestDigits : ℕ
@@ -26,6 +28,7 @@ pub record House : Type 0 where
 abbrev pub house1401 : ℕ → House
 house1401 k =
     record {
+      edition = 1;
       digits = k;
       fewestDigits = 1;
       mostDigits = limits .digits;

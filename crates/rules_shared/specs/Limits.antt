@@ -1,4 +1,4 @@
--- 01's limits that are the same in every house, all in one place.
+-- 01's and 02's limits that are the same in every house, all in one place.
 -- Assumes nothing.
 use Prim.Native.Nat.{ℕ}
 
@@ -20,6 +20,9 @@ pub record Limits : Type 0 where
   pub exits : ℕ
   pub code : ℕ
   pub cells : ℕ
+  pub formatWords : ℕ
+  pub listItems : ℕ
+  pub transfers : ℕ
   -- of the machine
   pub stack : ℕ
 
@@ -41,5 +44,8 @@ limits =
       exits = 1024;
       code = 4096;
       cells = 4096;
+      formatWords = 4096;
+      listItems = 1024;
+      transfers = 400;
       stack = 40;
     }

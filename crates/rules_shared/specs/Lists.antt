@@ -1,6 +1,6 @@
--- A test and a predicate of every entry of a list, and the first entry that fails a test.
+-- A test and a predicate of every entry of a list, and the first entry or place that fails a test.
 -- Assumes nothing.
-use Prim.Native.Nat.{ℕ, suc}
+use Prim.Native.Nat.{ℕ, zero, suc}
 use mathlib.Core.Bool.{Bool, true, _&&_, cond}
 use mathlib.Core.List.{List, [], _∷_}
 use mathlib.Core.Option.{Option, none, some}
@@ -9,6 +9,11 @@ use mathlib.Core.Option.{Option, none, some}
 abbrev pub firstBad : {A : Type 0} → (A → Bool) → List A → ℕ → Option ℕ
 firstBad test [] n = none
 firstBad test (a ∷ more) n = cond (test a) (firstBad test more (suc n)) (some n)
+
+-- the first of n places, from i on, that fails
+abbrev pub firstFrom : (ℕ → Bool) → ℕ → ℕ → Option ℕ
+firstFrom test zero i = none
+firstFrom test (suc n) i = cond (test i) (firstFrom test n (suc i)) (some i)
 
 abbrev pub all : {A : Type 0} → (A → Bool) → List A → Bool
 all test [] = true

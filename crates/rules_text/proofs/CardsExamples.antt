@@ -6,9 +6,10 @@ use mathlib.Core.Path.{_≡_, refl}
 use mathlib.Core.List.{List, [], _∷_, _++_}
 use lib.ListN.{take, replicate}
 use Rattle.rules_shared.specs.House.{house1401}
+use Rattle.rules_object.specs.Check.{character}
 use Rattle.rules_text.specs.Trees.{valueOf}
 use Rattle.rules_text.specs.Punch.{bytes, card, deck}
-use Rattle.rules_text.specs.Cards.{cardsOf, comment, firstCard, character, textOf, Punched, numberOf, rightNumber, wrongCard, afterCard, Carded, cardsRefused, statements, rightDigits, rightLength, carded}
+use Rattle.rules_text.specs.Cards.{cardsOf, comment, firstCard, textOf, Punched, numberOf, rightNumber, wrongCard, afterCard, Carded, cardsRefused, statements, rightDigits, rightLength, carded}
 
 -- ---- statements shown as their numbers and texts
 

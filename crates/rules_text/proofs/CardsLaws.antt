@@ -12,11 +12,11 @@ use lib.Seq.{take-nil, take-add, take-take, getD-take}
 use borrow.Author.Tests.{leb-true, eqb-true, eqb-false}
 use Rattle.rules_shared.specs.Limits.{limits}
 use Rattle.rules_shared.specs.House.{House}
-use Rattle.rules_object.specs.Check.{blanks}
+use Rattle.rules_object.specs.Check.{blanks, character}
 use Rattle.rules_shared.specs.Lists.{Each, each-none, each-more}
 use Rattle.rules_shared.proofs.EachLaws.{each-append, each-right}
 use Rattle.rules_text.specs.Trees.{valueOf}
-use Rattle.rules_text.specs.Cards.{cardsOf, columnsRead, numberColumns, textLength, textColumns, comment, firstCard, character, characters, allDigits, withoutBlanks, readAs, textOf, Punched, numberOf, rightNumber, Reading, nothingRead, wrongFirst, wrongContinuation, wrongCharacters, wrongCard, started, extended, continued, afterCard, Carded, cardsRefused, statements, cardByCard, rightDigits, rightLength, counted, carded}
+use Rattle.rules_text.specs.Cards.{cardsOf, columnsRead, numberColumns, textLength, textColumns, comment, firstCard, characters, allDigits, withoutBlanks, readAs, textOf, Punched, numberOf, rightNumber, Reading, nothingRead, wrongFirst, wrongContinuation, wrongCharacters, wrongCard, started, extended, continued, afterCard, Carded, cardsRefused, statements, cardByCard, rightDigits, rightLength, counted, carded}
 
 each-mapped : {A B : Type 0} {P : A → Type 0} {Q : B → Type 0} (f : A → B) → ((a : A) → P a → Q (f a)) → {s : List A} → Each P s → Each Q (map f s)
 each-mapped f g each-none = each-none

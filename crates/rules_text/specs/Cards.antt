@@ -7,7 +7,7 @@ use lib.Dec.{leb, eqb}
 use lib.ListN.{length, getD, take, drop}
 use Rattle.rules_shared.specs.Limits.{limits}
 use Rattle.rules_shared.specs.House.{House}
-use Rattle.rules_object.specs.Check.{isLetter, isDigit, blanks}
+use Rattle.rules_object.specs.Check.{isDigit, blanks, character}
 use Rattle.rules_text.specs.Trees.{valueOf}
 
 -- ---- a card and its columns
@@ -47,17 +47,6 @@ unfoldable pub firstCard : List ℕ → Bool
 firstCard card = eqb (getD card 5 32) 32 || eqb (getD card 5 32) 48
 
 -- ---- characters
-
--- . ) + $ * - / , ( =
-abbrev pub others : List ℕ
-others = 46 ∷ 41 ∷ 43 ∷ 36 ∷ 42 ∷ 45 ∷ 47 ∷ 44 ∷ 40 ∷ 61 ∷ []
-
-abbrev pub among : ℕ → List ℕ → Bool
-among c [] = false
-among c (x ∷ xs) = eqb c x || among c xs
-
-unfoldable pub character : ℕ → Bool
-character c = eqb c 32 || (isLetter c || (isDigit c || among c others))
 
 abbrev pub characters : List ℕ → Bool
 characters [] = true

@@ -11,11 +11,11 @@ use Rattle.rules_shared.specs.Choose.{sign3, exit, positive, allPositive, again
 use Rattle.rules_shared.specs.Choose as choose
 use Rattle.rules_object.specs.Halts.{haltNumber}
 use Rattle.rules_object.specs.Object.{Loop}
-use Rattle.rules_object.specs.Operations.{Instr, HLT, CON, LOD, STO, LDE, STE, OP, NEG, JMP, BR3, BRC, DOI, DOE}
+use Rattle.rules_object.specs.Operations.{Instr, HLT, CON, LOD, STO, LDE, STE, OP, NEG, JMP, BR3, BRC, DOI, DOE, READ, PRINT}
 use Rattle.rules_object.specs.Machine.{cell, haltFor, placeOf}
 use Rattle.run_registers.specs.declared.Regs.{Regs}
 use Rattle.run_registers.specs.declared.Turn.{Turn}
-use Rattle.run_registers.specs.declared.Turn.the-variants.{Next, Halt}
+use Rattle.run_registers.specs.declared.Turn.the-variants.{Next, Halt, Transfer}
 use Rattle.run_registers.specs.Registers.{goingTo, onward, marking}
 
 -- ---- what an instruction gives, and the places and the store after it
@@ -95,3 +95,5 @@ performed k (BR3 a b c) r st so = popped r st so (sign3 (cell st (r .height - 1)
 performed k (BRC ts) r st so = branched (exit ts (cell st (r .height - 1))) r st so
 performed k (DOI n d) r st so = begun (allPositive (cell st (r .height - 3)) (cell st (r .height - 2)) (cell st (r .height - 1))) d r st so
 performed k (DOE n d) r st so = ended (positive (cell so (d .step))) d r st so
+performed k (READ n f is) r st so = after Transfer st so
+performed k (PRINT n f is) r st so = after Transfer st so

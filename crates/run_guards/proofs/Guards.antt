@@ -18,30 +18,32 @@ use Rattle.run_guards.specs.Guarding.{roomFor, wordOf, guardOf}
 
 -- ---- the tables, by operation
 
--- an operation whose operand is right is one of the sixteen, and its number is its own
+-- an operation whose operand is right is one of the table, and its number is its own
 module _ (o : Object) where
-  pub sixteen : (op x : ℕ) → operationAt op .operandRight o x ≡ true → (op < 16) × (operationNumber (meant o op x) ≡ op)
-  sixteen zero x e = (omega arith, refl)
-  sixteen (suc zero) x e = (omega arith, refl)
-  sixteen (suc (suc zero)) x e = (omega arith, refl)
-  sixteen (suc (suc (suc zero))) x e = (omega arith, refl)
-  sixteen (suc (suc (suc (suc zero)))) x e = (omega arith, refl)
-  sixteen (suc (suc (suc (suc (suc zero))))) x e = (omega arith, refl)
-  sixteen (suc (suc (suc (suc (suc (suc zero)))))) x e = (omega arith, refl)
-  sixteen (suc (suc (suc (suc (suc (suc (suc zero))))))) x e = (omega arith, refl)
-  sixteen (suc (suc (suc (suc (suc (suc (suc (suc zero)))))))) x e = (omega arith, refl)
-  sixteen (suc (suc (suc (suc (suc (suc (suc (suc (suc zero))))))))) x e = (omega arith, refl)
-  sixteen (suc (suc (suc (suc (suc (suc (suc (suc (suc (suc zero)))))))))) x e = (omega arith, refl)
-  sixteen (suc (suc (suc (suc (suc (suc (suc (suc (suc (suc (suc zero))))))))))) x e = (omega arith, refl)
-  sixteen (suc (suc (suc (suc (suc (suc (suc (suc (suc (suc (suc (suc zero)))))))))))) x e = (omega arith, refl)
-  sixteen (suc (suc (suc (suc (suc (suc (suc (suc (suc (suc (suc (suc (suc zero))))))))))))) x e = (omega arith, refl)
-  sixteen (suc (suc (suc (suc (suc (suc (suc (suc (suc (suc (suc (suc (suc (suc zero)))))))))))))) x e = (omega arith, refl)
-  sixteen (suc (suc (suc (suc (suc (suc (suc (suc (suc (suc (suc (suc (suc (suc (suc zero))))))))))))))) x e = (omega arith, refl)
-  sixteen (suc (suc (suc (suc (suc (suc (suc (suc (suc (suc (suc (suc (suc (suc (suc (suc op)))))))))))))))) x e = absurd (let z : _≡_ {A = ℕ} 0 1 = cc in omega arith)
+  pub in-table : (op x : ℕ) → operationAt op .operandRight o x ≡ true → (op < 18) × (operationNumber (meant o op x) ≡ op)
+  in-table zero x e = (omega arith, refl)
+  in-table (suc zero) x e = (omega arith, refl)
+  in-table (suc (suc zero)) x e = (omega arith, refl)
+  in-table (suc (suc (suc zero))) x e = (omega arith, refl)
+  in-table (suc (suc (suc (suc zero)))) x e = (omega arith, refl)
+  in-table (suc (suc (suc (suc (suc zero))))) x e = (omega arith, refl)
+  in-table (suc (suc (suc (suc (suc (suc zero)))))) x e = (omega arith, refl)
+  in-table (suc (suc (suc (suc (suc (suc (suc zero))))))) x e = (omega arith, refl)
+  in-table (suc (suc (suc (suc (suc (suc (suc (suc zero)))))))) x e = (omega arith, refl)
+  in-table (suc (suc (suc (suc (suc (suc (suc (suc (suc zero))))))))) x e = (omega arith, refl)
+  in-table (suc (suc (suc (suc (suc (suc (suc (suc (suc (suc zero)))))))))) x e = (omega arith, refl)
+  in-table (suc (suc (suc (suc (suc (suc (suc (suc (suc (suc (suc zero))))))))))) x e = (omega arith, refl)
+  in-table (suc (suc (suc (suc (suc (suc (suc (suc (suc (suc (suc (suc zero)))))))))))) x e = (omega arith, refl)
+  in-table (suc (suc (suc (suc (suc (suc (suc (suc (suc (suc (suc (suc (suc zero))))))))))))) x e = (omega arith, refl)
+  in-table (suc (suc (suc (suc (suc (suc (suc (suc (suc (suc (suc (suc (suc (suc zero)))))))))))))) x e = (omega arith, refl)
+  in-table (suc (suc (suc (suc (suc (suc (suc (suc (suc (suc (suc (suc (suc (suc (suc zero))))))))))))))) x e = (omega arith, refl)
+  in-table (suc (suc (suc (suc (suc (suc (suc (suc (suc (suc (suc (suc (suc (suc (suc (suc zero)))))))))))))))) x e = (omega arith, refl)
+  in-table (suc (suc (suc (suc (suc (suc (suc (suc (suc (suc (suc (suc (suc (suc (suc (suc (suc zero))))))))))))))))) x e = (omega arith, refl)
+  in-table (suc (suc (suc (suc (suc (suc (suc (suc (suc (suc (suc (suc (suc (suc (suc (suc (suc (suc op)))))))))))))))))) x e = absurd (let z : _≡_ {A = ℕ} 0 1 = cc in omega arith)
 
-  pub word-sixteen : (w : ℕ) → right43 o w ≡ true → (w / 2 ^ 24 < 16) × (operationNumber (decode o w) ≡ w / 2 ^ 24)
+  pub word-in-table : (w : ℕ) → right43 o w ≡ true → (w / 2 ^ 24 < 18) × (operationNumber (decode o w) ≡ w / 2 ^ 24)
   unfolding right43 decode operationOf operandOf
-  word-sixteen w e = sixteen (w / 2 ^ 24) (w % 2 ^ 24) e
+  word-in-table w e = in-table (w / 2 ^ 24) (w % 2 ^ 24) e
 
 -- ---- room
 
@@ -96,7 +98,7 @@ module _ (e : Layout) (s : List ℕ) (i h : ℕ) where
     pub guard-room : right43 o w ≡ true → entryRight o w ≡ true → (op : ℕ) → op ≡ w / 2 ^ 24 → roomFor (operationAt op .pops) (operationAt op .pushes) h ≡ guardOf o i h
     unfolding guardOf
     guard-room f g op q =
-        let n : op ≡ operationNumber (instruction o i) = q ∙ sym (word-sixteen o w f .1) ∙ ap (λ v. operationNumber (decode o v)) W-is in
+        let n : op ≡ operationNumber (instruction o i) = q ∙ sym (word-in-table o w f .1) ∙ ap (λ v. operationNumber (decode o v)) W-is in
         ap (λ m. roomFor (operationAt m .pops) (operationAt m .pushes) h) n
         ∙ ap₂ (λ t u. cond (t && (true && u)) (roomFor (pops (instruction o i)) (pushes (instruction o i)) h) 8) (sym (inside-is l)) (sym g ∙ ap (entryRight o) W-is)
         ∙ ap (λ u. cond (inCode o i && (u && entryRight o W)) (roomFor (pops (instruction o i)) (pushes (instruction o i)) h) 8) (sym f ∙ ap (right43 o) W-is)

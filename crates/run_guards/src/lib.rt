@@ -23,7 +23,7 @@ fn wide(n: u8) -> usize
 }
 
 fn room(op: usize, h: usize) -> u32
-    requires { ⌜ (op < 16) × (h ≤ 40) ⌝ }
+    requires { ⌜ (op < 18) × (h ≤ 40) ⌝ }
     ensures { λ r. ⌜ r ≡ roomFor (operationAt op .pops) (operationAt op .pushes) h ⌝ }
 {
     let pops = wide(check_operands::pops_of(op));

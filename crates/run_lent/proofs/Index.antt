@@ -14,10 +14,12 @@ use borrow.Author.Tests.{ltb-true, leb-true}
 use Rattle.number.specs.Number.{Rule, Op, add, sub, mul, div, Result, value, trouble, apply}
 use Rattle.rules_shared.specs.Limits.{limits}
 use Rattle.rules_shared.specs.Lists.{Each, each-none, each-more}
+use Rattle.rules_formats.specs.Walk.{Devices, Trays, Paper, Taken, Outcome, fine, prints, reads}
+use Rattle.rules_formats.specs.Walk as walk
 use Rattle.rules_object.specs.Object.{Element, Loop, Object, ruleOf}
 use Rattle.rules_object.specs.Check.{inCode, inCells, rightLoop}
-use Rattle.rules_object.specs.Operations.{Instr, HLT, CON, LOD, STO, LDE, STE, OP, NEG, JMP, BR3, BRC, DOI, DOE, operationOf, operandOf, noLoop, Operation, operations, unknown, decode, targets, exitAt, right43, entryRight, pops, pushes, instruction}
-use Rattle.rules_object.specs.Machine.{State, top, under, cell, operated, placeOf, elementLoaded, elementStored, branched, begun, turned, ended, act, step, room, benchStep}
+use Rattle.rules_object.specs.Operations.{Instr, HLT, CON, LOD, STO, LDE, STE, OP, NEG, JMP, BR3, BRC, DOI, DOE, READ, PRINT, operationOf, operandOf, noLoop, Operation, operations, unknown, decode, targets, exitAt, right43, entryRight, pops, pushes, instruction}
+use Rattle.rules_object.specs.Machine.{State, top, under, cell, operated, placeOf, elementLoaded, elementStored, branched, begun, turned, ended, spots, spotGet, spotSet, wasPrinted, wasRead, act, step, room, benchStep}
 use Rattle.rules_object.proofs.States.{state}
 use Rattle.rules_shared.specs.Runs.{go, halt, then, run, steps}
 use Rattle.rules_object.specs.Halts.{badStack, badInstruction, Out}
@@ -61,6 +63,8 @@ module _ (o : Object) where
   Near (BRC ts) = targets o ts ≡ true
   Near (DOI n d) = Unit {0}
   Near (DOE n d) = d .body < length (o .code)
+  Near (READ n f list) = Unit {0}
+  Near (PRINT n f list) = Unit {0}
 
   -- ---- one instruction
 
@@ -80,30 +84,30 @@ module _ (o : Object) where
     stays : Low t
     stays = record { index = omega arith; height = low }
 
-    onward : (s c : List ℤ) (m : ℕ) → length s ≤ 40 → Low (state (suc (t .index)) s c m)
-    onward s c m h = record { index = omega arith; height = h }
+    onward : (s c : List ℤ) (m : ℕ) (v : Devices) → length s ≤ 40 → Low (state (suc (t .index)) s c m v)
+    onward s c m v h = record { index = omega arith; height = h }
 
-    goes : (a : ℕ) (s c : List ℤ) (m : ℕ) → a ≤ length (o .code) → length s ≤ 40 → Low (state a s c m)
-    goes a s c m h k = record { index = h; height = k }
+    goes : (a : ℕ) (s c : List ℤ) (m : ℕ) (v : Devices) → a ≤ length (o .code) → length s ≤ 40 → Low (state a s c m v)
+    goes a s c m v h k = record { index = h; height = k }
 
     one : length (under (t .stack)) ≤ 40
     one = omega (arith, length-under (t .stack))
 
     operated-in : (r : Result) (s : List ℤ) → suc (length s) ≤ 40 → Inside (operated r t s)
-    operated-in (value v lost) s h = onward (v ∷ s) _ _ h
+    operated-in (value v lost) s h = onward (v ∷ s) _ _ _ h
     operated-in (trouble w) s h = stays
 
     loaded-in : (p : Option ℕ) (e : Element) → suc (length (t .stack)) ≤ 40 → Inside (elementLoaded p e t)
     loaded-in none e h = stays
-    loaded-in (some p) e h = onward _ _ _ h
+    loaded-in (some p) e h = onward _ _ _ _ h
 
     stored-in : (p : Option ℕ) (e : Element) → Inside (elementStored p e t)
     stored-in none e = stays
-    stored-in (some p) e = onward (under (t .stack)) _ _ one
+    stored-in (some p) e = onward (under (t .stack)) _ _ _ one
 
     branched-in : (p : Option ℕ) → Some p → Inside (branched p t)
     branched-in none s = stays
-    branched-in (some a) s = goes a (under (t .stack)) _ _ (omega arith) one
+    branched-in (some a) s = goes a (under (t .stack)) _ _ _ (omega arith) one
 
     sign-in : (v : ℤ) (a b c : ℕ) → Near (BR3 a b c) → sign3 v a b c ≤ length (o .code)
     sign-in (negsuc n) a b c h = omega (arith, h .0)
@@ -111,22 +115,30 @@ module _ (o : Object) where
     sign-in (pos (suc n)) a b c h = omega (arith, h .1 .1)
 
     begun-in : (b : Bool) (d : Loop) (x y z : ℤ) → Inside (begun b d x y z t)
-    begun-in true d x y z = onward _ _ _ (omega (arith, length-under (t .stack), length-under (under (t .stack)), length-under (under (under (t .stack)))))
+    begun-in true d x y z = onward _ _ _ _ (omega (arith, length-under (t .stack), length-under (under (t .stack)), length-under (under (under (t .stack)))))
     begun-in false d x y z = stays
 
     turned-in : (u : Turn) (d : Loop) → d .body < length (o .code) → Inside (turned u d t)
-    turned-in (again i) d h = goes (d .body) (t .stack) _ _ (omega arith) low
-    turned-in over d h = onward (t .stack) _ _ low
+    turned-in (again i) d h = goes (d .body) (t .stack) _ _ _ (omega arith) low
+    turned-in over d h = onward (t .stack) _ _ _ low
 
     ended-in : (b : Bool) (d : Loop) → d .body < length (o .code) → Inside (ended b d t)
     ended-in true d h = turned-in (turn (cell (t .store) (d .variable)) (cell (t .store) (d .limit)) (cell (t .store) (d .step))) d h
     ended-in false d h = stays
 
+    read-in : (b : Outcome (Taken (List ℤ))) → Inside (wasRead b t)
+    read-in (fine r) = onward (t .stack) _ _ _ low
+    read-in (walk.trouble w) = stays
+
+    printed-in : (b : Outcome Paper) → Inside (wasPrinted b t)
+    printed-in (fine p) = onward (t .stack) _ _ _ low
+    printed-in (walk.trouble w) = stays
+
     act-in : (r : Rule) (i : Instr) → Near i → pops i ≤ length (t .stack) → length (t .stack) - pops i + pushes i ≤ 40 → Inside (act r i t)
     act-in r (HLT x) h p q = stays
-    act-in r (CON c) h p q = onward _ _ _ (omega arith)
-    act-in r (LOD a) h p q = onward _ _ _ (omega arith)
-    act-in r (STO a) h p q = onward (under (t .stack)) _ _ one
+    act-in r (CON c) h p q = onward _ _ _ _ (omega arith)
+    act-in r (LOD a) h p q = onward _ _ _ _ (omega arith)
+    act-in r (STO a) h p q = onward (under (t .stack)) _ _ _ one
     act-in r (LDE e) h p q = loaded-in (placeOf (t .store) e) e (omega arith)
     act-in r (STE e) h p q = stored-in (placeOf (t .store) e) e
     act-in r (OP f) h p q =
@@ -137,12 +149,14 @@ module _ (o : Object) where
         by sub p q = omega (arith, length-under (t .stack), length-under (under (t .stack)))
         by mul p q = omega (arith, length-under (t .stack), length-under (under (t .stack)))
         by div p q = omega (arith, length-under (t .stack), length-under (under (t .stack)))
-    act-in r NEG h p q = onward (negℤ (top (t .stack)) ∷ under (t .stack)) _ _ (omega (arith, length-under (t .stack)))
-    act-in r (JMP a) h p q = goes a (t .stack) _ _ (omega arith) low
-    act-in r (BR3 a b c) h p q = goes (sign3 (top (t .stack)) a b c) (under (t .stack)) _ _ (sign-in (top (t .stack)) a b c h) one
+    act-in r NEG h p q = onward (negℤ (top (t .stack)) ∷ under (t .stack)) _ _ _ (omega (arith, length-under (t .stack)))
+    act-in r (JMP a) h p q = goes a (t .stack) _ _ _ (omega arith) low
+    act-in r (BR3 a b c) h p q = goes (sign3 (top (t .stack)) a b c) (under (t .stack)) _ _ _ (sign-in (top (t .stack)) a b c h) one
     act-in r (BRC ts) h p q = branched-in (exit ts (top (t .stack))) (exits-in ts (top (t .stack)) h)
     act-in r (DOI n d) h p q = begun-in (allPositive (top (under (under (t .stack)))) (top (under (t .stack))) (top (t .stack))) d _ _ _
     act-in r (DOE n d) h p q = ended-in (positive (cell (t .store) (d .step))) d h
+    act-in r (READ n f list) h p q = read-in (reads (r .ceiling) spotGet spotSet f (spots list) (t .store) (t .devices .cards))
+    act-in r (PRINT n f list) h p q = printed-in (prints spotGet f (spots list) (t .store) (t .devices .paper))
 
   -- ---- by operation: the tests of 43 and 42 keep every target in the code
 
@@ -195,7 +209,9 @@ module _ (o : Object) where
       (each-more (λ x f e. three x f)
       (each-more (λ x f e. many x (exitAt o x) (leb (limits .fewestExits) (exitAt o x)) (leb (exitAt o x) (limits .mostExits)) (ltb (x + exitAt o x) (length (o .exits))) f)
       (each-more (λ x f e. tt)
-      (each-more (λ x f e. body-in (getD (o .dos) x noLoop) e) each-none)))))))))))))))
+      (each-more (λ x f e. body-in (getD (o .dos) x noLoop) e)
+      (each-more (λ x f e. tt)
+      (each-more (λ x f e. tt) each-none)))))))))))))))))
 
   -- ---- a step, and a run
 
@@ -232,10 +248,10 @@ module _ (o : Object) where
     pub index : l .index ≤ length (o .code)
     pub height : l .height ≤ 40
 
-  pub stays-in : (n : ℕ) (t : State) → Low t → Back (runFrom o (benchStep o) n t .lent)
+  pub stays-in : (trays : Trays) (n : ℕ) (t : State) → Low t → Back (runFrom o trays (benchStep o) n t .lent)
   unfolding given
-  stays-in n t l = by (run (benchStep o) n t) (run-in n t l)
+  stays-in trays n t l = by (run (benchStep o) n t) (run-in n t l)
     where
-      by : (b : Out State) → Inside b → Back (ran o (steps (benchStep o) n t) b .lent)
+      by : (b : Out State) → Inside b → Back (ran o trays (steps (benchStep o) n t) b .lent)
       by (go u) h = record { index = h .index; height = h .height }
       by (halt x u) h = record { index = h .index; height = h .height }

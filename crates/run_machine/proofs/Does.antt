@@ -1,4 +1,5 @@
--- What an instruction does on the places is what the book says of the state. By cases on the instruction, once. Assumes nothing.
+-- What an instruction does on the places is what the book says of the state; the cards and the paper stay as they are, but for READ and PRINT, which are not done here.
+-- By cases on the instruction, once. Assumes nothing.
 use mathlib.Core.Path.{_≡_, refl, sym, ap, ap₂, _∙_, subst}
 use mathlib.Core.Bool.{Bool, true, false, not, cond}
 use mathlib.Core.List.{List, _∷_, reverse}
@@ -13,18 +14,20 @@ use lib.Signed.{leZ}
 use Rattle.number.specs.Number.{Rule, Op, add, sub, mul, div, Result, value, trouble, apply}
 use Rattle.number.proofs.Laws.{ResultFits, apply-fits, neg-fits}
 use Rattle.rules_shared.specs.Runs.{go, halt}
+use Rattle.rules_formats.specs.Format.{Flat}
+use Rattle.rules_formats.specs.Walk.{Devices}
 use Rattle.rules_object.specs.Halts.{Halt, atStop, atEnd, badSubscript, badExit, badParameter, haltNumber, Out}
 use Rattle.rules_shared.specs.Choose as choose
 use Rattle.rules_shared.specs.Choose.{sign3, exit, positive, allPositive, again, over, turn, marked}
 use Rattle.rules_object.specs.Object.{Element, Loop}
-use Rattle.rules_object.specs.Operations.{Instr, HLT, CON, LOD, STO, LDE, STE, OP, NEG, JMP, BR3, BRC, DOI, DOE, pops, pushes}
+use Rattle.rules_object.specs.Operations.{Listed, Instr, HLT, CON, LOD, STO, LDE, STE, OP, NEG, JMP, BR3, BRC, DOI, DOE, READ, PRINT, pops, pushes}
 use Rattle.rules_object.specs.Machine.{State, cell, top, under, placeOf, act}
 use Rattle.rules_object.proofs.States.{state}
 use Rattle.rules_object.specs.Machine as book
 use Rattle.rules_object.specs.Calls.{taken}
 use Rattle.run_registers.specs.declared.Regs.{Regs}
 use Rattle.run_registers.specs.declared.Turn.{Turn}
-use Rattle.run_registers.specs.declared.Turn.the-variants.{Next, Halt as Halts}
+use Rattle.run_registers.specs.declared.Turn.the-variants.{Next, Halt as Halts, Transfer}
 use Rattle.run_registers.specs.Registers.{regs, stateOf}
 use Rattle.run_arithmetic.specs.Performed.{After, next, stopped, pushed, popped, joined, loaded, put, branched, begun, turned, ended, performed}
 use Rattle.run_subscripts.proofs.Laws.{place-below}
@@ -40,15 +43,21 @@ pub record Sound (cells p h : ℕ) (st so : List ℤ) : Type 0 where
   pub long : cells ≤ length so
   pub store : (a : ℕ) → a < cells → natAbs (cell so a) < p
 
--- Both go on, to the same state, or both halt, where they were, by the same number.
-abbrev pub Did : ℕ → ℕ → List ℤ → List ℤ → State → Turn → List ℤ → List ℤ → Out State → Type 0
-Did cells p st so t (Next q) st′ so′ (go u) = (Sound cells p (q .height) st′ so′ × (length so′ ≡ length so)) × (stateOf q st′ so′ ≡ u)
-Did cells p st so t (Next q) st′ so′ (halt h u) = ⊥
-Did cells p st so t (Halts n) st′ so′ (go u) = ⊥
-Did cells p st so t (Halts n) st′ so′ (halt h u) = ((st′ ≡ st) × (so′ ≡ so)) × ((n ≡ haltNumber h) × (u ≡ t))
+-- a READ or PRINT
+pub data IsTransfer : Instr → Type 0 where
+  a-read : (n : ℕ) (f : Flat) (list : List Listed) → IsTransfer (READ n f list)
+  a-print : (n : ℕ) (f : Flat) (list : List Listed) → IsTransfer (PRINT n f list)
 
-abbrev pub DidAll : ℕ → ℕ → List ℤ → List ℤ → State → After → Out State → Type 0
-DidAll cells p st so t a b = Did cells p st so t (a .turn) (a .places) (a .store) b
+-- Both go on, to the same state, or both halt, where they were, by the same number; or nothing is done yet, of an instruction that is X.
+abbrev pub Did : Type 0 → ℕ → ℕ → List ℤ → List ℤ → State → Turn → List ℤ → List ℤ → Out State → Type 0
+Did X cells p st so t (Next q) st′ so′ (go u) = (Sound cells p (q .height) st′ so′ × (length so′ ≡ length so)) × (stateOf q st′ so′ (t .devices) ≡ u)
+Did X cells p st so t (Next q) st′ so′ (halt h u) = ⊥
+Did X cells p st so t (Halts n) st′ so′ (go u) = ⊥
+Did X cells p st so t (Halts n) st′ so′ (halt h u) = ((st′ ≡ st) × (so′ ≡ so)) × ((n ≡ haltNumber h) × (u ≡ t))
+Did X cells p st so t Transfer st′ so′ b = X × ((st′ ≡ st) × (so′ ≡ so))
+
+abbrev pub DidAll : Type 0 → ℕ → ℕ → List ℤ → List ℤ → State → After → Out State → Type 0
+DidAll X cells p st so t a b = Did X cells p st so t (a .turn) (a .places) (a .store) b
 
 -- ---- what an instruction that is right has
 
@@ -66,6 +75,8 @@ Good cells p (BR3 a b c) = Unit {0}
 Good cells p (BRC ts) = Unit {0}
 Good cells p (DOI n d) = Unit {0}
 Good cells p (DOE n d) = (d .variable < cells) × ((d .limit < cells) × (d .step < cells))
+Good cells p (READ n f list) = Unit {0}
+Good cells p (PRINT n f list) = Unit {0}
 
 -- ---- the end of a turn keeps the digits
 
@@ -119,7 +130,7 @@ past-three h j l a b c =
 
 -- ---- one instruction
 
-module _ (k : Rule) (cells i h m : ℕ) (st so : List ℤ) (s : Sound cells (k .ceiling) h st so) where
+module _ (k : Rule) (cells i h m : ℕ) (st so : List ℤ) (devices : Devices) (s : Sound cells (k .ceiling) h st so) (X : Type 0) where
   abbrev p : ℕ
   p = k .ceiling
 
@@ -130,20 +141,20 @@ module _ (k : Rule) (cells i h m : ℕ) (st so : List ℤ) (s : Sound cells (k .
   S = tops h st
 
   abbrev t : State
-  t = state i S so m
+  t = state i S so m devices
 
   abbrev Does : After → Out State → Type 0
-  Does a b = DidAll cells p st so t a b
+  Does a b = DidAll X cells p st so t a b
 
   -- going on: places and store that are right, and the book's state
   on : (j h′ n : ℕ) (st′ so′ : List ℤ) → Sound cells p h′ st′ so′ → length so′ ≡ length so → (j′ : ℕ) (S′ so″ : List ℤ) (n′ : ℕ) → j ≡ j′ → tops h′ st′ ≡ S′ → so′ ≡ so″ → n ≡ n′
-      → Does (next (regs j h′ n) st′ so′) (go (state j′ S′ so″ n′))
+      → Does (next (regs j h′ n) st′ so′) (go (state j′ S′ so″ n′ devices))
   unfolding taken
   on j h′ n st′ so′ q l j′ S′ so″ n′ a b c d = (
     (q, l),
     let f : h′ ≤ length st′ = omega (arith, q .low, q .forty) in
         let e = tops-is h′ st′ f ∙ b in
-        let z : state j (reverse (take h′ st′)) so′ n ≡ state j′ S′ so″ n′ = cc in
+        let z : state j (reverse (take h′ st′)) so′ n devices ≡ state j′ S′ so″ n′ devices = cc in
         z,
   )
 
@@ -172,7 +183,7 @@ module _ (k : Rule) (cells i h m : ℕ) (st so : List ℤ) (s : Sound cells (k .
   push-is : h < 40 → (v : ℤ) → tops (h + 1) (set st h v) ≡ v ∷ S
   push-is l v = let e : h + 1 ≡ suc h = omega arith in ap (λ n. tops n (set st h v)) e ∙ tops-push h st v (omega (arith, s .forty))
 
-  pushes-does : h < 40 → (v v′ : ℤ) → natAbs v < p → v ≡ v′ → Does (pushed r st so v) (go (state (suc i) (v′ ∷ S) so m))
+  pushes-does : h < 40 → (v v′ : ℤ) → natAbs v < p → v ≡ v′ → Does (pushed r st so v) (go (state (suc i) (v′ ∷ S) so m devices))
   pushes-does l v v′ w e = on (i + 1) (h + 1) m (set st h v) so (sound-push l v w) refl (suc i) (v′ ∷ S) so m one-more (push-is l v ∙ ap (λ x. x ∷ S) e) refl refl
 
   -- a store that is right
@@ -196,7 +207,7 @@ module _ (k : Rule) (cells i h m : ℕ) (st so : List ℤ) (s : Sound cells (k .
         store = q .1;
       }
 
-  pops-does : (so′ so″ : List ℤ) → Stored so′ → so′ ≡ so″ → (j j′ : ℕ) → j ≡ j′ → Does (popped r st so′ j) (go (state j′ (under S) so″ m))
+  pops-does : (so′ so″ : List ℤ) → Stored so′ → so′ ≡ so″ → (j j′ : ℕ) → j ≡ j′ → Does (popped r st so′ j) (go (state j′ (under S) so″ m devices))
   pops-does so′ so″ q e j j′ f =
       on j (h - 1) m (set st (h - 1) (pos 0)) so′ (sound-pop so′ q) (q .0) j′ (under S) so″ m f
       (tops-other (h - 1) (h - 1) st (pos 0) (omega arith) ∙ sym (under-tops h st)) e refl
@@ -240,7 +251,7 @@ module _ (k : Rule) (cells i h m : ℕ) (st so : List ℤ) (s : Sound cells (k .
       up : h - 1 ≡ suc (h - 2)
       up = omega arith
 
-  negs-does : 0 < h → Does (performed k NEG r st so) (go (state (suc i) (negℤ (top S) ∷ under S) so m))
+  negs-does : 0 < h → Does (performed k NEG r st so) (go (state (suc i) (negℤ (top S) ∷ under S) so m devices))
   negs-does l =
       let v = negℤ (cell st (h - 1)) in
       let w = neg-fits k (cell st (h - 1)) (s .stack (h - 1)) in
@@ -298,7 +309,7 @@ module _ (k : Rule) (cells i h m : ℕ) (st so : List ℤ) (s : Sound cells (k .
   same-stack : (so′ : List ℤ) → Stored so′ → Sound cells p h st so′
   same-stack so′ q = record { low = s .low; forty = s .forty; clean = s .clean; stack = s .stack; long = omega (arith, s .long, q .0); store = q .1 }
 
-  moves-does : (j j′ : ℕ) (so′ : List ℤ) → Stored so′ → j ≡ j′ → Does (next (regs j h m) st so′) (go (state j′ S so′ m))
+  moves-does : (j j′ : ℕ) (so′ : List ℤ) → Stored so′ → j ≡ j′ → Does (next (regs j h m) st so′) (go (state j′ S so′ m devices))
   moves-does j j′ so′ q e = on j h m st so′ (same-stack so′ q) (q .0) j′ S so′ m e refl refl refl
 
   turns-does : (q : choose.Turn) (d : Loop) → TurnWithin p q → Does (turned q d r st so) (book.turned q d t)
@@ -320,33 +331,36 @@ module _ (k : Rule) (cells i h m : ℕ) (st so : List ℤ) (s : Sound cells (k .
   halts-does (suc zero) l = off 1 atEnd refl
   halts-does (suc (suc x)) l = absurd (omega arith)
 
-  pub does-tops : (n : Instr) → Good cells p n → pops n ≤ h → h - pops n + pushes n ≤ 40 → Does (performed k n r st so) (act k n t)
+  pub does-tops : (n : Instr) → (IsTransfer n → X) → Good cells p n → pops n ≤ h → h - pops n + pushes n ≤ 40 → Does (performed k n r st so) (act k n t)
   unfolding haltNumber
-  does-tops (HLT x) g a b = halts-does x g
-  does-tops (CON c) g a b = pushes-does (omega arith) (pos c) (pos c) g refl
-  does-tops (LOD x) g a b = pushes-does (omega arith) (cell so x) (cell so x) (s .store x g) refl
-  does-tops (STO x) g a b = pops-does (set so x (cell st (h - 1))) _ (set-stored so kept x (cell st (h - 1)) (s .stack (h - 1))) (ap (set so x) (top₁ (omega arith))) (i + 1) (suc i) one-more
-  does-tops (LDE e) g a b = loads-does (omega arith) e g (placeOf so e) (λ n q. place-below (e .rows) (e .columns) _ _ n (sym q))
-  does-tops (STE e) g a b = puts-does (omega arith) e (placeOf so e)
-  does-tops (OP f) g a b =
+  does-tops (HLT x) w g a b = halts-does x g
+  does-tops (CON c) w g a b = pushes-does (omega arith) (pos c) (pos c) g refl
+  does-tops (LOD x) w g a b = pushes-does (omega arith) (cell so x) (cell so x) (s .store x g) refl
+  does-tops (STO x) w g a b = pops-does (set so x (cell st (h - 1))) _ (set-stored so kept x (cell st (h - 1)) (s .stack (h - 1))) (ap (set so x) (top₁ (omega arith))) (i + 1) (suc i) one-more
+  does-tops (LDE e) w g a b = loads-does (omega arith) e g (placeOf so e) (λ n q. place-below (e .rows) (e .columns) _ _ n (sym q))
+  does-tops (STE e) w g a b = puts-does (omega arith) e (placeOf so e)
+  does-tops (OP f) w g a b =
       let l : 1 < h = two f a in
       subst (λ q. Does (joined (apply k f (cell st (h - 2)) (cell st (h - 1))) r st so) (book.operated q t (under (under S)))) (ap₂ (apply k f) (top₂ l) (top₁ (omega arith)))
       (joins-does l (apply k f (cell st (h - 2)) (cell st (h - 1))) (apply-fits k f _ _ (s .stack (h - 2))))
-  does-tops NEG g a b = negs-does (omega arith)
-  does-tops (JMP x) g a b = moves-does x x so kept refl
-  does-tops (BR3 x y z) g a b = pops-does so so kept refl _ _ (ap (λ v. sign3 v x y z) (top₁ (omega arith)))
-  does-tops (BRC ts) g a b =
+  does-tops NEG w g a b = negs-does (omega arith)
+  does-tops (JMP x) w g a b = moves-does x x so kept refl
+  does-tops (BR3 x y z) w g a b = pops-does so so kept refl _ _ (ap (λ v. sign3 v x y z) (top₁ (omega arith)))
+  does-tops (BRC ts) w g a b =
       subst (λ q. Does (branched (exit ts (cell st (h - 1))) r st so) (book.branched q t)) (ap (exit ts) (top₁ (omega arith))) (leaves-does (exit ts (cell st (h - 1))))
-  does-tops (DOI n d) g a b =
+  does-tops (DOI n d) w g a b =
       subst (λ x. Does (begun (allPositive (cell st (h - 3)) (cell st (h - 2)) (cell st (h - 1))) d r st so) (book.begun (allPositive x (top (under S)) (top S)) d x (top (under S)) (top S) t)) (top₃ (omega arith))
       (subst (λ x. Does (begun (allPositive (cell st (h - 3)) (cell st (h - 2)) (cell st (h - 1))) d r st so) (book.begun (allPositive (cell st (h - 3)) x (top S)) d (cell st (h - 3)) x (top S) t)) (top₂ (omega arith))
       (subst (λ x. Does (begun (allPositive (cell st (h - 3)) (cell st (h - 2)) (cell st (h - 1))) d r st so) (book.begun (allPositive (cell st (h - 3)) (cell st (h - 2)) x) d (cell st (h - 3)) (cell st (h - 2)) x t)) (top₁ (omega arith))
       (begins-does (omega arith) (allPositive (cell st (h - 3)) (cell st (h - 2)) (cell st (h - 1))) d)))
-  does-tops (DOE n d) g a b = ends-does (positive (cell so (d .step))) d refl g
+  does-tops (DOE n d) w g a b = ends-does (positive (cell so (d .step))) d refl g
+  does-tops (READ n f list) w g a b = (w (a-read n f list), (refl, refl))
+  does-tops (PRINT n f list) w g a b = (w (a-print n f list), (refl, refl))
 
-  state-is : t ≡ stateOf (regs i h m) st so
+  state-is : t ≡ stateOf (regs i h m) st so devices
   unfolding taken
-  state-is = ap (λ l. state i l so m) (sym (tops-is h st (omega (arith, s .low, s .forty))))
+  state-is = ap (λ l. state i l so m devices) (sym (tops-is h st (omega (arith, s .low, s .forty))))
 
-  pub does : (n : Instr) → Good cells p n → pops n ≤ h → h - pops n + pushes n ≤ 40 → DidAll cells p st so (stateOf (regs i h m) st so) (performed k n r st so) (act k n (stateOf (regs i h m) st so))
-  does n g a b = subst (λ u. DidAll cells p st so u (performed k n r st so) (act k n u)) state-is (does-tops n g a b)
+  pub does : (n : Instr) → (IsTransfer n → X) → Good cells p n → pops n ≤ h → h - pops n + pushes n ≤ 40
+      → DidAll X cells p st so (stateOf (regs i h m) st so devices) (performed k n r st so) (act k n (stateOf (regs i h m) st so devices))
+  does n w g a b = subst (λ u. DidAll X cells p st so u (performed k n r st so) (act k n u)) state-is (does-tops n w g a b)

@@ -12,6 +12,7 @@ use Rattle.number.specs.declared.Rule.{Rule}
 use Rattle.number.specs.Number as numbers
 use Rattle.number.proofs.Laws.{fits-yes}
 use Rattle.rules_shared.specs.Choose as choose
+use Rattle.rules_formats.specs.Walk.{Devices}
 use Rattle.rules_object.specs.Object.{Element, Loop, Object, ruleOf}
 use Rattle.rules_object.specs.Check.{rightConstant, rightElement, rightLoop}
 use Rattle.rules_object.specs.Operations.{meant, noElement, noLoop, operationAt}
@@ -25,7 +26,7 @@ use Rattle.run_arithmetic.specs.Performed.{performed}
 use Rattle.run_operations.specs.Ready.{Held, Ready}
 use Rattle.run_subscripts.proofs.Laws.{apart}
 use Rattle.run_operations.proofs.Known.{both}
-use Rattle.run_machine.proofs.Does.{Sound, DidAll, Good, does}
+use Rattle.run_machine.proofs.Does.{Sound, IsTransfer, DidAll, Good, does}
 
 -- ---- an instruction that is ready is right
 
@@ -69,7 +70,9 @@ module _ (e : Layout) (s : List ℕ) where
   good (suc (suc (suc (suc (suc (suc (suc (suc (suc (suc (suc (suc (suc zero))))))))))))) x a b = tt
   good (suc (suc (suc (suc (suc (suc (suc (suc (suc (suc (suc (suc (suc (suc zero)))))))))))))) x a b = tt
   good (suc (suc (suc (suc (suc (suc (suc (suc (suc (suc (suc (suc (suc (suc (suc zero))))))))))))))) x a b = good-loop (getD (o .dos) x noLoop) b
-  good (suc (suc (suc (suc (suc (suc (suc (suc (suc (suc (suc (suc (suc (suc (suc (suc op)))))))))))))))) x a b = absurd (apart (sym a))
+  good (suc (suc (suc (suc (suc (suc (suc (suc (suc (suc (suc (suc (suc (suc (suc (suc zero)))))))))))))))) x a b = tt
+  good (suc (suc (suc (suc (suc (suc (suc (suc (suc (suc (suc (suc (suc (suc (suc (suc (suc zero))))))))))))))))) x a b = tt
+  good (suc (suc (suc (suc (suc (suc (suc (suc (suc (suc (suc (suc (suc (suc (suc (suc (suc (suc op)))))))))))))))))) x a b = absurd (apart (sym a))
 
 -- ---- the code's record of a state, and the law's
 
@@ -102,9 +105,10 @@ module _ (e : Layout) (s : List ℕ) (k : Rule) (r : Regs) (st so : List ℤ) (h
       }
 
   -- the operation as the code does it and as the book says it
-  pub performs : (op x : ℕ) → Ready (objectAt e s) op x (r .height)
-      → DidAll (e .cells) (ruleOf (objectAt e s) .ceiling) st so (stateOf r st so) (performed (ruleOf (objectAt e s)) (meant (objectAt e s) op x) r st so)
-      (act (ruleOf (objectAt e s)) (meant (objectAt e s) op x) (stateOf r st so))
+  pub performs : (v : Devices) (op x : ℕ) → Ready (objectAt e s) op x (r .height)
+      → DidAll (IsTransfer (meant (objectAt e s) op x)) (e .cells) (ruleOf (objectAt e s) .ceiling) st so (stateOf r st so v) (performed (ruleOf (objectAt e s)) (meant (objectAt e s) op x) r st so)
+      (act (ruleOf (objectAt e s)) (meant (objectAt e s) op x) (stateOf r st so v))
   unfolding objectAt
-  performs op x y =
-      does (ruleOf (objectAt e s)) (e .cells) (r .index) (r .height) (r .mark) st so held-sound (meant (objectAt e s) op x) (good e s op x (y .operand) (y .entry)) (y .popped) (y .pushed)
+  performs v op x y =
+      does (ruleOf (objectAt e s)) (e .cells) (r .index) (r .height) (r .mark) st so v held-sound (IsTransfer (meant (objectAt e s) op x)) (meant (objectAt e s) op x) (λ w. w)
+      (good e s op x (y .operand) (y .entry)) (y .popped) (y .pushed)

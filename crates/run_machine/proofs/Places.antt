@@ -6,6 +6,7 @@ use native.Mathlib.Omega.{arith}
 use lib.ListN.{length, set, take, drop, replicate, length-drop, length-replicate, getD-replicate, take-append-drop}
 use lib.Seq.{take-suc, getD-set-same, getD-set-other, getD-drop, ext-getD}
 use lib.IntN.{ℤ, pos, natAbs}
+use Rattle.rules_formats.specs.Walk.{Devices}
 use Rattle.rules_object.specs.Machine.{cell, top, under}
 use Rattle.rules_object.specs.Calls.{taken, given}
 use Rattle.run_registers.specs.Registers.{regs, lentOf, stateOf}
@@ -73,8 +74,8 @@ module _ (h : ℕ) (st : List ℤ) (forty : length st ≡ 40) (low : h ≤ 40) (
       let e : length (reverse (take h st)) ≡ h = ap length (tops-is h st (omega arith)) ∙ length-tops h st in
       ap₂ _++_ (reverse-reverse (take h st)) (ap (λ n. replicate (40 - n) (pos 0)) e ∙ sym above-zeros) ∙ take-append-drop h st
 
-  pub given-back : (i m : ℕ) (so : List ℤ) → given (stateOf (regs i h m) st so) ≡ lentOf (regs i h m) st
+  pub given-back : (i m : ℕ) (so : List ℤ) (v : Devices) → given (stateOf (regs i h m) st so v) ≡ lentOf (regs i h m) st
   unfolding given taken
-  given-back i m so =
+  given-back i m so v =
       let e : length (reverse (take h st)) ≡ h = ap length (tops-is h st (omega arith)) ∙ length-tops h st in
       ap₂ (λ n l. lentOf (regs i n m) l) e places-back

@@ -10,6 +10,7 @@ use Rattle.number.specs.declared.Rule.{Rule}
 use Rattle.number.specs.Number as book
 use Rattle.number.specs.Code.{ruled}
 use Rattle.number.proofs.Laws.{digits-some}
+use Rattle.rules_formats.specs.Walk.{Devices}
 use Rattle.rules_object.specs.Object.{ruleOf}
 use Rattle.rules_object.specs.Check.{right41}
 use Rattle.rules_object.specs.Machine.{cell, fresh}
@@ -42,9 +43,9 @@ module _ (e : Layout) (s : List ℕ) (k : Rule) (placed : Placed e s) (limits : 
       by (suc d) q lower = lower (omega arith)
 
   -- a state that stands, its places 0 above the height
-  pub stands-held : (table : List ℕ) (r : Regs) (st so : List ℤ) → length st ≡ 40 → r .height ≤ 40 → ((i : ℕ) → r .height ≤ i → cell st i ≡ pos 0) → Stands (objectAt e s) table (stateOf r st so) → Held e s k r st so
+  pub stands-held : (table : List ℕ) (r : Regs) (st so : List ℤ) → length st ≡ 40 → r .height ≤ 40 → ((i : ℕ) → r .height ≤ i → cell st i ≡ pos 0) → (v : Devices) → Stands (objectAt e s) table (stateOf r st so v) → Held e s k r st so
   unfolding taken
-  stands-held table r st so forty low clean h =
+  stands-held table r st so forty low clean v h =
       record {
         placed = placed;
         right = limits;
@@ -84,6 +85,6 @@ module _ (e : Layout) (s : List ℕ) (k : Rule) (placed : Placed e s) (limits : 
           store = λ a l. subst (λ c. natAbs (cell so a) < c) is-ceiling (cells-within (objectAt e s) so long fit a (subst (λ n. a < n) (sym cells-is) l));
         }
 
-    pub fresh-state : stateOf (regs 0 0 0) (replicate 40 (pos 0)) so ≡ fresh so
+    pub fresh-state : (v : Devices) → stateOf (regs 0 0 0) (replicate 40 (pos 0)) so v ≡ fresh so v
     unfolding taken
-    fresh-state = refl
+    fresh-state v = refl

@@ -1,6 +1,7 @@
 -- A run's answer in the book's words.
 -- Assumes nothing.
 use mathlib.Core.List.{List}
+use Prim.Native.Nat.{ℕ}
 use lib.IntN.{ℤ}
 use Rattle.rules_object.specs.Object.{Object}
 use Rattle.rules_shared.specs.Refusals.{accepted}
@@ -9,7 +10,17 @@ use Rattle.rules_object.specs.Calls as book
 use Rattle.run_registers.specs.Registers.{lentOf}
 use Rattle.run_machine.specs.declared.Ran.{Ran}
 
--- what the code answers, with the places and the store that it leaves
-abbrev pub answer : Object → Ran → List ℤ → List ℤ → book.Ran
-answer o q st so =
-    record { refusal = accepted; halt = q .halt; steps = q .steps; sequence = sequenceOf (o .lines) (q .regs .mark); lent = lentOf (q .regs) st; store = so }
+-- what the code answers, with the places, the store and the lines that it leaves
+abbrev pub answer : Object → Ran → List ℤ → List ℤ → List ℕ → book.Ran
+answer o q st so lines =
+    record {
+      refusal = accepted;
+      halt = q .halt;
+      steps = q .steps;
+      sequence = sequenceOf (o .lines) (q .regs .mark);
+      lent = lentOf (q .regs) st;
+      store = so;
+      cardsTaken = q .taken;
+      linesWritten = q .written;
+      lines = lines;
+    }

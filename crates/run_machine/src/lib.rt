@@ -1,6 +1,9 @@
 // The run of an object: a step, and the one loop of a run and a bench run.
 ghost use mathlib.Core.Path.{_≡_};
 ghost use mathlib.Core.Bool.{false};
+ghost use Prim.Native.Nat.{_≤_, _<_};
+ghost use lib.ListN.{length};
+ghost use Rattle.rules_formats.specs.Walk.{devicesOf};
 ghost use Rattle.rules_object.specs.Object.{ruleOf};
 ghost use Rattle.rules_object.specs.Operations.{instruction};
 ghost use Rattle.rules_object.specs.Machine.{benchStep};
@@ -9,10 +12,12 @@ ghost use Rattle.rules_object.specs.Calls.{runFrom, sequenceOf};
 ghost use Rattle.rules_object.specs.Safe.{Faultless};
 ghost use Rattle.object_contents.specs.Layout.{objectAt, Placed};
 ghost use Rattle.run_registers.specs.Registers.{stateOf};
+ghost use Rattle.run_registers.specs.Devices.{traysOf};
 ghost use Rattle.run_arithmetic.specs.Performed.{after, performed};
 ghost use Rattle.run_operations.specs.Ready.{Held};
 ghost use Rattle.run_guards.specs.Guarding.{guardOf, Sees};
 ghost use Rattle.run_machine.specs.Running.{answer};
+use limits::CELLS;
 use limits::CODE;
 use limits::STACK;
 use number::Rule;
@@ -21,10 +26,13 @@ use run_guards::Seen;
 use run_registers::Regs;
 use run_registers::Turn;
 
+// With the cards taken and the lines written.
 pub struct Ran {
     pub halt: u32,
     pub steps: u32,
     pub regs: Regs,
+    pub taken: usize,
+    pub written: usize,
 }
 
 // One instruction, where the guard finds nothing wrong.
@@ -46,7 +54,7 @@ fn step(
     run_operations::perform(object_words::operation(w), x, o, e, rule, r, stack, store)
 }
 
-// The one loop. Only one call of `step` keeps it inlined.
+// The one loop. Only one call of `step` keeps it inlined. READ keeps the cells in `kept`.
 fn turns(
     guarded: bool,
     o: &[u8],
@@ -55,16 +63,22 @@ fn turns(
     start: Regs,
     stack: &mut [i64; STACK],
     store: &mut [i64],
+    kept: &mut [i64],
+    cards: &[u8],
+    lines: &mut [u8],
     allowance: u32,
     seen: &mut Seen,
 ) -> Ran
     requires { ⌜ Held e (now o) rule start (now stack) (now store) ⌝ }
-    requires { ⌜ (guarded ≡ false → Faultless (objectAt e (now o)) (stateOf start (now stack) (now store))) ⌝ }
+    requires { ⌜ (guarded ≡ false → Faultless (objectAt e (now o)) (stateOf start (now stack) (now store) (devicesOf (traysOf (now cards) (now lines))))) ⌝ }
+    requires { ⌜ (0 < e .«transfer_count» → e .cells ≤ length (now kept)) ⌝ }
     requires { ⌜ Sees (objectAt e (now o)) (now seen) ⌝ }
-    ensures { λ q. ⌜ answer (objectAt e (now (o .entry))) q (now (stack .exit)) (now (store .exit)) ≡ runFrom (objectAt e (now (o .entry))) (benchStep (objectAt e (now (o .entry)))) allowance (stateOf start (now (stack .entry)) (now (store .entry))) ⌝ }
+    ensures { λ q. ⌜ answer (objectAt e (now (o .entry))) q (now (stack .exit)) (now (store .exit)) (now (lines .exit)) ≡ runFrom (objectAt e (now (o .entry))) (traysOf (now (cards .entry)) (now (lines .entry))) (benchStep (objectAt e (now (o .entry)))) allowance (stateOf start (now (stack .entry)) (now (store .entry)) (devicesOf (traysOf (now (cards .entry)) (now (lines .entry))))) ⌝ }
 {
     let mut r = start;
     let mut steps: u32 = 0;
+    let mut taken: usize = 0;
+    let mut written: usize = 0;
     while steps < allowance {
         let g = run_guards::test(guarded, o, e, rule, r, seen);
         steps = steps + 1;
@@ -73,6 +87,8 @@ fn turns(
                 halt: g,
                 steps: steps,
                 regs: r,
+                taken: taken,
+                written: written,
             };
         }
         let t = step(o, e, rule, r, stack, store);
@@ -85,7 +101,35 @@ fn turns(
                     halt: h,
                     steps: steps,
                     regs: r,
+                    taken: taken,
+                    written: written,
                 };
+            }
+            Turn::Transfer => {
+                let m = run_transfers::transfer(
+                    o,
+                    e,
+                    rule,
+                    r.index,
+                    store,
+                    kept,
+                    cards,
+                    taken,
+                    lines,
+                    written,
+                );
+                taken = m.taken;
+                written = m.written;
+                if m.halt != 0 {
+                    return Ran {
+                        halt: m.halt,
+                        steps: steps,
+                        regs: r,
+                        taken: taken,
+                        written: written,
+                    };
+                }
+                r = run_registers::onward(r, r.height);
             }
         }
     }
@@ -93,7 +137,61 @@ fn turns(
         halt: 2,
         steps: steps,
         regs: r,
+        taken: taken,
+        written: written,
     }
+}
+
+// With room for what is seen, and for the cells that are kept if the object has transfers.
+fn turns_with_room(
+    guarded: bool,
+    o: &[u8],
+    e: Layout,
+    rule: Rule,
+    start: Regs,
+    stack: &mut [i64; STACK],
+    store: &mut [i64],
+    cards: &[u8],
+    lines: &mut [u8],
+    allowance: u32,
+) -> Ran
+    requires { ⌜ Held e (now o) rule start (now stack) (now store) ⌝ }
+    requires { ⌜ (guarded ≡ false → Faultless (objectAt e (now o)) (stateOf start (now stack) (now store) (devicesOf (traysOf (now cards) (now lines))))) ⌝ }
+    ensures { λ q. ⌜ answer (objectAt e (now (o .entry))) q (now (stack .exit)) (now (store .exit)) (now (lines .exit)) ≡ runFrom (objectAt e (now (o .entry))) (traysOf (now (cards .entry)) (now (lines .entry))) (benchStep (objectAt e (now (o .entry)))) allowance (stateOf start (now (stack .entry)) (now (store .entry)) (devicesOf (traysOf (now (cards .entry)) (now (lines .entry))))) ⌝ }
+{
+    let mut seen = [0u8; CODE];
+    if e.transfer_count == 0 {
+        let mut none = [0i64; 1];
+        return turns(
+            guarded,
+            o,
+            e,
+            rule,
+            start,
+            stack,
+            store,
+            &mut none,
+            cards,
+            lines,
+            allowance,
+            &mut seen,
+        );
+    }
+    let mut kept = [0i64; CELLS];
+    turns(
+        guarded,
+        o,
+        e,
+        rule,
+        start,
+        stack,
+        store,
+        &mut kept,
+        cards,
+        lines,
+        allowance,
+        &mut seen,
+    )
 }
 
 // The run of an object that passed the check.
@@ -104,14 +202,26 @@ pub fn run(
     start: Regs,
     stack: &mut [i64; STACK],
     store: &mut [i64],
+    cards: &[u8],
+    lines: &mut [u8],
     allowance: u32,
 ) -> Ran
     requires { ⌜ Held e (now o) rule start (now stack) (now store) ⌝ }
-    requires { ⌜ Faultless (objectAt e (now o)) (stateOf start (now stack) (now store)) ⌝ }
-    ensures { λ q. ⌜ answer (objectAt e (now (o .entry))) q (now (stack .exit)) (now (store .exit)) ≡ runFrom (objectAt e (now (o .entry))) (book.step (objectAt e (now (o .entry)))) allowance (stateOf start (now (stack .entry)) (now (store .entry))) ⌝ }
+    requires { ⌜ Faultless (objectAt e (now o)) (stateOf start (now stack) (now store) (devicesOf (traysOf (now cards) (now lines)))) ⌝ }
+    ensures { λ q. ⌜ answer (objectAt e (now (o .entry))) q (now (stack .exit)) (now (store .exit)) (now (lines .exit)) ≡ runFrom (objectAt e (now (o .entry))) (traysOf (now (cards .entry)) (now (lines .entry))) (book.step (objectAt e (now (o .entry)))) allowance (stateOf start (now (stack .entry)) (now (store .entry)) (devicesOf (traysOf (now (cards .entry)) (now (lines .entry))))) ⌝ }
 {
-    let mut seen = [0u8; CODE];
-    turns(false, o, e, rule, start, stack, store, allowance, &mut seen)
+    turns_with_room(
+        false,
+        o,
+        e,
+        rule,
+        start,
+        stack,
+        store,
+        cards,
+        lines,
+        allowance,
+    )
 }
 
 // The bench run of any object that has its bodies and keeps the limits.
@@ -122,13 +232,25 @@ pub fn bench(
     start: Regs,
     stack: &mut [i64; STACK],
     store: &mut [i64],
+    cards: &[u8],
+    lines: &mut [u8],
     allowance: u32,
 ) -> Ran
     requires { ⌜ Held e (now o) rule start (now stack) (now store) ⌝ }
-    ensures { λ q. ⌜ answer (objectAt e (now (o .entry))) q (now (stack .exit)) (now (store .exit)) ≡ runFrom (objectAt e (now (o .entry))) (benchStep (objectAt e (now (o .entry)))) allowance (stateOf start (now (stack .entry)) (now (store .entry))) ⌝ }
+    ensures { λ q. ⌜ answer (objectAt e (now (o .entry))) q (now (stack .exit)) (now (store .exit)) (now (lines .exit)) ≡ runFrom (objectAt e (now (o .entry))) (traysOf (now (cards .entry)) (now (lines .entry))) (benchStep (objectAt e (now (o .entry)))) allowance (stateOf start (now (stack .entry)) (now (store .entry)) (devicesOf (traysOf (now (cards .entry)) (now (lines .entry))))) ⌝ }
 {
-    let mut seen = [0u8; CODE];
-    turns(true, o, e, rule, start, stack, store, allowance, &mut seen)
+    turns_with_room(
+        true,
+        o,
+        e,
+        rule,
+        start,
+        stack,
+        store,
+        cards,
+        lines,
+        allowance,
+    )
 }
 
 // The sequence number of the last statement at or before the instruction that the mark names.

@@ -2,7 +2,7 @@
 ghost use mathlib.Core.Path.{_≡_};
 ghost use mathlib.Core.List.{List};
 ghost use mathlib.Core.Option.{some};
-ghost use Prim.Native.Nat.{_≤_};
+ghost use Prim.Native.Nat.{ℕ, _≤_};
 ghost use lib.ListN.{take};
 ghost use lib.IntN.{ℤ};
 ghost use Rattle.rules_object.specs.Calls.{runChecked, running, benchObject, benching};
@@ -10,6 +10,7 @@ ghost use Rattle.rules_object.specs.Passed.{Passed};
 ghost use Rattle.object_contents.specs.Layout.{Placed, objectAt};
 ghost use Rattle.check_heights.specs.Judged.{Fresh};
 ghost use Rattle.check_object.specs.Verdicts.{passing};
+ghost use Rattle.run_registers.specs.Devices.{traysOf};
 ghost use Rattle.run_lent.specs.Lending.{lent};
 ghost use Rattle.run_machine.specs.Running.{answer};
 ghost use Rattle.run_object.specs.Outcomes.{ranOf, refusedRan, Ends};
@@ -20,6 +21,7 @@ use limits::STACK;
 use object_contents::Contents;
 use object_contents::Layout;
 
+// `cards` are those taken, `lines` those written, by this run.
 #[repr(C)]
 pub struct Ran {
     pub number: u32,
@@ -28,6 +30,8 @@ pub struct Ran {
     pub halt: u32,
     pub steps: u32,
     pub sequence: u32,
+    pub cards: usize,
+    pub lines: usize,
 }
 
 // ---- either
@@ -42,6 +46,8 @@ fn not_run(number: u32, place: u32, kind: u32) -> Ran
         halt: 0,
         steps: 0,
         sequence: 0,
+        cards: 0,
+        lines: 0,
     }
 }
 
@@ -56,7 +62,7 @@ fn finish(
 ) -> Ran
     requires { ⌜ Placed e (now object) ⌝ }
     requires { ⌜ (q .regs .index ≤ 4096) × (q .regs .height ≤ 4096) ⌝ }
-    ensures { λ r. ⌜ ((places store : List ℤ) → ranOf r (lent (now (index .exit)) (now (height .exit)) (now (mark .exit)) places) store ≡ answer (objectAt e (now (object .entry))) q places store) ⌝ }
+    ensures { λ r. ⌜ ((places store : List ℤ) (lines : List ℕ) → ranOf r (lent (now (index .exit)) (now (height .exit)) (now (mark .exit)) places) store lines ≡ answer (objectAt e (now (object .entry))) q places store lines) ⌝ }
 {
     let regs = q.regs;
     run_lent::give_back(regs, index, height, mark);
@@ -67,6 +73,8 @@ fn finish(
         halt: q.halt,
         steps: q.steps,
         sequence: run_machine::sequence(object, e, regs.mark),
+        cards: q.taken,
+        lines: q.written,
     }
 }
 
@@ -82,11 +90,13 @@ fn run_passed(
     height: &mut u32,
     mark: &mut u32,
     places: &mut [i64; STACK],
+    cards: &[u8],
+    lines: &mut [u8],
     allowance: u32,
 ) -> Ran
     requires { ⌜ Placed e (now object) ⌝ }
     requires { ⌜ Passed (now object) (objectAt e (now object)) (take (e .«code_count») (now table)) ⌝ }
-    ensures { λ r. ⌜ Ends (runChecked (passing e (now (object .entry)) (now (table .entry))) (now (store .entry)) (lent (now (index .entry)) (now (height .entry)) (now (mark .entry)) (now (places .entry))) allowance) r (lent (now (index .exit)) (now (height .exit)) (now (mark .exit)) (now (places .exit))) (now (store .exit)) ⌝ }
+    ensures { λ r. ⌜ Ends (runChecked (passing e (now (object .entry)) (now (table .entry))) (now (store .entry)) (lent (now (index .entry)) (now (height .entry)) (now (mark .entry)) (now (places .entry))) (traysOf (now (cards .entry)) (now (lines .entry))) allowance) r (lent (now (index .exit)) (now (height .exit)) (now (mark .exit)) (now (places .exit))) (now (store .exit)) (now (lines .exit)) ⌝ }
 {
     let rule = number::of_digits(object_words::index(e.digits));
     let i = *index;
@@ -98,7 +108,17 @@ fn run_passed(
     }
     let start = run_registers::of_state(object_words::index(i), object_words::index(h), m);
     run_lent::clear(places, start.height);
-    let q = run_machine::run(object, e, rule, start, places, store, allowance);
+    let q = run_machine::run(
+        object,
+        e,
+        rule,
+        start,
+        places,
+        store,
+        cards,
+        lines,
+        allowance,
+    );
     finish(object, e, q, index, height, mark)
 }
 
@@ -109,11 +129,13 @@ fn run_with(
     height: &mut u32,
     mark: &mut u32,
     places: &mut [i64; STACK],
+    cards: &[u8],
+    lines: &mut [u8],
     allowance: u32,
     table: &mut Table,
 ) -> Ran
     requires { ⌜ Fresh (now table) ⌝ }
-    ensures { λ r. ⌜ Ends (running (now (object .entry)) (now (store .entry)) (lent (now (index .entry)) (now (height .entry)) (now (mark .entry)) (now (places .entry))) allowance) r (lent (now (index .exit)) (now (height .exit)) (now (mark .exit)) (now (places .exit))) (now (store .exit)) ⌝ }
+    ensures { λ r. ⌜ Ends (running (now (object .entry)) (now (store .entry)) (lent (now (index .entry)) (now (height .entry)) (now (mark .entry)) (now (places .entry))) (traysOf (now (cards .entry)) (now (lines .entry))) allowance) r (lent (now (index .exit)) (now (height .exit)) (now (mark .exit)) (now (places .exit))) (now (store .exit)) (now (lines .exit)) ⌝ }
 {
     let v = check_object::check(object, table);
     if v.number != 0 {
@@ -129,6 +151,8 @@ fn run_with(
         height,
         mark,
         places,
+        cards,
+        lines,
         allowance,
     )
 }
@@ -141,9 +165,11 @@ pub fn run(
     height: &mut u32,
     mark: &mut u32,
     places: &mut [i64; STACK],
+    cards: &[u8],
+    lines: &mut [u8],
     allowance: u32,
 ) -> Ran
-    ensures { λ r. ⌜ Ends (running (now (object .entry)) (now (store .entry)) (lent (now (index .entry)) (now (height .entry)) (now (mark .entry)) (now (places .entry))) allowance) r (lent (now (index .exit)) (now (height .exit)) (now (mark .exit)) (now (places .exit))) (now (store .exit)) ⌝ }
+    ensures { λ r. ⌜ Ends (running (now (object .entry)) (now (store .entry)) (lent (now (index .entry)) (now (height .entry)) (now (mark .entry)) (now (places .entry))) (traysOf (now (cards .entry)) (now (lines .entry))) allowance) r (lent (now (index .exit)) (now (height .exit)) (now (mark .exit)) (now (places .exit))) (now (store .exit)) (now (lines .exit)) ⌝ }
 {
     let mut table = [NEVER; CODE];
     run_with(
@@ -153,6 +179,8 @@ pub fn run(
         height,
         mark,
         places,
+        cards,
+        lines,
         allowance,
         &mut table,
     )
@@ -169,10 +197,12 @@ fn bench_read(
     height: &mut u32,
     mark: &mut u32,
     places: &mut [i64; STACK],
+    cards: &[u8],
+    lines: &mut [u8],
     allowance: u32,
 ) -> Ran
     requires { ⌜ Placed e (now object) ⌝ }
-    ensures { λ r. ⌜ Ends (benchObject (some (objectAt e (now (object .entry)))) (now (store .entry)) (lent (now (index .entry)) (now (height .entry)) (now (mark .entry)) (now (places .entry))) allowance) r (lent (now (index .exit)) (now (height .exit)) (now (mark .exit)) (now (places .exit))) (now (store .exit)) ⌝ }
+    ensures { λ r. ⌜ Ends (benchObject (some (objectAt e (now (object .entry)))) (now (store .entry)) (lent (now (index .entry)) (now (height .entry)) (now (mark .entry)) (now (places .entry))) (traysOf (now (cards .entry)) (now (lines .entry))) allowance) r (lent (now (index .exit)) (now (height .exit)) (now (mark .exit)) (now (places .exit))) (now (store .exit)) (now (lines .exit)) ⌝ }
 {
     if !check_entries::limits_right(e) {
         return not_run(41, 0, 0);
@@ -184,7 +214,17 @@ fn bench_read(
     }
     let start = run_registers::of_state(0, 0, 0);
     run_lent::clear(places, 0);
-    let q = run_machine::bench(object, e, rule, start, places, store, allowance);
+    let q = run_machine::bench(
+        object,
+        e,
+        rule,
+        start,
+        places,
+        store,
+        cards,
+        lines,
+        allowance,
+    );
     finish(object, e, q, index, height, mark)
 }
 
@@ -196,14 +236,27 @@ pub fn bench(
     height: &mut u32,
     mark: &mut u32,
     places: &mut [i64; STACK],
+    cards: &[u8],
+    lines: &mut [u8],
     allowance: u32,
 ) -> Ran
-    ensures { λ r. ⌜ Ends (benching (now (object .entry)) (now (store .entry)) (lent (now (index .entry)) (now (height .entry)) (now (mark .entry)) (now (places .entry))) allowance) r (lent (now (index .exit)) (now (height .exit)) (now (mark .exit)) (now (places .exit))) (now (store .exit)) ⌝ }
+    ensures { λ r. ⌜ Ends (benching (now (object .entry)) (now (store .entry)) (lent (now (index .entry)) (now (height .entry)) (now (mark .entry)) (now (places .entry))) (traysOf (now (cards .entry)) (now (lines .entry))) allowance) r (lent (now (index .exit)) (now (height .exit)) (now (mark .exit)) (now (places .exit))) (now (store .exit)) (now (lines .exit)) ⌝ }
 {
     let contents = object_contents::contents_of(object);
     match contents {
         Contents::Read(e) => {
-            bench_read(object, e, store, index, height, mark, places, allowance)
+            bench_read(
+                object,
+                e,
+                store,
+                index,
+                height,
+                mark,
+                places,
+                cards,
+                lines,
+                allowance,
+            )
         }
         Contents::Wrong => not_run(40, 0, 0),
     }

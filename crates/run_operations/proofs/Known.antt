@@ -22,7 +22,7 @@ use Rattle.rules_object.specs.Bytes.{signedOf}
 use Rattle.rules_object.proofs.Limited.{limited}
 use Rattle.object_words.specs.Word.{wordAt}
 use Rattle.object_contents.specs.declared.Layout.{Layout}
-use Rattle.object_contents.specs.Layout.{listFrom, elementAt, loopAt, objectAt}
+use Rattle.object_contents.specs.Layout.{listFrom, elementAt, loopAt, objectAt, Placed}
 use Rattle.run_registers.specs.declared.Regs.{Regs}
 use Rattle.run_subscripts.specs.Elements.{Cell, SubscriptIn, ElementIn}
 use Rattle.run_operations.specs.Ready.{Held, Ready}
@@ -74,10 +74,10 @@ pub record Bounds (e : Layout) (k : Rule) : Type 0 where
   pub cells : e .cells ≤ 4096
   pub code : e .«code_count» ≤ 4096
 
-pub bounds : (e : Layout) (s : List ℕ) (k : Rule) → right41 (objectAt e s) ≡ true → ruled k ≡ ruleOf (objectAt e s) → Bounds e k
+pub bounds : (e : Layout) (s : List ℕ) (k : Rule) → Placed e s → right41 (objectAt e s) ≡ true → ruled k ≡ ruleOf (objectAt e s) → Bounds e k
 unfolding objectAt
-bounds e s k r q =
-    let l = limited (objectAt e s) r in
+bounds e s k p r q =
+    let l = limited (objectAt e s) (p .edition) r in
     let n = l .code in
     record {
       narrow = subst Narrow (sym q) (digits-narrow (e .digits) (l .digits));
@@ -87,7 +87,7 @@ bounds e s k r q =
 
 module _ (e : Layout) (s : List ℕ) (k : Rule) (r : Regs) (st so : List ℤ) (h : Held e s k r st so) where
   pub held-bounds : Bounds e k
-  held-bounds = bounds e s k (h .right) (h .rule)
+  held-bounds = bounds e s k (h .placed) (h .right) (h .rule)
 
   -- what fits the object's rule
   fits-here : (z : ℤ) → fits (ruleOf (objectAt e s)) z ≡ true → natAbs z < 2 ^ 31
@@ -263,23 +263,25 @@ module _ (e : Layout) (s : List ℕ) (k : Rule) (r : Regs) (st so : List ℤ) (h
             ∙ ap (λ n. getElem? (take n (drop (x + 1) exits)) k) (sym (exit-is x (omega arith)))
     brc-is l (negsuc k) = refl
 
--- the operations that are none of 1 to 15 mean a halt
+-- the operations that are none of 1 to 17 mean a halt
 pub rest-halts : (o : Object) (op x : ℕ) → (op ≡ 1 → ⊥) → (op ≡ 2 → ⊥) → (op ≡ 3 → ⊥) → (op ≡ 4 → ⊥) → (op ≡ 5 → ⊥) → (op ≡ 6 → ⊥) → (op ≡ 7 → ⊥) → (op ≡ 8 → ⊥)
-    → (op ≡ 9 → ⊥) → (op ≡ 10 → ⊥) → (op ≡ 11 → ⊥) → (op ≡ 12 → ⊥) → (op ≡ 13 → ⊥) → (op ≡ 14 → ⊥) → (op ≡ 15 → ⊥) → HLT x ≡ meant o op x
-rest-halts o zero x a b c d e f g h i j k l m n p = refl
-rest-halts o (suc zero) x a b c d e f g h i j k l m n p = absurd (a refl)
-rest-halts o (suc (suc zero)) x a b c d e f g h i j k l m n p = absurd (b refl)
-rest-halts o (suc (suc (suc zero))) x a b c d e f g h i j k l m n p = absurd (c refl)
-rest-halts o (suc (suc (suc (suc zero)))) x a b c d e f g h i j k l m n p = absurd (d refl)
-rest-halts o (suc (suc (suc (suc (suc zero))))) x a b c d e f g h i j k l m n p = absurd (e refl)
-rest-halts o (suc (suc (suc (suc (suc (suc zero)))))) x a b c d e f g h i j k l m n p = absurd (f refl)
-rest-halts o (suc (suc (suc (suc (suc (suc (suc zero))))))) x a b c d e f g h i j k l m n p = absurd (g refl)
-rest-halts o (suc (suc (suc (suc (suc (suc (suc (suc zero)))))))) x a b c d e f g h i j k l m n p = absurd (h refl)
-rest-halts o (suc (suc (suc (suc (suc (suc (suc (suc (suc zero))))))))) x a b c d e f g h i j k l m n p = absurd (i refl)
-rest-halts o (suc (suc (suc (suc (suc (suc (suc (suc (suc (suc zero)))))))))) x a b c d e f g h i j k l m n p = absurd (j refl)
-rest-halts o (suc (suc (suc (suc (suc (suc (suc (suc (suc (suc (suc zero))))))))))) x a b c d e f g h i j k l m n p = absurd (k refl)
-rest-halts o (suc (suc (suc (suc (suc (suc (suc (suc (suc (suc (suc (suc zero)))))))))))) x a b c d e f g h i j k l m n p = absurd (l refl)
-rest-halts o (suc (suc (suc (suc (suc (suc (suc (suc (suc (suc (suc (suc (suc zero))))))))))))) x a b c d e f g h i j k l m n p = absurd (m refl)
-rest-halts o (suc (suc (suc (suc (suc (suc (suc (suc (suc (suc (suc (suc (suc (suc zero)))))))))))))) x a b c d e f g h i j k l m n p = absurd (n refl)
-rest-halts o (suc (suc (suc (suc (suc (suc (suc (suc (suc (suc (suc (suc (suc (suc (suc zero))))))))))))))) x a b c d e f g h i j k l m n p = absurd (p refl)
-rest-halts o (suc (suc (suc (suc (suc (suc (suc (suc (suc (suc (suc (suc (suc (suc (suc (suc q)))))))))))))))) x a b c d e f g h i j k l m n p = refl
+    → (op ≡ 9 → ⊥) → (op ≡ 10 → ⊥) → (op ≡ 11 → ⊥) → (op ≡ 12 → ⊥) → (op ≡ 13 → ⊥) → (op ≡ 14 → ⊥) → (op ≡ 15 → ⊥) → (op ≡ 16 → ⊥) → (op ≡ 17 → ⊥) → HLT x ≡ meant o op x
+rest-halts o zero x a b c d e f g h i j k l m n p q r = refl
+rest-halts o (suc zero) x a b c d e f g h i j k l m n p q r = absurd (a refl)
+rest-halts o (suc (suc zero)) x a b c d e f g h i j k l m n p q r = absurd (b refl)
+rest-halts o (suc (suc (suc zero))) x a b c d e f g h i j k l m n p q r = absurd (c refl)
+rest-halts o (suc (suc (suc (suc zero)))) x a b c d e f g h i j k l m n p q r = absurd (d refl)
+rest-halts o (suc (suc (suc (suc (suc zero))))) x a b c d e f g h i j k l m n p q r = absurd (e refl)
+rest-halts o (suc (suc (suc (suc (suc (suc zero)))))) x a b c d e f g h i j k l m n p q r = absurd (f refl)
+rest-halts o (suc (suc (suc (suc (suc (suc (suc zero))))))) x a b c d e f g h i j k l m n p q r = absurd (g refl)
+rest-halts o (suc (suc (suc (suc (suc (suc (suc (suc zero)))))))) x a b c d e f g h i j k l m n p q r = absurd (h refl)
+rest-halts o (suc (suc (suc (suc (suc (suc (suc (suc (suc zero))))))))) x a b c d e f g h i j k l m n p q r = absurd (i refl)
+rest-halts o (suc (suc (suc (suc (suc (suc (suc (suc (suc (suc zero)))))))))) x a b c d e f g h i j k l m n p q r = absurd (j refl)
+rest-halts o (suc (suc (suc (suc (suc (suc (suc (suc (suc (suc (suc zero))))))))))) x a b c d e f g h i j k l m n p q r = absurd (k refl)
+rest-halts o (suc (suc (suc (suc (suc (suc (suc (suc (suc (suc (suc (suc zero)))))))))))) x a b c d e f g h i j k l m n p q r = absurd (l refl)
+rest-halts o (suc (suc (suc (suc (suc (suc (suc (suc (suc (suc (suc (suc (suc zero))))))))))))) x a b c d e f g h i j k l m n p q r = absurd (m refl)
+rest-halts o (suc (suc (suc (suc (suc (suc (suc (suc (suc (suc (suc (suc (suc (suc zero)))))))))))))) x a b c d e f g h i j k l m n p q r = absurd (n refl)
+rest-halts o (suc (suc (suc (suc (suc (suc (suc (suc (suc (suc (suc (suc (suc (suc (suc zero))))))))))))))) x a b c d e f g h i j k l m n p q r = absurd (p refl)
+rest-halts o (suc (suc (suc (suc (suc (suc (suc (suc (suc (suc (suc (suc (suc (suc (suc (suc zero)))))))))))))))) x a b c d e f g h i j k l m n p q r = absurd (q refl)
+rest-halts o (suc (suc (suc (suc (suc (suc (suc (suc (suc (suc (suc (suc (suc (suc (suc (suc (suc zero))))))))))))))))) x a b c d e f g h i j k l m n p q r = absurd (r refl)
+rest-halts o (suc (suc (suc (suc (suc (suc (suc (suc (suc (suc (suc (suc (suc (suc (suc (suc (suc (suc s)))))))))))))))))) x a b c d e f g h i j k l m n p q r = refl

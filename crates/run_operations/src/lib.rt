@@ -1,4 +1,5 @@
 // The machine's operations, each with what its operand stands for. Nothing is tested here that the check of an object has settled.
+// READ and PRINT are left to the caller, which has the cards and the paper.
 ghost use mathlib.Core.Path.{_≡_};
 ghost use Prim.Native.Nat.{_+_, _-_, _*_, _^_, _<_};
 ghost use Rattle.rules_object.specs.Object.{ruleOf};
@@ -49,6 +50,8 @@ pub fn perform(
         object_opcodes::BRC => run_entries::do_brc(o, e.exits + 4 * x, r, stack),
         object_opcodes::DOI => run_entries::do_doi(o, e.dos + 16 * x, r, stack, store),
         object_opcodes::DOE => run_entries::do_doe(o, e.dos + 16 * x, r, store),
+        object_opcodes::READ => Turn::Transfer,
+        object_opcodes::PRINT => Turn::Transfer,
         _ => Turn::Halt(x as u32),
     }
 }

@@ -5,6 +5,7 @@ use Prim.Native.Nat.{ℕ, _+_}
 use lib.IntN.{ℤ}
 use Rattle.number.specs.Number.{Loss}
 use Rattle.rules_shared.specs.Choose.{marked}
+use Rattle.rules_formats.specs.Walk.{Devices}
 use Rattle.rules_object.specs.Machine.{State}
 use Rattle.rules_object.specs.Calls.{Lent, taken}
 use Rattle.run_registers.specs.declared.Regs.{Regs}
@@ -28,5 +29,5 @@ marking lost r = regs (r .index) (r .height) (marked (r .mark) lost (r .index))
 abbrev pub lentOf : Regs → List ℤ → Lent
 lentOf r st = record { index = r .index; height = r .height; mark = r .mark; places = st }
 
-abbrev pub stateOf : Regs → List ℤ → List ℤ → State
-stateOf r st so = taken (lentOf r st) so
+abbrev pub stateOf : Regs → List ℤ → List ℤ → Devices → State
+stateOf r st so d = taken (lentOf r st) so d

@@ -16,6 +16,8 @@ pub struct Regs {
 pub enum Turn {
     Next(Regs),
     Halt(u32),
+    // a READ or PRINT, which is not done here
+    Transfer,
 }
 
 pub fn of_state(index: usize, height: usize, mark: u32) -> Regs

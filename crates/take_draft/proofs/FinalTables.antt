@@ -8,12 +8,12 @@ use lib.ListN.{length}
 use borrow.Author.Tests.{eq-eqb}
 use Rattle.rules_shared.specs.House.{House}
 use Rattle.rules_object.specs.Object.{Loop, Element}
-use Rattle.rules_object.specs.Operations.{Instr, HLT, CON, LOD, STO, LDE, STE, OP, NEG, JMP, BR3, BRC, DOI, DOE}
+use Rattle.rules_object.specs.Operations.{Instr, HLT, CON, LOD, STO, LDE, STE, OP, NEG, JMP, BR3, BRC, DOI, DOE, READ, PRINT}
 use Rattle.rules_shared.proofs.EachLaws.{each-head}
 use Rattle.rules_text.specs.Trees.{Name, valueOf, Form, assign, goTo, computed, ifs, loop, continue, stop, end, dimension, Statement, formLast, Range, partsOf}
 use Rattle.rules_deck.specs.Deck.{Do, Dims, doOf, dosFrom, dosOf, endings, dimsOf}
 use Rattle.rules_deck.specs.Meaning.{third}
-use Rattle.rules_deck.specs.Translation.{Held, hidden, isHidden, cellOf, limitOf, appear, formPlain, brings, heldFrom, heldOf, exprCode, formCode, doInstr, enterCode, addressOf, statementCode, codeFrom, codeOf, Tables, noTables, tablesAfter, tablesOf, translate, doiFor}
+use Rattle.rules_deck.specs.Translation.{Held, hidden, isHidden, cellOf, limitOf, appear, formPlain, brings, heldFrom, heldOf, exprCode, formCode, doInstr, enterCode, addressOf, statementCode, codeFrom, codeOf, Tables, noTables, listElements, tablesAfter, tablesOf, translate, doiFor}
 use Rattle.rules_deck.specs.Judge.{formPooled, poolAll, Taken, nothingTaken, takes}
 use Rattle.rules_deck.specs.Accepted.{takenFrom, Accepted}
 use Rattle.rules_deck.proofs.CellLaws.{holds-right}
@@ -114,6 +114,8 @@ elementsOf (BR3 a b c) = []
 elementsOf (BRC ts) = []
 elementsOf (DOI n d) = []
 elementsOf (DOE n d) = []
+elementsOf (READ n f list) = listElements list
+elementsOf (PRINT n f list) = listElements list
 
 abbrev elementsIn : List Instr → List Element
 elementsIn [] = []
@@ -137,6 +139,8 @@ element-after T (BR3 a b c) = sym (append-nil (T .elements))
 element-after T (BRC ts) = sym (append-nil (T .elements))
 element-after T (DOI n d) = sym (append-nil (T .elements))
 element-after T (DOE n d) = sym (append-nil (T .elements))
+element-after T (READ n f list) = refl
+element-after T (PRINT n f list) = refl
 
 elements-after : (T : Tables) (is : List Instr) → tablesOf T is .elements ≡ T .elements ++ elementsIn is
 elements-after T [] = sym (append-nil (T .elements))

@@ -28,25 +28,25 @@ abbrev pub Quiet : Instr → Type 0
 Quiet i = Brings (i ∷ []) [] 0 0
 
 quiet-halt : (x : ℕ) → Quiet (HLT x)
-quiet-halt x = record { constants = λ T. refl; elements = λ T. omega arith; exits = λ T. omega arith }
+quiet-halt x = record { constants = λ T. refl; elements = λ T. omega arith; exits = λ T. omega arith; items = λ T. refl; transfers = λ T. refl }
 
 quiet-load : (a : ℕ) → Quiet (LOD a)
-quiet-load a = record { constants = λ T. refl; elements = λ T. omega arith; exits = λ T. omega arith }
+quiet-load a = record { constants = λ T. refl; elements = λ T. omega arith; exits = λ T. omega arith; items = λ T. refl; transfers = λ T. refl }
 
 quiet-store : (a : ℕ) → Quiet (STO a)
-quiet-store a = record { constants = λ T. refl; elements = λ T. omega arith; exits = λ T. omega arith }
+quiet-store a = record { constants = λ T. refl; elements = λ T. omega arith; exits = λ T. omega arith; items = λ T. refl; transfers = λ T. refl }
 
 quiet-jump : (a : ℕ) → Quiet (JMP a)
-quiet-jump a = record { constants = λ T. refl; elements = λ T. omega arith; exits = λ T. omega arith }
+quiet-jump a = record { constants = λ T. refl; elements = λ T. omega arith; exits = λ T. omega arith; items = λ T. refl; transfers = λ T. refl }
 
 pub quiet-enter : (d : ℕ) → Quiet (DOI d noLoop)
-quiet-enter d = record { constants = λ T. refl; elements = λ T. omega arith; exits = λ T. omega arith }
+quiet-enter d = record { constants = λ T. refl; elements = λ T. omega arith; exits = λ T. omega arith; items = λ T. refl; transfers = λ T. refl }
 
 three-exits : (a b c : ℕ) → Brings (BR3 a b c ∷ []) [] 0 3
-three-exits a b c = record { constants = λ T. refl; elements = λ T. omega arith; exits = λ T. length-append (T .exits) (a ∷ b ∷ c ∷ []) }
+three-exits a b c = record { constants = λ T. refl; elements = λ T. omega arith; exits = λ T. length-append (T .exits) (a ∷ b ∷ c ∷ []); items = λ T. refl; transfers = λ T. refl }
 
 many-exits : (ts : List ℕ) → Brings (BRC ts ∷ []) [] 0 (suc (length ts))
-many-exits ts = record { constants = λ T. refl; elements = λ T. omega arith; exits = λ T. length-append (T .exits) (length ts ∷ ts) }
+many-exits ts = record { constants = λ T. refl; elements = λ T. omega arith; exits = λ T. length-append (T .exits) (length ts ∷ ts); items = λ T. refl; transfers = λ T. refl }
 
 brings-as : {code : List Instr} {cs : List ℕ} {n x : ℕ} (ds : List ℕ) (m y : ℕ) → Brings code cs n x → cs ≡ ds → n ≡ m → x ≡ y → Brings code ds m y
 brings-as {code} {cs} {n} {x} ds m y h e f g = rw (← e, ← f, ← g) h
@@ -58,7 +58,7 @@ third-references (some e) = refl
 module _ (held : List Held) (dims : Name → Dims) where
   target-brings : (t : Target) → Brings (storeCode held dims t ∷ []) [] (length (targetReferences t)) 0
   target-brings (cell v) = quiet-store _
-  target-brings (element v s) = record { constants = λ T. refl; elements = λ T. length-append (T .elements) _; exits = λ T. omega arith }
+  target-brings (element v s) = record { constants = λ T. refl; elements = λ T. length-append (T .elements) _; exits = λ T. omega arith; items = λ T. refl; transfers = λ T. refl }
 
   pub form-brings : (address : ℕ → ℕ) (entry : Instr) → Quiet entry → (f : Form) → Brings (formCode held dims address entry f) (formPooled f) (length (formReferences f)) (formExitWords f)
   unfolding formPooled formReferences formExitWords

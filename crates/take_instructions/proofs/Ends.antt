@@ -3,10 +3,10 @@
 use mathlib.Core.Path.{_≡_, refl}
 use Prim.Native.Nat.{ℕ, _+_, _-_, _≤_, _<_}
 use native.Mathlib.Omega.{arith}
-use mathlib.Core.List.{List, [], _∷_, _++_}
+use mathlib.Core.List.{List, [], _∷_}
 use lib.ListN.{length, length-append}
 use Rattle.rules_object.specs.Operations.{HLT, JMP, BR3, BRC, DOI}
-use Rattle.rules_deck.specs.Translation.{Tables, tablesAfter}
+use Rattle.rules_deck.specs.Translation.{Tables, addExits, tablesAfter}
 use Rattle.take_draft.specs.declared.Counts.{Counts}
 use Rattle.take_draft.specs.Counts.{withExits}
 use Rattle.take_draft.specs.Kept.{Tabled, Fit}
@@ -57,7 +57,7 @@ module _ (n : Counts) where
       }
 
   exits-tabled : (T : Tables) (ts : List ℕ) (x : ℕ) {c e : List ℕ} → Tabled T c e n → x ≡ n .exits + length ts
-      → Tabled (record { constants = T .constants; elements = T .elements; exits = T .exits ++ ts }) c e (withExits n x)
+      → Tabled (addExits T ts) c e (withExits n x)
   exits-tabled T ts x t q =
       record {
         constants-are = t .constants-are;

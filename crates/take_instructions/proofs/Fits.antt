@@ -9,8 +9,8 @@ use lib.Dec.{leb, eqb}
 use lib.ListN.{length, length-append}
 use borrow.Author.Tests.{leb-false, lt-leb}
 use Rattle.rules_shared.specs.Limits.{limits}
-use Rattle.rules_object.specs.Operations.{Instr, HLT, CON, LOD, STO, LDE, STE, OP, NEG, JMP, BR3, BRC, DOI, DOE}
-use Rattle.rules_deck.specs.Translation.{Tables, pool, tablesAfter, tablesOf}
+use Rattle.rules_object.specs.Operations.{Instr, HLT, CON, LOD, STO, LDE, STE, OP, NEG, JMP, BR3, BRC, DOI, DOE, READ, PRINT}
+use Rattle.rules_deck.specs.Translation.{Tables, pool, listElements, tablesAfter, tablesOf}
 use Rattle.take_draft.specs.Kept.{tablesFit}
 
 pub record Grown (T U : Tables) : Type 0 where
@@ -43,6 +43,8 @@ after T (BR3 a b c) = record { constants = omega arith; elements = omega arith; 
 after T (BRC ts) = record { constants = omega arith; elements = omega arith; exits = omega (arith, length-append (T .exits) (length ts ∷ ts)) }
 after T (DOI n d) = same T
 after T (DOE n d) = same T
+after T (READ n f list) = record { constants = omega arith; elements = omega (arith, length-append (T .elements) (listElements list)); exits = omega arith }
+after T (PRINT n f list) = record { constants = omega arith; elements = omega (arith, length-append (T .elements) (listElements list)); exits = omega arith }
 
 pub grown : (T : Tables) (code : List Instr) → Grown T (tablesOf T code)
 grown T [] = same T

@@ -43,6 +43,18 @@ named-right-requires c κs =
     let a = c .before .before in
     (a .pre .1 .0, within a 7 (c .match .keys5))
 
+item-right-requires : tie.Need-item-right-requires
+unfolding countOf
+item-right-requires c κs =
+    let a = c .before .before in
+    (a .pre .1 .0, within a 9 (c .match .keys6))
+
+transfer-right-requires : tie.Need-transfer-right-requires
+unfolding countOf
+transfer-right-requires c κs =
+    let a = c .before .before in
+    (a .pre .1 .0, within a 10 (c .match .keys7))
+
 returns : tie.Need-returns
 unfolding passes
 returns c =
@@ -74,9 +86,21 @@ returns-5 c =
     c .named-right .ensures ∙ said a 7 (c .before .match .keys5)
 
 returns-6 : tie.Need-returns-6
+unfolding passes
 returns-6 c =
+    let a = c .before .before .before in
+    c .item-right .ensures ∙ said a 9 (c .before .match .keys6)
+
+returns-7 : tie.Need-returns-7
+unfolding passes
+returns-7 c =
+    let a = c .before .before .before in
+    c .transfer-right .ensures ∙ said a 10 (c .before .match .keys7)
+
+returns-8 : tie.Need-returns-8
+returns-8 c =
     let n = c .match .rest in
-    other-kind _ _ _ (n .0 .0 .0 .0 .1) (n .0 .0 .0 .1) (n .0 .0 .1) (n .0 .1) (n .1)
+    other-kind _ _ _ (n .0 .0 .0 .0 .0 .0 .1) (n .0 .0 .0 .0 .0 .1) (n .0 .0 .0 .0 .1) (n .0 .0 .0 .1) (n .0 .0 .1) (n .0 .1) (n .1)
 
 pub entry-passes-spec : {M : Type 1} → statement M
 entry-passes-spec =
@@ -87,9 +111,13 @@ entry-passes-spec =
     loop-right-requires
     line-right-requires
     named-right-requires
+    item-right-requires
+    transfer-right-requires
     returns
     returns-2
     returns-3
     returns-4
     returns-5
-    returns-6)
+    returns-6
+    returns-7
+    returns-8)

@@ -3,10 +3,11 @@ use mathlib.Core.Path.{_≡_, refl, sym, ap, _∙_}
 use Prim.Native.Nat.{_-_, _≤_}
 use native.Mathlib.Omega.{arith}
 use borrow.Author.Tests.{not-true, not-false}
+use Rattle.rules_shared.specs.Lists.{firstFrom}
 use Rattle.rules_shared.specs.Refusals.{atEntry}
 use Rattle.object_contents.specs.Layout.{objectAt}
-use Rattle.check_entries.specs.Judge.{refusalOf, passes, firstFrom}
-use Rattle.check_entries.proofs.Firsts.{first-starts, first-more, first-stops, first-ends}
+use Rattle.check_entries.specs.Judge.{refusalOf, passes}
+use Rattle.check_formats.proofs.Firsts.{first-starts, first-more, first-stops, first-ends}
 use borrow.Author.Needs.{needs}
 use Rattle.check_entries.proofs.first_bad.Statement.{statement}
 use Rattle.check_entries.proofs.first_bad.Tie as tie

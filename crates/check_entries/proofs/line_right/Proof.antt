@@ -1,4 +1,6 @@
 -- `check_entries::line_right` meets its contract. Assumes nothing.
+use Rattle.object_contents.proofs.Entries.{line-inside}
+use native.Mathlib.Omega.{arith}
 use mathlib.Core.Path.{_∙_}
 use Rattle.check_entries.proofs.Says.{line-says}
 use borrow.Author.Needs.{needs}
@@ -15,7 +17,8 @@ add-in-code-2 : tie.Need-add-in-code-2
 add-in-code-2 c = search needs
 
 in-code-requires : tie.Need-in-code-requires
-in-code-requires c κs = search needs
+in-code-requires c κs =
+    omega (arith, line-inside _ _ (c .before .before .pre .0) (c .before .before .args .i) (c .before .before .pre .1))
 
 returns : tie.Need-returns
 returns c =

@@ -1,4 +1,6 @@
 -- `check_entries::loop_right` meets its contract. Assumes nothing.
+use Rattle.object_contents.proofs.Entries.{do-inside}
+use native.Mathlib.Omega.{arith}
 use Rattle.check_entries.proofs.Says.{loop-says}
 use borrow.Author.Needs.{needs}
 use Rattle.check_entries.proofs.loop_right.Statement.{statement}
@@ -14,22 +16,26 @@ add-in-code : tie.Need-add-in-code
 add-in-code c = search needs
 
 in-code-requires : tie.Need-in-code-requires
-in-code-requires c κs = search needs
+in-code-requires c κs =
+    omega (arith, do-inside _ _ (c .before .before .pre .0) (c .before .before .args .i) (c .before .before .pre .1))
 
 in-cells-requires : tie.Need-in-cells-requires
-in-cells-requires c κs = search needs
+in-cells-requires c κs =
+    omega (arith, do-inside _ _ (c .before .before .before .pre .0) (c .before .before .before .args .i) (c .before .before .before .pre .1))
 
 add-in-cells : tie.Need-add-in-cells
 add-in-cells c = search needs
 
 in-cells-requires-2 : tie.Need-in-cells-requires-2
-in-cells-requires-2 c κs = search needs
+in-cells-requires-2 c κs =
+    omega (arith, do-inside _ _ (c .before .before .before .before .pre .0) (c .before .before .before .before .args .i) (c .before .before .before .before .pre .1))
 
 add-in-cells-2 : tie.Need-add-in-cells-2
 add-in-cells-2 c = search needs
 
 in-cells-requires-3 : tie.Need-in-cells-requires-3
-in-cells-requires-3 c κs = search needs
+in-cells-requires-3 c κs =
+    omega (arith, do-inside _ _ (c .before .before .before .before .before .pre .0) (c .before .before .before .before .before .args .i) (c .before .before .before .before .before .pre .1))
 
 returns : tie.Need-returns
 returns c =

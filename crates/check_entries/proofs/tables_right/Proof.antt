@@ -1,19 +1,19 @@
 -- `check_entries::tables_right` meets its contract: the counts are tested kind by kind. Assumes nothing.
 use Prim.Native.Nat.{_-_}
-use borrow.Author.Needs.{needs}
-use Rattle.object_bodies.specs.Edition.{count}
 use Rattle.check_entries.proofs.Tables.{Going, begins, goes, stops, ends}
+use borrow.Author.Needs.{needs}
 use Rattle.check_entries.proofs.tables_right.Statement.{statement}
 use Rattle.check_entries.proofs.tables_right.Tie as tie
 
 abbrev Inv-loop : tie.InvT-loop
-Inv-loop counts kind₀ kind = Going counts kind
+Inv-loop kinds counts kind₀ kind = Going kinds counts kind
 
 abbrev μ-loop : tie.MeasureT-loop
-μ-loop counts kind₀ kind = count - kind
+μ-loop kinds counts kind₀ kind = kinds - kind
 
 loop-holds : tie.Need-loop-holds Inv-loop μ-loop
-loop-holds c = begins (c .args .t1)
+loop-holds c =
+    begins (c .args .kinds) (c .args .t2)
 
 most-entries-requires : tie.Need-most-entries-requires Inv-loop μ-loop
 most-entries-requires c κs = search needs
@@ -26,9 +26,7 @@ array-read-if1 c = search needs
 
 returns : tie.Need-returns Inv-loop μ-loop
 returns c =
-    let st = c .before .before .before .before in
-    let at = c .before .before .before .loop in
-    stops (st .args .t1) (at .kind) (c .before .most-entries .result) (st .good .0 .1 .0 .1) (c .before .before .loop-test .taken) (at .inv) (c .before .most-entries .ensures) (c .if1 .taken)
+    stops (c .before .before .before .before .args .kinds) (c .before .before .before .before .args .t2) (c .before .before .before .before .pre) (c .before .before .before .before .good .1 .0 .1 .0 .1) (c .before .before .before .loop .kind) (c .before .most-entries .result) (c .before .before .loop-test .taken) (c .before .before .before .loop .inv) (c .before .most-entries .ensures) (c .if1 .taken)
 
 add-kind : tie.Need-add-kind Inv-loop μ-loop
 add-kind c = search needs
@@ -38,12 +36,11 @@ loop-less c = search needs
 
 loop-again : tie.Need-loop-again Inv-loop μ-loop
 loop-again c =
-    let st = c .before .before .before .before in
-    let at = c .before .before .before .loop in
-    goes (st .args .t1) (at .kind) (c .before .most-entries .result) (st .good .0 .1 .0 .1) (c .before .before .loop-test .taken) (at .inv) (c .before .most-entries .ensures) (c .if1 .left)
+    goes (c .before .before .before .before .args .kinds) (c .before .before .before .before .args .t2) (c .before .before .before .before .pre) (c .before .before .before .before .good .1 .0 .1 .0 .1) (c .before .before .before .loop .kind) (c .before .most-entries .result) (c .before .before .loop-test .taken) (c .before .before .before .loop .inv) (c .before .most-entries .ensures) (c .if1 .left)
 
 returns-2 : tie.Need-returns-2 Inv-loop μ-loop
-returns-2 c = ends (c .before .before .args .t1) (c .before .loop .kind) (c .before .loop .inv) (c .loop-test .left)
+returns-2 c =
+    ends (c .before .before .args .kinds) (c .before .before .args .t2) (c .before .loop .kind) (c .before .before .pre) (c .before .loop .inv) (c .loop-test .left)
 
 pub tables-right-spec : {M : Type 1} → statement M
 tables-right-spec =

@@ -30,7 +30,7 @@ of-digits-requires c κs =
     let s = c .before .before .before .before .args .o .now in
     let e = c .before .before .before .before .args .e in
     let right = sym (c .before .before .limits-right .ensures s) ∙ not-false _ (c .before .if1 .left) in
-    omega (arith, digits-low e s right, c .index .ensures)
+    omega (arith, digits-low e s (c .before .before .before .before .pre .0) right, c .index .ensures)
 
 entries-requires : tie.Need-entries-requires
 entries-requires c κs =
@@ -48,7 +48,7 @@ refuse-requires-2 c κs =
     let object = objectAt e s in
     let right = sym (c .before .before .before .before .before .before .before .limits-right .ensures s) ∙ not-false _ (c .before .before .before .before .before .before .if1 .left) in
     let told = c .before .before .before .entries .ensures in
-    (omega arith, place-42 object _ _ _ (c .before .found .given .1) told right)
+    (omega arith, place-42 object _ _ _ (c .before .found .given .1) told (c .before .before .before .before .before .before .before .before .before .pre .0 .edition) right)
 
 enum-told : tie.Need-enum-told
 enum-told c = search needs

@@ -18,7 +18,7 @@ refuse-requires c κs =
     let e = c .before .before .before .before .before .args .e in
     let object = objectAt e s in
     let told = c .before .before .before .words .ensures in
-    (omega arith, place-43 object _ _ _ (c .before .found .given .1) told (c .before .before .before .before .before .pre .0 .1))
+    (omega arith, place-43 object _ _ _ (c .before .found .given .1) told (c .before .before .before .before .before .pre .0 .0 .edition) (c .before .before .before .before .before .pre .0 .1))
 
 enum-told : tie.Need-enum-told
 enum-told c = search needs

@@ -4,7 +4,7 @@ use Prim.Native.Nat.{ℕ}
 use native.Mathlib.Omega.{arith}
 use Rattle.check_operands.specs.Operands.{operandRight}
 use Rattle.check_operands.proofs.Exits.{rightAt}
-use Rattle.check_operands.proofs.Tests.{constant-in, cell-in, element-in, code-in, do-in, above, no-operation}
+use Rattle.check_operands.proofs.Tests.{constant-in, cell-in, element-in, code-in, do-in, transfer-in, above, no-operation}
 use borrow.Author.Needs.{needs}
 use Rattle.check_operands.proofs.operand_right.Statement.{statement}
 use Rattle.check_operands.proofs.operand_right.Tie as tie
@@ -121,11 +121,23 @@ returns-16 c =
     do-in (a .args .e) (a .args .o .now) (a .args .x) .1 ∙ said a 15 (c .before .match .keys16)
 
 returns-17 : tie.Need-returns-17
+unfolding operandRight
 returns-17 c =
+    let a = c .before .before .before in
+    transfer-in (a .args .e) (a .args .o .now) (a .args .x) .0 ∙ said a 16 (c .before .match .keys17)
+
+returns-18 : tie.Need-returns-18
+unfolding operandRight
+returns-18 c =
+    let a = c .before .before .before in
+    transfer-in (a .args .e) (a .args .o .now) (a .args .x) .1 ∙ said a 17 (c .before .match .keys18)
+
+returns-19 : tie.Need-returns-19
+returns-19 c =
     let a = c .before .before in
     let n = c .match .rest in
     let op = a .args .operation in
-    no-operation _ op _ (above op 15 (above op 14 (above op 13 (above op 12 (above op 11 (above op 10 (above op 9 (above op 8 (above op 7 (above op 6 (above op 5 (above op 4 (above op 3 (above op 2 (above op 1 (above op 0 (omega arith) (n .0 .0 .0 .0 .0 .0 .0 .0 .0 .0 .0 .0 .0 .0 .0 .1)) (n .0 .0 .0 .0 .0 .0 .0 .0 .0 .0 .0 .0 .0 .0 .1)) (n .0 .0 .0 .0 .0 .0 .0 .0 .0 .0 .0 .0 .0 .1)) (n .0 .0 .0 .0 .0 .0 .0 .0 .0 .0 .0 .0 .1)) (n .0 .0 .0 .0 .0 .0 .0 .0 .0 .0 .0 .1)) (n .0 .0 .0 .0 .0 .0 .0 .0 .0 .0 .1)) (n .0 .0 .0 .0 .0 .0 .0 .0 .0 .1)) (n .0 .0 .0 .0 .0 .0 .0 .0 .1)) (n .0 .0 .0 .0 .0 .0 .0 .1)) (n .0 .0 .0 .0 .0 .0 .1)) (n .0 .0 .0 .0 .0 .1)) (n .0 .0 .0 .0 .1)) (n .0 .0 .0 .1)) (n .0 .0 .1)) (n .0 .1)) (n .1))
+    no-operation _ op _ (above op 17 (above op 16 (above op 15 (above op 14 (above op 13 (above op 12 (above op 11 (above op 10 (above op 9 (above op 8 (above op 7 (above op 6 (above op 5 (above op 4 (above op 3 (above op 2 (above op 1 (above op 0 (omega arith) (n .0 .0 .0 .0 .0 .0 .0 .0 .0 .0 .0 .0 .0 .0 .0 .0 .0 .1)) (n .0 .0 .0 .0 .0 .0 .0 .0 .0 .0 .0 .0 .0 .0 .0 .0 .1)) (n .0 .0 .0 .0 .0 .0 .0 .0 .0 .0 .0 .0 .0 .0 .0 .1)) (n .0 .0 .0 .0 .0 .0 .0 .0 .0 .0 .0 .0 .0 .0 .1)) (n .0 .0 .0 .0 .0 .0 .0 .0 .0 .0 .0 .0 .0 .1)) (n .0 .0 .0 .0 .0 .0 .0 .0 .0 .0 .0 .0 .1)) (n .0 .0 .0 .0 .0 .0 .0 .0 .0 .0 .0 .1)) (n .0 .0 .0 .0 .0 .0 .0 .0 .0 .0 .1)) (n .0 .0 .0 .0 .0 .0 .0 .0 .0 .1)) (n .0 .0 .0 .0 .0 .0 .0 .0 .1)) (n .0 .0 .0 .0 .0 .0 .0 .1)) (n .0 .0 .0 .0 .0 .0 .1)) (n .0 .0 .0 .0 .0 .1)) (n .0 .0 .0 .0 .1)) (n .0 .0 .0 .1)) (n .0 .0 .1)) (n .0 .1)) (n .1))
 
 pub operand-right-spec : {M : Type 1} → statement M
 operand-right-spec =
@@ -151,4 +163,6 @@ operand-right-spec =
     returns-14
     returns-15
     returns-16
-    returns-17)
+    returns-17
+    returns-18
+    returns-19)

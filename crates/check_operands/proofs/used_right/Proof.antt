@@ -6,7 +6,7 @@ use borrow.Author.Tests.{ltb-true}
 use Rattle.object_contents.specs.Layout.{objectAt}
 use Rattle.check_operands.specs.Operands.{entryRightAt}
 use Rattle.check_operands.proofs.Exits.{rightAt}
-use Rattle.check_operands.proofs.Tests.{constant-in, element-in, do-in, no-use}
+use Rattle.check_operands.proofs.Tests.{constant-in, element-in, do-in, transfer-in, no-use}
 use Rattle.check_operands.proofs.used_right.Statement.{statement}
 use Rattle.check_operands.proofs.used_right.Tie as tie
 
@@ -41,6 +41,16 @@ loop-right-requires-2 c κs =
     let a = c .before .before in
     (a .pre .1 .0, ltb-true _ _ (do-in (a .args .e) (a .args .o .now) (a .args .x) .1 ∙ right a 15 (c .match .keys5)))
 
+transfer-right-requires : tie.Need-transfer-right-requires
+transfer-right-requires c κs =
+    let a = c .before .before in
+    (a .pre .0, (a .pre .1 .0, ltb-true _ _ (transfer-in (a .args .e) (a .args .o .now) (a .args .x) .0 ∙ right a 16 (c .match .keys6))))
+
+transfer-right-requires-2 : tie.Need-transfer-right-requires-2
+transfer-right-requires-2 c κs =
+    let a = c .before .before in
+    (a .pre .0, (a .pre .1 .0, ltb-true _ _ (transfer-in (a .args .e) (a .args .o .now) (a .args .x) .1 ∙ right a 17 (c .match .keys7))))
+
 returns : tie.Need-returns
 unfolding entryRightAt
 returns c =
@@ -72,9 +82,21 @@ returns-5 c =
     c .loop-right2 .ensures ∙ said a 15 (c .before .match .keys5)
 
 returns-6 : tie.Need-returns-6
+unfolding entryRightAt
 returns-6 c =
+    let a = c .before .before .before in
+    c .transfer-right .ensures ∙ said a 16 (c .before .match .keys6)
+
+returns-7 : tie.Need-returns-7
+unfolding entryRightAt
+returns-7 c =
+    let a = c .before .before .before in
+    c .transfer-right2 .ensures ∙ said a 17 (c .before .match .keys7)
+
+returns-8 : tie.Need-returns-8
+returns-8 c =
     let n = c .match .rest in
-    no-use _ _ _ (n .0 .0 .0 .0 .1) (n .0 .0 .0 .1) (n .0 .0 .1) (n .0 .1) (n .1)
+    no-use _ _ _ (n .0 .0 .0 .0 .0 .0 .1) (n .0 .0 .0 .0 .0 .1) (n .0 .0 .0 .0 .1) (n .0 .0 .0 .1) (n .0 .0 .1) (n .0 .1) (n .1)
 
 pub used-right-spec : {M : Type 1} → statement M
 used-right-spec =
@@ -85,9 +107,13 @@ used-right-spec =
     element-right-requires-2
     loop-right-requires
     loop-right-requires-2
+    transfer-right-requires
+    transfer-right-requires-2
     returns
     returns-2
     returns-3
     returns-4
     returns-5
-    returns-6)
+    returns-6
+    returns-7
+    returns-8)

@@ -5,10 +5,11 @@ use native.Mathlib.Omega.{arith}
 use borrow.Author.Tests.{not-true, not-false}
 use Rattle.rules_shared.specs.Refusals.{atEntry}
 use Rattle.rules_object.specs.Calls.{refused43}
-use Rattle.check_entries.specs.Judge.{refusalOf, firstFrom}
+use Rattle.rules_shared.specs.Lists.{firstFrom}
+use Rattle.check_entries.specs.Judge.{refusalOf}
 use Rattle.object_contents.proofs.Entries.{code-inside}
 use Rattle.check_operands.proofs.Tests.{wordTest, words-are, word-test}
-use Rattle.check_entries.proofs.Firsts.{first-starts, first-more, first-stops, first-ends}
+use Rattle.check_formats.proofs.Firsts.{first-starts, first-more, first-stops, first-ends}
 use borrow.Author.Needs.{needs}
 use Rattle.check_operands.proofs.words.Statement.{statement}
 use Rattle.check_operands.proofs.words.Tie as tie

@@ -28,7 +28,7 @@ returns c =
     let s = c .before .before .before .before .args .o .now in
     let x = c .before .index .result in
     let kind = c .before .index .ensures ∙ c .before .before .load .ensures in
-    rw (ne-eqb x (a .kind + 1) (c .if1 .taken)) at (tests s (a .kind) (a .at) x _ _ _ kind refl refl refl)
+    rw (ne-eqb x (a .kind + 1) (c .if1 .taken)) at (tests s (a .kinds) (a .kind) (a .at) x _ _ _ kind refl refl refl)
 
 first-of-requires : tie.Need-first-of-requires
 first-of-requires c κs = search needs
@@ -39,7 +39,7 @@ returns-2 c =
     let s = c .before .before .before .before .before .before .args .o .now in
     let x = c .before .before .before .index .result in
     let kind = c .before .before .before .index .ensures ∙ c .before .before .before .before .load .ensures in
-    rw (eq-eqb x (a .kind + 1) (c .before .before .if1 .left), ne-eqb (c .before .first-of .result) (a .at) (c .if2 .taken)) at (tests s (a .kind) (a .at) x _ _ _ kind (c .before .first-of .ensures) refl refl)
+    rw (eq-eqb x (a .kind + 1) (c .before .before .if1 .left), ne-eqb (c .before .first-of .result) (a .at) (c .if2 .taken)) at (tests s (a .kinds) (a .kind) (a .at) x _ _ _ kind (c .before .first-of .ensures) refl refl)
 
 length-of-requires : tie.Need-length-of-requires
 length-of-requires c κs = search needs
@@ -56,7 +56,7 @@ returns-3 c =
     let s = c .before .before .before .before .before .before .before .before .before .args .o .now in
     let x = c .before .before .before .before .before .before .index .result in
     let kind = c .before .before .before .before .before .before .index .ensures ∙ c .before .before .before .before .before .before .before .load .ensures in
-    rw (eq-eqb x (a .kind + 1) (c .before .before .before .before .before .if1 .left), eq-eqb (c .before .before .before .before .first-of .result) (a .at) (c .before .before .before .if2 .left), ne-eqb (c .before .before .length-of .result % c .before .size-of .result) 0 (c .if3 .taken)) at (tests s (a .kind) (a .at) x _ _ _ kind (c .before .before .before .before .first-of .ensures) (c .before .before .length-of .ensures) (c .before .size-of .ensures .0))
+    rw (eq-eqb x (a .kind + 1) (c .before .before .before .before .before .if1 .left), eq-eqb (c .before .before .before .before .first-of .result) (a .at) (c .before .before .before .if2 .left), ne-eqb (c .before .before .length-of .result % c .before .size-of .result) 0 (c .if3 .taken)) at (tests s (a .kinds) (a .kind) (a .at) x _ _ _ kind (c .before .before .before .before .first-of .ensures) (c .before .before .length-of .ensures) (c .before .size-of .ensures .0))
 
 sub-result : tie.Need-sub-result
 sub-result c = search needs
@@ -67,7 +67,7 @@ returns-4 c =
     let s = c .before .before .before .before .before .before .before .before .before .args .o .now in
     let x = c .before .before .before .before .before .before .index .result in
     let kind = c .before .before .before .before .before .before .index .ensures ∙ c .before .before .before .before .before .before .before .load .ensures in
-    rw (eq-eqb x (a .kind + 1) (c .before .before .before .before .before .if1 .left), eq-eqb (c .before .before .before .before .first-of .result) (a .at) (c .before .before .before .if2 .left), eq-eqb (c .before .before .length-of .result % c .before .size-of .result) 0 (c .if3 .left)) at (tests s (a .kind) (a .at) x _ _ _ kind (c .before .before .before .before .first-of .ensures) (c .before .before .length-of .ensures) (c .before .size-of .ensures .0))
+    rw (eq-eqb x (a .kind + 1) (c .before .before .before .before .before .if1 .left), eq-eqb (c .before .before .before .before .first-of .result) (a .at) (c .before .before .before .if2 .left), eq-eqb (c .before .before .length-of .result % c .before .size-of .result) 0 (c .if3 .left)) at (tests s (a .kinds) (a .kind) (a .at) x _ _ _ kind (c .before .before .before .before .first-of .ensures) (c .before .before .length-of .ensures) (c .before .size-of .ensures .0))
 
 pub body-fits-spec : {M : Type 1} → statement M
 body-fits-spec =

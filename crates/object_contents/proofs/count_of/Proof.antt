@@ -13,7 +13,8 @@ div-result : tie.Need-div-result
 div-result c = search needs
 
 returns : tie.Need-returns
-returns c = rw (c .before .length-of .ensures, c .size-of .ensures .0)
+returns c =
+    rw (c .before .length-of .ensures, c .size-of .ensures .0)
 
 pub count-of-spec : {M : Type 1} → statement M
 count-of-spec = tie.close (tie.spec length-of-requires size-of-requires div-result returns)

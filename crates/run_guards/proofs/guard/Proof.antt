@@ -4,7 +4,7 @@ use native.Mathlib.Omega.{arith}
 use borrow.Author.Tests.{not-true, not-false}
 use Rattle.object_contents.specs.Layout.{objectAt}
 use Rattle.object_contents.proofs.Entries.{code-inside}
-use Rattle.run_guards.proofs.Guards.{word-sixteen, guard-past, guard-43, guard-42, guard-room}
+use Rattle.run_guards.proofs.Guards.{word-in-table, guard-past, guard-43, guard-42, guard-room}
 use borrow.Author.Needs.{needs}
 use Rattle.run_guards.proofs.guard.Statement.{statement}
 use Rattle.run_guards.proofs.guard.Tie as tie
@@ -81,7 +81,7 @@ room-requires : tie.Need-room-requires
 room-requires c κs =
     let e = c .before .before .before .before .before .before .before .before .before .before .before .args .e in
     let s = c .before .before .before .before .before .before .before .before .before .before .before .args .o .now in
-    let w = word-sixteen (objectAt e s) (c .before .before .before .before .before .before .load .result) (sym (c .before .before .before .before .before .word-right .ensures) ∙ not-false _ (c .before .before .before .before .if2 .left)) .0 in
+    let w = word-in-table (objectAt e s) (c .before .before .before .before .before .before .load .result) (sym (c .before .before .before .before .before .word-right .ensures) ∙ not-false _ (c .before .before .before .before .if2 .left)) .0 in
     (omega (arith, w, c .index .ensures, c .before .operation .ensures .0), c .before .before .before .before .before .before .before .before .before .before .before .pre .1)
 
 returns-4 : tie.Need-returns-4

@@ -14,7 +14,7 @@ sequence-requires c κs = search needs
 returns : tie.Need-returns
 returns c =
     let a = c .before .before .before .before .before .before .before .args in
-    λ places store. finished (objectAt (a .e) (a .object .now)) (a .q) places store _ _ (c .before .give-back .ensures places) (c .sequence .ensures)
+    λ places store lines. finished (objectAt (a .e) (a .object .now)) (a .q) places store lines _ _ (c .before .give-back .ensures places) (c .sequence .ensures)
 
 pub finish-spec : {M : Type 1} → statement M
 finish-spec = tie.close (tie.spec give-back-requires sequence-requires returns)

@@ -12,8 +12,11 @@ run-with-requires c κs =
 same-length : tie.Need-same-length
 same-length c = search needs
 
+same-length-2 : tie.Need-same-length-2
+same-length-2 c = search needs
+
 returns : tie.Need-returns
 returns c = search needs
 
 pub run-spec : {M : Type 1} → statement M
-run-spec = tie.close (tie.spec run-with-requires same-length returns)
+run-spec = tie.close (tie.spec run-with-requires same-length same-length-2 returns)

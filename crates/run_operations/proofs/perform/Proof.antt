@@ -452,7 +452,13 @@ returns-15 c =
     c .before .do-doe .ensures st ∙ ap (λ d. ended (positive (cell so (d .step))) d r st so) (sym (loop-is e s (a .rule) r st so H x (doe-in e s (a .rule) r st so H x y .0))) ∙ found (c .before .before .before .before .before .before) 15 (c .before .before .before .before .match .keys15)
 
 returns-16 : tie.Need-returns-16
-returns-16 c =
+returns-16 c = found (c .before .before) 16 (c .match .keys16)
+
+returns-17 : tie.Need-returns-17
+returns-17 c = found (c .before .before) 17 (c .match .keys17)
+
+returns-18 : tie.Need-returns-18
+returns-18 c =
     let a = c .before .before .args in
     let st = c .before .before .args .stack .now in
     let so = c .before .before .args .store .now in
@@ -461,7 +467,7 @@ returns-16 c =
     let e = c .before .before .args .e in
     let x = c .before .before .args .x in
     let n = c .match .rest in
-    ap (λ i. performed (ruleOf (objectAt e s)) i r st so) (rest-halts (objectAt e s) (a .op) x (n .0 .0 .0 .0 .0 .0 .0 .0 .0 .0 .0 .0 .0 .0 .1) (n .0 .0 .0 .0 .0 .0 .0 .0 .0 .0 .0 .0 .0 .1) (n .0 .0 .0 .0 .0 .0 .0 .0 .0 .0 .0 .0 .1) (n .0 .0 .0 .0 .0 .0 .0 .0 .0 .0 .0 .1) (n .0 .0 .0 .0 .0 .0 .0 .0 .0 .0 .1) (n .0 .0 .0 .0 .0 .0 .0 .0 .0 .1) (n .0 .0 .0 .0 .0 .0 .0 .0 .1) (n .0 .0 .0 .0 .0 .0 .0 .1) (n .0 .0 .0 .0 .0 .0 .1) (n .0 .0 .0 .0 .0 .1) (n .0 .0 .0 .0 .1) (n .0 .0 .0 .1) (n .0 .0 .1) (n .0 .1) (n .1))
+    ap (λ i. performed (ruleOf (objectAt e s)) i r st so) (rest-halts (objectAt e s) (a .op) x (n .0 .0 .0 .0 .0 .0 .0 .0 .0 .0 .0 .0 .0 .0 .0 .0 .1) (n .0 .0 .0 .0 .0 .0 .0 .0 .0 .0 .0 .0 .0 .0 .0 .1) (n .0 .0 .0 .0 .0 .0 .0 .0 .0 .0 .0 .0 .0 .0 .1) (n .0 .0 .0 .0 .0 .0 .0 .0 .0 .0 .0 .0 .0 .1) (n .0 .0 .0 .0 .0 .0 .0 .0 .0 .0 .0 .0 .1) (n .0 .0 .0 .0 .0 .0 .0 .0 .0 .0 .0 .1) (n .0 .0 .0 .0 .0 .0 .0 .0 .0 .0 .1) (n .0 .0 .0 .0 .0 .0 .0 .0 .0 .1) (n .0 .0 .0 .0 .0 .0 .0 .0 .1) (n .0 .0 .0 .0 .0 .0 .0 .1) (n .0 .0 .0 .0 .0 .0 .1) (n .0 .0 .0 .0 .0 .1) (n .0 .0 .0 .0 .1) (n .0 .0 .0 .1) (n .0 .0 .1) (n .0 .1) (n .1))
 
 pub perform-spec : {M : Type 1} → statement M
 perform-spec =
@@ -521,4 +527,6 @@ perform-spec =
     returns-14
     same-length-5
     returns-15
-    returns-16)
+    returns-16
+    returns-17
+    returns-18)

@@ -1,0 +1,3 @@
+pub mod Elements
+pub mod Lists
+pub mod Troubles

@@ -1,0 +1,5 @@
+pub mod FieldLaws
+pub mod LineLaws
+pub mod LinesLaws
+pub mod PaperLaws
+pub mod WritingLaws

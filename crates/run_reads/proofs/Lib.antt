@@ -1,0 +1,5 @@
+pub mod FieldLaws
+pub mod CardLaws
+pub mod CopyLaws
+pub mod CardsLaws
+pub mod ReadingLaws
