@@ -11,9 +11,11 @@
 
 #include "luvinqata.h"
 
-enum { CARD = 80, CARDS = 512, ENTRY = 20, NAME = 8 };
+enum { CARD = LUVINQATA_CARD, CARDS = 512, ENTRY = 20, NAME = 8 };
 
 static uint8_t deck[CARDS * CARD], object[LUVINQATA_LONGEST_OBJECT], table[LUVINQATA_LONGEST_TABLE];
+/* The hours' decks read no card and print no line. */
+static uint8_t no_cards[1], no_lines[1];
 static int64_t store[LUVINQATA_CELLS];
 
 static int fail(const char *what, const char *words)
@@ -71,7 +73,8 @@ int main(int count, char **arguments)
         uint32_t index = 0, height = 0, mark = 0;
         memset(store, 0, sizeof store);
         store[given] = strtoll(arguments[hour], NULL, 10);
-        struct luvinqata_ran ran = luvinqata_run(object, compiled.length, store, LUVINQATA_CELLS, &index, &height, &mark, places, 1000000);
+        struct luvinqata_ran ran = luvinqata_run(object, compiled.length, store, LUVINQATA_CELLS, &index, &height, &mark, places, no_cards, 0,
+                                                 no_lines, 0, 1000000);
         if (ran.number)
             printf("%s refused %u\n", arguments[hour], (unsigned)ran.number);
         else

@@ -9,11 +9,13 @@ import struct
 import sys
 from ctypes import CDLL, POINTER, Structure, byref, c_char_p, c_int64, c_size_t, c_uint32, create_string_buffer
 
-LONGEST_OBJECT, LONGEST_TABLE, CELLS, STACK = 38644, 2000, 4096, 40
+LONGEST_OBJECT, LONGEST_TABLE, CELLS, STACK = 68056, 2000, 4096, 40
 
 
 class Ran(Structure):
-    _fields_ = [(name, c_uint32) for name in ("number", "place", "kind", "halt", "steps", "sequence")]
+    _fields_ = [(name, c_uint32) for name in ("number", "place", "kind", "halt", "steps", "sequence")] + [
+        (name, c_size_t) for name in ("cards", "lines")
+    ]
 
 
 class Written(Structure):
@@ -31,7 +33,8 @@ class Program:
         self.calls.luvinqata_map.argtypes = [c_char_p, c_size_t, c_char_p, c_size_t]
         self.calls.luvinqata_run.restype = Ran
         self.calls.luvinqata_run.argtypes = [
-            c_char_p, c_size_t, POINTER(c_int64), c_size_t, word, word, word, POINTER(c_int64), c_uint32
+            c_char_p, c_size_t, POINTER(c_int64), c_size_t, word, word, word, POINTER(c_int64),
+            c_char_p, c_size_t, c_char_p, c_size_t, c_uint32
         ]
         self.object = create_string_buffer(LONGEST_OBJECT)
         compiled = self.calls.luvinqata_compile(k, deck, len(deck), self.object, LONGEST_OBJECT)
@@ -44,13 +47,14 @@ class Program:
         self.cells = {name.decode().rstrip(): first for name, first, _, _ in entries}
 
     def run(self, values, allowance=1_000_000):
-        """How the run ended, and the store after it."""
+        """How the run ended, and the store after it. The hours' decks read no card and print no line."""
         store, places = (c_int64 * CELLS)(), (c_int64 * STACK)()
         index, height, mark = c_uint32(), c_uint32(), c_uint32()
         for name, value in values.items():
             store[self.cells[name]] = value
         state = byref(index), byref(height), byref(mark), places
-        return self.calls.luvinqata_run(self.object, self.length, store, CELLS, *state, allowance), store
+        cards, lines = (b"", 0), (create_string_buffer(1), 0)
+        return self.calls.luvinqata_run(self.object, self.length, store, CELLS, *state, *cards, *lines, allowance), store
 
 
 def main(library, deck, name, result, *values):

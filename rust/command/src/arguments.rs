@@ -78,16 +78,19 @@ pub enum Subcommand {
 
 const BATCH: &str = "\
 Answers requests, one a line, on standard input, each by one line. Bytes are hexadecimal, - for none; numbers are joined
-by commas, - for none; a state is index, height, mark and forty stack numbers. An answer's lines are joined by ' | '.
+by commas, - for none; a state is index, height, mark and forty stack numbers. CARDS are bytes, every whole 80 a card, and
+LINES is how many lines there is room for. An answer's lines are joined by ' | '.
 
-  compile K DECK ROOM                  OK OBJECT, or REFUSED NUMBER PLACE
-  check OBJECT                         OK, or REFUSED NUMBER PLACE KIND
-  run OBJECT STORE STATE ALLOWANCE     HALT.., the state, the stack, the cells; or REFUSED NUMBER PLACE KIND
-  bench OBJECT STORE ALLOWANCE         the same
-  map OBJECT                           NAME FIRST ROWS COLUMNS for each name, or REFUSED NUMBER PLACE KIND
-  program INPUT                        what the program prints for a control card and a deck
+  compile K DECK ROOM                          OK OBJECT, or REFUSED NUMBER PLACE
+  check OBJECT                                 OK, or REFUSED NUMBER PLACE KIND
+  run OBJECT STORE STATE ALLOWANCE CARDS LINES
+                                               HALT.., the state, the stack, the cells, =.. for each line printed;
+                                               or REFUSED NUMBER PLACE KIND
+  bench OBJECT STORE ALLOWANCE CARDS LINES     the same
+  map OBJECT                                   NAME FIRST ROWS COLUMNS for each name, or REFUSED NUMBER PLACE KIND
+  program INPUT                                what the program prints for a control card and a deck
 
-A request that cannot be read, or is over 1048576 bytes, is answered BAD REQUEST.";
+A request that cannot be read, is over 1048576 bytes or asks for over 1048576 lines is answered BAD REQUEST.";
 
 #[derive(Args)]
 pub struct Deck {

@@ -2,14 +2,16 @@
 
 use std::io::{self, stdin, BufRead, Read};
 
-use luvinqata::{bench, check, compile, run, Ran, Refusal, State, Store, LONGEST_OBJECT, STACK};
+use luvinqata::{bench_with, check, compile, run_with, Ran, Refusal, State, Store, Trays, LONGEST_OBJECT, STACK};
 
 use crate::objects::{mapped, refused};
 use crate::output::Output;
 use crate::{program, Outcome, Status};
 
-/// No right request needs as many bytes.
+/// The bytes of the longest request that is read: room for the longest object and the largest store with five thousand cards.
 const LONGEST: usize = 1_048_576;
+/// The most lines that a request may ask room for, 138 million bytes.
+const LINES: u32 = 1_048_576;
 
 pub fn batch(out: &mut Output) -> Outcome {
     let (mut input, mut line) = (stdin().lock(), Vec::new());
@@ -45,15 +47,17 @@ fn answer(request: &str) -> Option<String> {
     let answer = match fields[..] {
         ["compile", k, deck, room] => compiled(unsigned(k)?, &bytes(deck)?, unsigned(room)?),
         ["check", object] => check(&bytes(object)?).map_or_else(|r| refused(&r), |()| "OK".to_string()),
-        ["run", object, store, state, allowance] => {
+        ["run", object, store, state, allowance, cards, lines] => {
             let (object, mut store, mut state) = (bytes(object)?, numbers(store)?, state_of(state)?);
-            let ran = run(&object, &mut store, &mut state, unsigned(allowance)?);
-            shown(ran, &state, &store)
+            let (mut trays, allowance) = (trays(cards, lines)?, unsigned(allowance)?);
+            let ran = run_with(&object, &mut store, &mut state, &mut trays, allowance);
+            shown(ran, &state, &store, &trays)
         }
-        ["bench", object, store, allowance] => {
+        ["bench", object, store, allowance, cards, lines] => {
             let (object, mut store, mut state) = (bytes(object)?, numbers(store)?, State::fresh());
-            let ran = bench(&object, &mut store, &mut state, unsigned(allowance)?);
-            shown(ran, &state, &store)
+            let (mut trays, allowance) = (trays(cards, lines)?, unsigned(allowance)?);
+            let ran = bench_with(&object, &mut store, &mut state, &mut trays, allowance);
+            shown(ran, &state, &store, &trays)
         }
         ["map", object] => Store::new(&bytes(object)?).map_or_else(|r| refused(&r), |store| names(&store)),
         ["program", input] => program::program(&bytes(input)?).join(" | "),
@@ -71,17 +75,19 @@ fn compiled(k: u32, deck: &[u8], room: u32) -> String {
     }
 }
 
-fn shown(ran: Result<Ran, Refusal>, state: &State, store: &[i64]) -> String {
+/// How the run ended, the state, the stack, each cell, and each line printed.
+fn shown(ran: Result<Ran, Refusal>, state: &State, store: &[i64], trays: &Trays) -> String {
     let ran = match ran {
         Ok(ran) => ran,
         Err(refusal) => return refused(&refusal),
     };
     let mut lines = vec![
-        program::ended(&ran),
+        format!("{} CARDS {} LINES {}", program::ended(&ran), ran.cards, ran.lines),
         format!("{} {} {}", state.index, state.height, state.mark),
         state.places.map(|number| number.to_string()).join(" "),
     ];
     lines.extend(store.iter().map(i64::to_string));
+    lines.extend(trays.lines.iter().map(|line| format!("={line}")));
     lines.join(" | ")
 }
 
@@ -113,6 +119,12 @@ fn numbers(field: &str) -> Option<Vec<i64>> {
         "-" => Some(Vec::new()),
         _ => field.split(',').map(signed).collect(),
     }
+}
+
+/// The cards, and how many lines there is to be room for.
+fn trays(cards: &str, lines: &str) -> Option<Trays<'static>> {
+    let lines = unsigned(lines).filter(|lines| *lines <= LINES)?;
+    Some(Trays::new(bytes(cards)?, lines as usize))
 }
 
 /// Index, height and mark, then the stack.

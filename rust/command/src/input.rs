@@ -10,10 +10,8 @@ use crate::arguments;
 use crate::output::Output;
 use crate::told::shown;
 
-/// No deck and no object is as long: 512 cards as text take 41,984 bytes.
-const LONGEST: usize = 65_536;
-/// How an object begins, and no deck does.
-const EDITION: &[u8] = &[1, 0, 0, 0];
+/// No deck and no object is as long: 512 cards as text take 41,984 bytes, an object takes 68,056.
+const LONGEST: usize = 131_072;
 /// The columns that are read.
 const READ: usize = 72;
 
@@ -62,7 +60,8 @@ pub fn object(path: &Path) -> Result<Vec<u8>, String> {
 pub fn deck(options: &arguments::Deck, out: &mut Output) -> Result<Vec<u8>, String> {
     let path = &options.deck;
     let bytes = read(path, "deck")?;
-    if bytes.starts_with(EDITION) {
+    // An object begins with its edition, and no deck does so.
+    if matches!(bytes[..], [1 | 2, 0, 0, 0, ..]) {
         let words = "it is an object, and no deck: 'luvinqata check' and 'luvinqata map' take objects";
         return Err(format!("{}: {words}", path.display()));
     }

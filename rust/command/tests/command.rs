@@ -137,6 +137,22 @@ fn objects() {
     }
 }
 
+/// One that reads a card, and the same with a width of 0 in its FORMAT.
+#[test]
+fn objects_of_edition_two() {
+    let deck = luvinqata::punch(b"      READ 1,I\n    1 FORMAT(I5)\n      END\n").expect("short lines");
+    let (_, mut tables) = independent::Level::Cards.accept(5, &deck).expect("a right deck");
+    let object = tables.to_bytes();
+    assert_eq!(luvinqata(&["check", "-"], &object).out, "OK\n");
+    assert_eq!(luvinqata(&["map", "-"], &object).out, "I 0 0 0\n");
+    tables.words[0] -= 5;
+    let ended = luvinqata(&["check", "-"], &tables.to_bytes());
+    assert_eq!((ended.status, ended.out.as_str()), (2, "REFUSED 42 0 8\n"));
+    assert!(ended
+        .told
+        .starts_with("refused 42 at entry 0 of body 8: a FORMAT's word"));
+}
+
 #[test]
 fn the_examples() {
     let values = [

@@ -94,12 +94,14 @@ fn what_is_read_is_not_written_over() {
 #[test]
 fn inputs_have_an_end() {
     let gale = top("examples/gale-hours.txt");
-    let deck = "luvinqata: /dev/zero: over 65536 bytes, longer than any deck\n";
+    let deck = "luvinqata: /dev/zero: over 131072 bytes, longer than any deck\n";
     assert_eq!(luvinqata(&["run", "/dev/zero"], b"").told, deck);
     assert_eq!(luvinqata(&["hours", "/dev/zero", "-"], b"").told, deck);
-    let object = "luvinqata: /dev/zero: over 65536 bytes, longer than any object\n";
+    let object = "luvinqata: /dev/zero: over 131072 bytes, longer than any object\n";
     assert_eq!(luvinqata(&["check", "/dev/zero"], b"").told, object);
     assert_eq!(luvinqata(&["map", "/dev/zero"], b"").told, object);
+    let longest = file("edges.longest", &[0; luvinqata::LONGEST_OBJECT]);
+    assert_eq!(luvinqata(&["check", text(&longest)], b"").out, "REFUSED 40 0 0\n");
     let table = luvinqata(&["hours", text(&gale), "/dev/zero"], b"");
     assert!(
         table.told.contains("line 1, column 1: a row of over 1048576 bytes"),
@@ -179,21 +181,24 @@ fn the_wrong_sort_of_file() {
     let (gale, table) = (top("examples/gale.txt"), top("examples/gale-hours.csv"));
     let object = file("edges.object", b"");
     assert_eq!(luvinqata(&["compile", text(&gale), text(&object)], b"").status, 0);
-    let no_deck = format!(
-        "luvinqata: {}: it is an object, and no deck: 'luvinqata check' and 'luvinqata map' take objects\n",
-        object.display()
-    );
-    for arguments in [
-        &["run", text(&object)][..],
-        &["compile", text(&object)],
-        &["run", "--text", text(&object)],
-        &["hours", text(&object), text(&table)],
-    ] {
-        let ended = luvinqata(arguments, b"");
-        assert_eq!(
-            (ended.status, ended.out.as_str(), ended.told.as_str()),
-            (2, "", no_deck.as_str())
+    let second = file("edges.object-2", &[2, 0, 0, 0]);
+    for object in [&object, &second] {
+        let no_deck = format!(
+            "luvinqata: {}: it is an object, and no deck: 'luvinqata check' and 'luvinqata map' take objects\n",
+            object.display()
         );
+        for arguments in [
+            &["run", text(object)][..],
+            &["compile", text(object)],
+            &["run", "--text", text(object)],
+            &["hours", text(object), text(&table)],
+        ] {
+            let ended = luvinqata(arguments, b"");
+            assert_eq!(
+                (ended.status, ended.out.as_str(), ended.told.as_str()),
+                (2, "", no_deck.as_str())
+            );
+        }
     }
     let cards = luvinqata::punch(&fs::read(&gale).expect("the gale")).expect("short lines");
     let cards = file("edges.cards", &cards);

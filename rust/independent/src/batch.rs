@@ -95,12 +95,12 @@ fn check(level: Level, object: &[u8]) -> String {
 
 fn run(level: Level, object: &[u8], mut store: Vec<i64>, mut state: State, allowance: u32, lent: &mut Lent) -> String {
     let ran = level.run(object, &mut store, &mut state, allowance, lent);
-    ran.map_or_else(refused, |ran| show_lent(level, &ran, &state, &store, lent))
+    ran.map_or_else(refused, |ran| show(level, &ran, &state, &store, lent))
 }
 
 fn bench(level: Level, object: &[u8], mut store: Vec<i64>, allowance: u32, lent: &mut Lent) -> String {
     let ran = level.bench(object, &mut store, allowance, lent);
-    ran.map_or_else(refused, |(ran, state)| show_lent(level, &ran, &state, &store, lent))
+    ran.map_or_else(refused, |(ran, state)| show(level, &ran, &state, &store, lent))
 }
 
 fn map(level: Level, object: &[u8]) -> String {
@@ -119,12 +119,7 @@ pub fn refused(refusal: Refusal) -> String {
     format!("REFUSED {} {} {}", refusal.number, refusal.place, refusal.kind)
 }
 
-/// The base's answer to a run.
-pub fn show(ran: &Ran, state: &State, store: &[i64]) -> String {
-    show_lent(Level::Base, ran, state, store, &Lent::nothing())
-}
-
-fn show_lent(level: Level, ran: &Ran, state: &State, store: &[i64], lent: &Lent) -> String {
+fn show(level: Level, ran: &Ran, state: &State, store: &[i64], lent: &Lent) -> String {
     let mut halt = format!("HALT {} STEPS {} DROP {}", ran.halt, ran.steps, ran.sequence);
     if level >= Level::Cards {
         halt += &counts(lent);

@@ -13,6 +13,7 @@ pub mod field;
 pub mod format;
 pub mod generate;
 pub mod interpret;
+pub mod kinds;
 pub mod lent;
 pub mod level;
 pub mod limits;

@@ -2,7 +2,7 @@
 
 use std::fmt;
 
-/// Why a run stopped. Each has 01's number.
+/// Why a run stopped. Each has 01's number, the last two 2026-01's.
 ///
 /// ```
 /// use luvinqata::Halt;
@@ -31,11 +31,15 @@ pub enum Halt {
     Stack = 7,
     /// A wrong instruction, in such a run.
     Instruction = 8,
+    /// No card is left for a READ, or no room for a PRINT's line: with more lent the run can be gone on with.
+    RanOut = 9,
+    /// A field of a READ that is no number of at most k digits, or one that passes the last column.
+    Field = 10,
 }
 
 impl Halt {
     /// Every halt, by number.
-    pub const ALL: [Halt; 9] = [
+    pub const ALL: [Halt; 11] = [
         Halt::Stop,
         Halt::End,
         Halt::Allowance,
@@ -45,6 +49,8 @@ impl Halt {
         Halt::Parameter,
         Halt::Stack,
         Halt::Instruction,
+        Halt::RanOut,
+        Halt::Field,
     ];
 
     /// 01's number.
@@ -74,6 +80,8 @@ impl Halt {
             Halt::Parameter => "a DO's parameter is not above 0",
             Halt::Stack => "the stack runs empty or over",
             Halt::Instruction => "a wrong instruction",
+            Halt::RanOut => "no card is left to READ, or no room for a line to PRINT",
+            Halt::Field => "a field is no number of at most k digits, or passes column 80 of a card or 132 of a line",
         }
     }
 }
@@ -96,6 +104,10 @@ pub struct Ran {
     pub steps: u32,
     /// The sequence number of the first statement that lost digits, or 0.
     pub sequence: u32,
+    /// The cards that this run took.
+    pub cards: usize,
+    /// The lines that it wrote.
+    pub lines: usize,
 }
 
 impl Ran {

@@ -2,15 +2,16 @@
 
 use std::fmt;
 
-use crate::{run, Halt, Program, Ran, Refusal, State, Statement};
+use crate::{run_with, Halt, Program, Ran, Refusal, State, Statement, Trays};
 
-/// A run that has not begun, or that goes on: its values, and where it stands.
+/// A run that has not begun, or that goes on: its values, where it stands, and the cards and lines that it is lent.
 #[derive(Clone, Debug)]
 #[must_use = "nothing was run yet"]
 pub struct Hour<'p> {
     program: &'p Program,
     cells: Vec<i64>,
     state: State,
+    trays: Trays<'p>,
 }
 
 /// Why a value cannot be given.
@@ -45,7 +46,7 @@ impl fmt::Display for NotSet {
 impl std::error::Error for NotSet {}
 
 impl Program {
-    /// An hour with every value 0, from the beginning.
+    /// An hour with every value 0, from the beginning, that is lent no card and no line.
     ///
     /// ```
     /// # fn hour() -> Result<(), Box<dyn std::error::Error>> {
@@ -79,6 +80,7 @@ impl Program {
             program: self,
             cells,
             state,
+            trays: Trays::empty(),
         }
     }
 }
@@ -108,10 +110,37 @@ impl<'p> Hour<'p> {
         }
     }
 
+    /// Lends cards to READ and room for the lines to PRINT. Whoever goes on with the answer is lent what the run left.
+    ///
+    /// ```
+    /// // READ 1,I and PRINT 1,I twice; 1 FORMAT(I5).
+    /// # let words = [
+    /// #     2, 5, 1, 10, 1, 136, 0, 2, 136, 0, 3, 136, 0, 4, 136, 0, 5, 136, 20, 6, 156, 0, 7, 156, 0, 8, 156, 8, 9, 164, 8, 10, 172, 12,
+    /// #     16 << 24, 17 << 24, 16 << 24, 17 << 24, 1, 1 << 24 | 5, 5 << 24, 0, 1, 0, 0, 1u32,
+    /// # ];
+    /// # let object: Vec<u8> = words.into_iter().flat_map(u32::to_le_bytes).collect();
+    /// let program = luvinqata::Program::read(object).unwrap();
+    /// let cards = luvinqata::punch(b"   47\n  -12\n").unwrap();
+    /// let mut hour = program.start();
+    /// hour.lend(luvinqata::Trays::new(&cards, 10));
+    /// let answer = hour.run(2).unwrap().resume(9).unwrap();
+    /// assert!(answer.halt().is_end());
+    /// assert_eq!(answer.trays().lines.iter().collect::<Vec<_>>(), ["   47", "  -12"]);
+    /// ```
+    pub fn lend(&mut self, trays: Trays<'p>) {
+        self.trays = trays;
+    }
+
     /// Runs for at most `allowance` steps. Of an hour that was started it is never refused; of one that goes on from
     /// cells or a state that do not fit the program, by 50 to 52.
     pub fn run(mut self, allowance: u32) -> Result<Answer<'p>, Refusal> {
-        let ran = run(&self.program.object, &mut self.cells, &mut self.state, allowance)?;
+        let Hour {
+            program,
+            cells,
+            state,
+            trays,
+        } = &mut self;
+        let ran = run_with(&program.object, cells, state, trays, allowance)?;
         Ok(Answer { hour: self, ran })
     }
 }
@@ -174,6 +203,16 @@ impl<'p> Answer<'p> {
     /// Goes on for at most `allowance` steps: both runs together are one run of both allowances.
     pub fn resume(self, allowance: u32) -> Result<Answer<'p>, Refusal> {
         self.hour.run(allowance)
+    }
+
+    /// The cards and the lines as the run left them.
+    pub fn trays(&self) -> &Trays<'p> {
+        &self.hour.trays
+    }
+
+    /// The same to be changed: after halt 9, with more cards or an empty tray of lines, the run goes on.
+    pub fn trays_mut(&mut self) -> &mut Trays<'p> {
+        &mut self.hour.trays
     }
 
     /// The cells, the DOs' hidden ones among them.

@@ -20,8 +20,8 @@
 //! # gale().unwrap();
 //! ```
 //!
-//! The plain calls, [`compile`], [`check`], [`run`], [`bench()`] and [`map`], take bytes, a store and a state of one's own. A deck that
-//! is refused is told by [`Refusal::explain`].
+//! The plain calls, [`compile`], [`check`], [`run`], [`bench()`] and [`map`], take bytes, a store and a state of one's own. Objects that read
+//! cards and print lines are lent [`Trays`]. A deck that is refused is told by [`Refusal::explain`].
 
 #![deny(missing_docs, unsafe_code)]
 
@@ -37,6 +37,7 @@ mod refusal;
 mod rule;
 mod state;
 mod store;
+mod trays;
 
 pub use deck::{punch, statement, Card, LongLine, CARD};
 pub use explain::{Columns, Explanation};
@@ -48,9 +49,10 @@ pub use refusal::Refusal;
 pub use rule::Rule;
 pub use state::State;
 pub use store::Store;
+pub use trays::{Cards, Lines, Trays, LINE};
 
 /// The bytes of the longest object there can be: no deck needs more room.
-pub const LONGEST_OBJECT: usize = 38_644;
+pub const LONGEST_OBJECT: usize = 68_056;
 
 /// The most numbers on a stack.
 pub const STACK: usize = 40;
@@ -99,7 +101,8 @@ pub fn check(object: &[u8]) -> Result<(), Refusal> {
 }
 
 /// Checks an object and runs it from a state for at most `allowance` steps: refuses by 40 to 44 and 50 to 52. Cells of
-/// the store past the object's own are neither judged nor changed.
+/// the store past the object's own are neither judged nor changed. No card and no room for a line is lent; [`run_with`]
+/// lends them.
 ///
 /// A run that stopped by halt 2 can be gone on with: the two together are one run of both allowances.
 ///
@@ -113,7 +116,37 @@ pub fn check(object: &[u8]) -> Result<(), Refusal> {
 /// assert_eq!((ran.halt, ran.steps, store), (luvinqata::Halt::Stop, 2, [7]));
 /// ```
 pub fn run(object: &[u8], store: &mut [i64], state: &mut State, allowance: u32) -> Result<Ran, Refusal> {
-    ran(raw::run(object, store, state, allowance))
+    run_with(object, store, state, &mut Trays::empty(), allowance)
+}
+
+/// The same with cards to READ and room for the lines that it PRINTs. The trays remember how far it came, so that the run
+/// that goes on, after halt 2 or with more in them after halt 9, is lent the rest.
+///
+/// ```
+/// // READ 1,I and PRINT 1,I twice; 1 FORMAT(I5).
+/// # let words = [
+/// #     2, 5, 1, 10, 1, 136, 0, 2, 136, 0, 3, 136, 0, 4, 136, 0, 5, 136, 20, 6, 156, 0, 7, 156, 0, 8, 156, 8, 9, 164, 8, 10, 172, 12,
+/// #     16 << 24, 17 << 24, 16 << 24, 17 << 24, 1, 1 << 24 | 5, 5 << 24, 0, 1, 0, 0, 1u32,
+/// # ];
+/// # let object: Vec<u8> = words.into_iter().flat_map(u32::to_le_bytes).collect();
+/// let cards = luvinqata::punch(b"   47\n  -12\n").unwrap();
+/// let mut trays = luvinqata::Trays::new(cards, 10);
+/// let (mut store, mut state) = ([0], luvinqata::State::fresh());
+/// for (allowance, cards, lines) in [(2, 1, 1), (9, 1, 1)] {
+///     let ran = luvinqata::run_with(&object, &mut store, &mut state, &mut trays, allowance).unwrap();
+///     assert_eq!((ran.cards, ran.lines), (cards, lines));
+/// }
+/// assert_eq!(trays.lines.iter().collect::<Vec<_>>(), ["   47", "  -12"]);
+/// assert_eq!((trays.cards.taken(), trays.lines.room()), (2, 8));
+/// ```
+pub fn run_with(
+    object: &[u8],
+    store: &mut [i64],
+    state: &mut State,
+    trays: &mut Trays,
+    allowance: u32,
+) -> Result<Ran, Refusal> {
+    trays.lend(|cards, lines| ran(raw::run(object, store, state, cards, lines, allowance)))
 }
 
 /// Runs an object that need not pass the check, from a fresh state: refuses only by 40, 41, 50 and 51, and tests each
@@ -130,7 +163,18 @@ pub fn run(object: &[u8], store: &mut [i64], state: &mut State, allowance: u32) 
 /// assert_eq!(luvinqata::bench(&object, &mut [], &mut state, 100).unwrap().halt, luvinqata::Halt::Stack);
 /// ```
 pub fn bench(object: &[u8], store: &mut [i64], state: &mut State, allowance: u32) -> Result<Ran, Refusal> {
-    ran(raw::bench(object, store, state, allowance))
+    bench_with(object, store, state, &mut Trays::empty(), allowance)
+}
+
+/// The same with cards and room for lines, as [`run_with`] is lent them.
+pub fn bench_with(
+    object: &[u8],
+    store: &mut [i64],
+    state: &mut State,
+    trays: &mut Trays,
+    allowance: u32,
+) -> Result<Ran, Refusal> {
+    trays.lend(|cards, lines| ran(raw::bench(object, store, state, cards, lines, allowance)))
 }
 
 /// Checks an object and writes its names to the front of `table`, twenty bytes each: eight bytes of name, then first
@@ -156,5 +200,7 @@ fn ran(answer: raw::Ran) -> Result<Ran, Refusal> {
         halt: Halt::with_number(answer.halt).expect("the proved calls halt by the book's numbers only"),
         steps: answer.steps,
         sequence: answer.sequence,
+        cards: answer.cards,
+        lines: answer.lines,
     })
 }

@@ -18,6 +18,8 @@ pub struct Ran {
     pub halt: u32,
     pub steps: u32,
     pub sequence: u32,
+    pub cards: usize,
+    pub lines: usize,
 }
 
 #[repr(C)]
@@ -43,6 +45,10 @@ extern "C" {
         height: *mut u32,
         mark: *mut u32,
         places: *mut [i64; STACK],
+        cards: *const u8,
+        cards_length: usize,
+        lines: *mut u8,
+        lines_length: usize,
         allowance: u32,
     ) -> Ran;
 
@@ -55,6 +61,10 @@ extern "C" {
         height: *mut u32,
         mark: *mut u32,
         places: *mut [i64; STACK],
+        cards: *const u8,
+        cards_length: usize,
+        lines: *mut u8,
+        lines_length: usize,
         allowance: u32,
     ) -> Ran;
 
@@ -71,7 +81,7 @@ pub fn check(object: &[u8]) -> Refusal {
     unsafe { luvinqata_check(object.as_ptr(), object.len()) }
 }
 
-pub fn run(object: &[u8], store: &mut [i64], state: &mut State, allowance: u32) -> Ran {
+pub fn run(object: &[u8], store: &mut [i64], state: &mut State, cards: &[u8], lines: &mut [u8], allowance: u32) -> Ran {
     // SAFETY: all that is lent is lent for the call, each part by itself, with its own length.
     unsafe {
         luvinqata_run(
@@ -83,12 +93,23 @@ pub fn run(object: &[u8], store: &mut [i64], state: &mut State, allowance: u32) 
             &mut state.height,
             &mut state.mark,
             &mut state.places,
+            cards.as_ptr(),
+            cards.len(),
+            lines.as_mut_ptr(),
+            lines.len(),
             allowance,
         )
     }
 }
 
-pub fn bench(object: &[u8], store: &mut [i64], state: &mut State, allowance: u32) -> Ran {
+pub fn bench(
+    object: &[u8],
+    store: &mut [i64],
+    state: &mut State,
+    cards: &[u8],
+    lines: &mut [u8],
+    allowance: u32,
+) -> Ran {
     // SAFETY: as in run.
     unsafe {
         luvinqata_bench(
@@ -100,6 +121,10 @@ pub fn bench(object: &[u8], store: &mut [i64], state: &mut State, allowance: u32
             &mut state.height,
             &mut state.mark,
             &mut state.places,
+            cards.as_ptr(),
+            cards.len(),
+            lines.as_mut_ptr(),
+            lines.len(),
             allowance,
         )
     }
@@ -111,38 +136,4 @@ pub fn map(object: &[u8], table: &mut [u8]) -> Written {
 }
 
 #[cfg(test)]
-mod tests {
-    use super::*;
-
-    /// No name and no cell; the code is HLT 1.
-    fn halting() -> Vec<u8> {
-        let words = [
-            1, 5, 0, 7, 1, 100, 0, 2, 100, 0, 3, 100, 0, 4, 100, 0, 5, 100, 4, 6, 104, 0, 7, 104, 0, 1u32,
-        ];
-        words.into_iter().flat_map(u32::to_le_bytes).collect()
-    }
-
-    /// "On a refusal every result but number, place and kind is 0"; on success these three are 0.
-    #[test]
-    fn what_does_not_count_is_zero() {
-        for call in [run, bench] {
-            let refused = call(b"", &mut [], &mut State::fresh(), 9);
-            assert_eq!(
-                (refused.number, refused.halt, refused.steps, refused.sequence),
-                (40, 0, 0, 0)
-            );
-            let ran = call(&halting(), &mut [], &mut State::fresh(), 9);
-            assert_eq!((ran.number, ran.place, ran.kind), (0, 0, 0));
-        }
-        let refused = compile(5, b"", &mut []);
-        assert_eq!((refused.number, refused.length), (2, 0));
-        let written = compile(5, format!("{:80}", "      END").as_bytes(), &mut [0; 200]);
-        assert_eq!((written.number, written.place, written.kind), (0, 0, 0));
-        let refused = map(b"", &mut []);
-        assert_eq!((refused.number, refused.length), (40, 0));
-        let written = map(&halting(), &mut []);
-        assert_eq!((written.number, written.place, written.kind), (0, 0, 0));
-        let passed = check(&halting());
-        assert_eq!((passed.number, passed.place, passed.kind), (0, 0, 0));
-    }
-}
+mod tests;

@@ -54,6 +54,13 @@ impl Refusal {
             (Rule::Entry, 7) => {
                 "a name not of I to N and up to five letters or digits, with columns and no rows, or outside the cells"
             }
+            (Rule::Entry, 8) => {
+                "a FORMAT's word of no kind, a width or count 0 or over 99999, a character of no deck, a slash's operand, or a wrong end"
+            }
+            (Rule::Entry, 9) => "a list's item outside the elements or the cells",
+            (Rule::Entry, 10) => {
+                "a transfer not by a FORMAT's first word, with items outside the lists, or with items and no I in the FORMAT"
+            }
             (rule, _) => rule.words(),
         }
     }
@@ -80,7 +87,7 @@ mod tests {
     use super::*;
 
     /// Each number and kind, with words that only it has.
-    const WORDS: [(u32, u32, &str); 35] = [
+    const WORDS: [(u32, u32, &str); 38] = [
         (1, 0, "the digits are not 1 to 9"),
         (2, 0, "512 cards of 80 bytes"),
         (3, 0, "a character that a card may not hold"),
@@ -111,6 +118,9 @@ mod tests {
         (42, 4, "a DO's cell"),
         (42, 6, "a statement's address"),
         (42, 7, "up to five letters or digits"),
+        (42, 8, "a FORMAT's word of no kind"),
+        (42, 9, "a list's item"),
+        (42, 10, "a transfer not by a FORMAT's first word"),
         (43, 0, "an unknown operation"),
         (44, 0, "no table of heights"),
         (50, 0, "the store is shorter"),

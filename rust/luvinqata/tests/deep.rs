@@ -2,7 +2,7 @@
 
 use std::thread;
 
-use luvinqata::{bench, check, compile, compile_to_vec, map, run, Refusal, Rule, State, LONGEST_OBJECT};
+use luvinqata::{bench_with, check, compile, map, punch, run_with, Halt, Refusal, Rule, State, Trays, LONGEST_OBJECT};
 
 const COMPILING: usize = 1 << 20;
 const RUNNING: usize = 64 << 10;
@@ -61,14 +61,18 @@ fn the_deepest_statements() {
 /// Check, map, run and bench run keep their tables on the stack too, of one size for every object.
 #[test]
 fn all_that_is_done_with_an_object() {
-    let object = compile_to_vec(9, &deck("I=((J+1)*2)")).expect("a right deck");
+    let text = b"      READ 1,J\n      I=((J+1)*2)\n      PRINT 1,I\n    1 FORMAT(I5)\n      END";
+    let deck = punch(text).expect("short lines");
+    let (_, tables) = independent::Level::Cards.accept(9, &deck).expect("a right deck");
+    let object = tables.to_bytes();
     let ran = with_stack(RUNNING, move || {
+        let [mut run_trays, mut bench_trays] = [(); 2].map(|()| Trays::new(vec![b' '; 80], 1));
         let (mut store, mut state) = ([0; 2], State::fresh());
         check(&object).and_then(|()| map(&object, &mut [0; 40]))?;
-        let ran = run(&object, &mut store, &mut state, 99)?;
-        let benched = bench(&object, &mut store, &mut State::fresh(), 99)?;
+        let ran = run_with(&object, &mut store, &mut state, &mut run_trays, 99)?;
+        let benched = bench_with(&object, &mut store, &mut State::fresh(), &mut bench_trays, 99)?;
         Ok::<_, Refusal>((ran, benched, store))
     });
     let (ran, benched, store) = ran.expect("a right object");
-    assert_eq!((ran, store), (benched, [2, 0]));
+    assert_eq!((ran, ran.halt, store), (benched, Halt::End, [0, 2]));
 }

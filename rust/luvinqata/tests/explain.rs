@@ -188,7 +188,7 @@ fn no_card() {
     let short = luvinqata::compile(5, &deck, &mut [0; 99]).expect_err("no room");
     assert_eq!(
         holds(&short, &deck, "30").to_string(),
-        "the object is longer than the room lent for it: 38644 bytes are enough for every deck"
+        "the object is longer than the room lent for it: 68056 bytes are enough for every deck"
     );
     let object = luvinqata::check(b"").expect_err("no object").explain(&deck);
     assert!(object.at.is_empty() && object.words.starts_with("the object's"));

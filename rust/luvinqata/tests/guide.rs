@@ -30,7 +30,7 @@ fn blocks(document: &str) -> Vec<String> {
 #[test]
 fn the_documents_show_this_code() {
     let lines: Vec<&str> = HERE.lines().map(str::trim).collect();
-    for (document, count) in [("docs/GUIDE.md", 4), ("README.md", 1)] {
+    for (document, count) in [("docs/GUIDE.md", 5), ("README.md", 1)] {
         let blocks = blocks(document);
         assert_eq!(blocks.len(), count, "{document}");
         for block in blocks {
@@ -87,5 +87,20 @@ fn a_long_hour() -> Result<(), Box<dyn Error>> {
     let (cells, kept) = (answer.cells().to_vec(), answer.state().to_bytes());
     let answer = program.resume(cells, luvinqata::State::from_bytes(&kept)).run(1_000)?;
     assert_eq!((answer.halt(), answer.get("I")), (Halt::End, Some(9999)));
+    Ok(())
+}
+
+#[test]
+fn cards_and_lines() -> Result<(), Box<dyn Error>> {
+    let text = b"      DO 7 N=1,2\n      READ 1,KNOTS\n    7 PRINT 1,KNOTS\n    1 FORMAT(I5)\n      END\n";
+    let compiled = independent::Level::Cards.accept(5, &luvinqata::punch(text)?);
+    let (_, tables) = compiled.map_err(|refusal| format!("{refusal:?}"))?;
+    let program = luvinqata::Program::read(tables.to_bytes())?;
+    let cards = luvinqata::punch(b"   47\n   12\n")?;
+    let mut hour = program.start();
+    hour.lend(luvinqata::Trays::new(&cards, 100));
+    let answer = hour.run(1_000_000)?;
+    let printed: Vec<&str> = answer.trays().lines.iter().collect();
+    assert_eq!((answer.halt(), printed), (Halt::End, vec!["   47", "   12"]));
     Ok(())
 }

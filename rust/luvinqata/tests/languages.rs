@@ -5,7 +5,7 @@ use std::os::unix::fs::symlink;
 use std::path::{Path, PathBuf};
 use std::process::Command;
 
-use luvinqata::{Program, LONGEST_OBJECT, STACK};
+use luvinqata::{Program, CARD, LINE, LONGEST_OBJECT, STACK};
 
 const RAW: &str = include_str!("../src/raw.rs");
 /// The archive that this test is linked with.
@@ -84,6 +84,8 @@ fn the_header_says_what_the_crate_declares() {
     for (name, value) in [
         ("LONGEST_OBJECT", LONGEST_OBJECT),
         ("LONGEST_TABLE", 100 * 20),
+        ("CARD", CARD),
+        ("LINE", LINE),
         ("CELLS", independent::limits::CELLS),
         ("STACK", STACK),
     ] {

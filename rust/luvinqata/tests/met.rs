@@ -2,11 +2,15 @@
 
 mod common;
 
+use std::fs::read_to_string;
+use std::path::Path;
+
 use independent::object::{
-    pack, DoEntry, ElementEntry, NameEntry, SubscriptEntry, Tables, CONTENTS_BYTES, ENTRY_BYTES, ENTRY_LIMITS,
+    pack, word, DoEntry, Edition, ElementEntry, ItemEntry, NameEntry, SubscriptEntry, Tables, TransferEntry,
 };
 use independent::operation::*;
 use independent::{Ran, Refusal, State};
+use luvinqata::Trays;
 
 /// Five digits, three cells, constants 1 and 0, one exit table of each sort, one element, one DO, one name.
 fn tables(code: Code) -> Tables {
@@ -49,6 +53,20 @@ fn tables(code: Code) -> Tables {
     t
 }
 
+/// The same in edition 2, with a transfer of cell 0 by `FORMAT(I5)`.
+fn card_tables(code: Code) -> Tables {
+    let mut t = tables(code);
+    t.edition = Edition::Two;
+    t.words = vec![pack(word::NUMBER, 5), pack(word::END, 0)];
+    t.items = vec![ItemEntry { first: 0, count: 1 }];
+    t.transfers = vec![TransferEntry {
+        format: 0,
+        first: 0,
+        count: 1,
+    }];
+    t
+}
+
 /// Operations and operands.
 type Code = &'static [(u32, u32)];
 
@@ -82,6 +100,37 @@ fn every_halt() {
     }
 }
 
+/// No card, no room, no number, and a field past the last column: cell, cards and lines are as before.
+#[test]
+fn every_halt_of_a_transfer() {
+    let card = |text: &str| format!("{text:80}").into_bytes();
+    let mut wide = card_tables(&[(PRINT, 0), (HLT, 1)]);
+    wide.words[0] = pack(word::NUMBER, 133);
+    let (reads, prints) = (
+        card_tables(&[(READ, 0), (HLT, 1)]),
+        card_tables(&[(PRINT, 0), (HLT, 1)]),
+    );
+    let cases = [
+        (1, &reads, card("   47"), 0),
+        (1, &prints, Vec::new(), 1),
+        (9, &reads, Vec::new(), 1),
+        (9, &prints, card("   47"), 0),
+        (10, &reads, card("   4A"), 0),
+        (10, &wide, Vec::new(), 1),
+    ];
+    for (halt, tables, cards, room) in cases {
+        for call in [common::run_with, common::bench_with] {
+            let (mut store, mut state, mut trays) = ([5; 3], State::fresh(), Trays::new(&cards, room));
+            let ran = call(&tables.to_bytes(), &mut store, &mut state, &mut trays, 9).expect("a right object");
+            assert_eq!((ran.halt, ran.steps), (halt, if halt == 1 { 2 } else { 1 }));
+            if halt != 1 {
+                assert_eq!((store, state), ([5; 3], State::fresh()));
+                assert_eq!(trays, Trays::new(&cards, room));
+            }
+        }
+    }
+}
+
 /// Exactly forty numbers on the stack are right, and a run goes on from them; one more has no height.
 #[test]
 fn forty_places() {
@@ -106,8 +155,34 @@ fn forty_places() {
 /// No object is longer than the constant says.
 #[test]
 fn the_longest_object() {
-    let bodies = ENTRY_BYTES.iter().zip(ENTRY_LIMITS).map(|(bytes, limit)| bytes * limit);
-    assert_eq!(luvinqata::LONGEST_OBJECT, CONTENTS_BYTES + bodies.sum::<usize>());
+    assert_eq!(luvinqata::LONGEST_OBJECT, Edition::Two.longest());
+}
+
+/// docs/OBJECT.md has the bodies and the sizes of each edition.
+#[test]
+fn the_page_of_the_object() {
+    let page = Path::new(env!("CARGO_MANIFEST_DIR")).join("../../docs/OBJECT.md");
+    let page = read_to_string(page).expect("the page");
+    let row = |line: &str| -> Vec<String> { line.split('|').map(|field| field.trim().to_string()).collect() };
+    let rows: Vec<Vec<String>> = page.lines().map(|line| row(line.trim_matches('|'))).collect();
+    for edition in [Edition::One, Edition::Two] {
+        let word = edition.word().to_string();
+        for (kind, (bytes, limit)) in (1..).zip(edition.entry_bytes().iter().zip(edition.entry_limits())) {
+            let said = [kind, *bytes, *limit].map(|number| number.to_string());
+            let says = |row: &Vec<String>| match &row[..] {
+                [kind, _, _, bytes, limit, editions] => {
+                    [kind, bytes, limit] == said.each_ref() && editions.contains(&word)
+                }
+                _ => false,
+            };
+            assert!(rows.iter().any(says), "edition {word}: {said:?}");
+        }
+        let sizes = [edition.bodies(), edition.contents_bytes(), edition.longest()].map(|size| size.to_string());
+        assert!(
+            rows.iter().any(|row| row[0] == word && row[1..] == sizes),
+            "edition {word}"
+        );
+    }
 }
 
 #[test]
@@ -119,11 +194,20 @@ fn every_refusal() {
     constant.constants.push(100_000);
     let operation = tables(&[(HLT, 0), (16, 0)]);
     let heights = tables(&[(ADD, 0), (HLT, 0)]);
+    let [mut format, mut item, mut transfer] = [(); 3].map(|()| card_tables(&[(HLT, 0)]));
+    format.words[0] = pack(word::NUMBER, 0);
+    item.items[0].count = 4;
+    transfer.transfers[0].format = 1;
+    let entry = card_tables(&[(HLT, 0), (READ, 1)]);
     let cases = [
         (40, 0, 0, right.to_bytes()[1..].to_vec()),
         (41, 0, 0, long.to_bytes()),
         (42, 2, 1, constant.to_bytes()),
+        (42, 0, 8, format.to_bytes()),
+        (42, 0, 9, item.to_bytes()),
+        (42, 0, 10, transfer.to_bytes()),
         (43, 1, 5, operation.to_bytes()),
+        (43, 1, 5, entry.to_bytes()),
         (44, 0, 0, heights.to_bytes()),
     ];
     for (number, place, kind, object) in cases {

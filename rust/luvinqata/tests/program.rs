@@ -4,7 +4,7 @@ mod common;
 
 use independent::compile::accept;
 use independent::generate::{self, Rng};
-use luvinqata::{Halt, Program, Rule, State, Store};
+use luvinqata::{Cards, Halt, Lines, Program, Rule, State, Store, Trays};
 
 const CASES: u64 = 2_000;
 
@@ -127,4 +127,74 @@ fn a_state_stands_at_the_statement_that_halted() {
         let at = program.statement_at(&state).expect("a statement");
         assert_eq!((ran.halt.number(), at.sequence), (halt, sequence), "{text}");
     }
+}
+
+/// An hour with cards in parts, in this process and in another that is told the cards taken, ends as one run does.
+#[test]
+fn an_hour_with_cards_in_parts_is_the_run() {
+    const ROOM: usize = 40;
+    let (mut ended, mut used_in_both) = (0, 0);
+    for seed in 0..CASES {
+        let mut rng = Rng::new(seed);
+        let made = generate::ordinary_deck_at(common::LEVEL, &mut rng);
+        let (_, tables) = common::LEVEL.accept(made.k, &made.deck).expect("an ordinary deck");
+        let program = Program::read(tables.to_bytes()).expect("a compiled object");
+        let cards = generate::cards(&mut rng);
+        let run = |allowance: u32| {
+            let mut hour = program.start();
+            hour.lend(Trays::new(&cards, ROOM));
+            hour.run(allowance).expect("a fresh hour")
+        };
+        let (whole, first) = (run(90), run(rng.below(20) as u32));
+        let (taken, mut lines) = (first.trays().cards.taken(), first.trays().lines.bytes().to_vec());
+        let used = taken + lines.len();
+
+        let kept = first.state().to_bytes();
+        let mut hour = program.resume(first.cells().to_vec(), State::from_bytes(&kept));
+        hour.lend(Trays {
+            cards: Cards::new(&cards).after(taken),
+            lines: Lines::with_room(first.trays().lines.room()),
+        });
+        let answer = hour
+            .run(5)
+            .and_then(|answer| answer.resume(65))
+            .expect("what a run left");
+        let trays = answer.trays();
+        lines.extend(trays.lines.bytes());
+        if answer.halt() == Halt::Allowance {
+            continue;
+        }
+        assert_eq!(answer.halt(), whole.halt(), "seed {seed}");
+        assert_eq!(
+            (answer.cells(), answer.state()),
+            (whole.cells(), whole.state()),
+            "seed {seed}"
+        );
+        assert_eq!(trays.cards.taken(), whole.trays().cards.taken(), "seed {seed}");
+        assert_eq!(lines, whole.trays().lines.bytes(), "seed {seed}");
+        ended += 1;
+        used_in_both += u32::from(used > 0 && trays.cards.taken() + lines.len() > used);
+    }
+    assert!(ended > 1_000 && used_in_both > 50, "{ended}, {used_in_both}");
+}
+
+/// A run that ran out of cards or of room goes on where more is lent.
+#[test]
+fn more_cards_and_lines() {
+    let text = b"      READ 1,I\n      PRINT 1,I\n    1 FORMAT(I5)\n      END";
+    let deck = luvinqata::punch(text).expect("short lines");
+    let (_, tables) = common::LEVEL.accept(5, &deck).expect("a right deck");
+    let program = Program::read(tables.to_bytes()).expect("a compiled object");
+    let mut answer = program.start().run(9).expect("a fresh hour");
+    assert_eq!((answer.halt(), answer.steps()), (Halt::RanOut, 1));
+    answer.trays_mut().cards = Cards::new(luvinqata::punch(b"   47").expect("a short line"));
+    let mut answer = answer.resume(9).expect("what a run left");
+    assert_eq!(
+        (answer.halt(), answer.steps(), answer.get("I")),
+        (Halt::RanOut, 2, Some(47))
+    );
+    answer.trays_mut().lines = Lines::with_room(1);
+    let answer = answer.resume(9).expect("what a run left");
+    assert_eq!((answer.halt(), answer.steps()), (Halt::End, 2));
+    assert!(answer.trays().lines.iter().eq(["   47"]));
 }

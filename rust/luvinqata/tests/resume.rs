@@ -4,7 +4,7 @@ mod common;
 
 use independent::check::{judge, open};
 use independent::generate::{self, Rng};
-use independent::State;
+use independent::{Level, State};
 
 const RUNS: u64 = 4_000;
 
@@ -13,7 +13,7 @@ fn runs_split_anywhere() {
     let (mut splits, mut halted) = (0, 0);
     for seed in 0..RUNS {
         let mut rng = Rng::new(seed);
-        let object = common::object(&mut rng);
+        let object = common::object(Level::Base, &mut rng);
         let Ok(tables) = open(&object) else { continue };
         let Ok(heights) = judge(&tables) else { continue };
         let start = generate::store(&mut rng, tables.k, tables.cells as usize);

@@ -2,7 +2,11 @@
 #![allow(dead_code)]
 
 use independent::generate::{self, Rng};
-use independent::{Ran, Refusal, State};
+use independent::{Lent, Level, Ran, Refusal, State};
+use luvinqata::Trays;
+
+/// The requests whose objects the archive takes. It compiles as the base does.
+pub const LEVEL: Level = Level::Cards;
 
 pub fn compile(k: u32, deck: &[u8], output: &mut [u8]) -> Result<usize, Refusal> {
     luvinqata::compile(k, deck, output).map_err(refusal)
@@ -13,11 +17,38 @@ pub fn check(object: &[u8]) -> Result<(), Refusal> {
 }
 
 pub fn run(object: &[u8], store: &mut [i64], state: &mut State, allowance: u32) -> Result<Ran, Refusal> {
-    lend(state, |lent| luvinqata::run(object, store, lent, allowance))
+    run_with(object, store, state, &mut Trays::empty(), allowance)
+}
+
+pub fn run_with(
+    object: &[u8],
+    store: &mut [i64],
+    state: &mut State,
+    trays: &mut Trays,
+    allowance: u32,
+) -> Result<Ran, Refusal> {
+    lend(state, |lent| luvinqata::run_with(object, store, lent, trays, allowance))
 }
 
 pub fn bench(object: &[u8], store: &mut [i64], state: &mut State, allowance: u32) -> Result<Ran, Refusal> {
-    lend(state, |lent| luvinqata::bench(object, store, lent, allowance))
+    bench_with(object, store, state, &mut Trays::empty(), allowance)
+}
+
+pub fn bench_with(
+    object: &[u8],
+    store: &mut [i64],
+    state: &mut State,
+    trays: &mut Trays,
+    allowance: u32,
+) -> Result<Ran, Refusal> {
+    lend(state, |lent| {
+        luvinqata::bench_with(object, store, lent, trays, allowance)
+    })
+}
+
+/// Whether as many cards are taken, and the same lines written.
+pub fn used_alike(trays: &Trays, lent: &Lent) -> bool {
+    trays.cards.taken() == lent.taken() && trays.lines.bytes() == lent.lines().concat()
 }
 
 pub fn map(object: &[u8], table: &mut [u8]) -> Result<usize, Refusal> {
@@ -64,22 +95,22 @@ pub fn number_of(reason: &str) -> u32 {
 }
 
 /// An object with no damage: sound, made of random tables (which may pass or not), or compiled.
-pub fn object(rng: &mut Rng) -> Vec<u8> {
+pub fn object(level: Level, rng: &mut Rng) -> Vec<u8> {
     match rng.below(10) {
-        0..=2 => generate::sound_object(rng),
-        3..=5 => generate::made_object(rng),
-        _ => compiled(rng),
+        0..=2 => generate::sound_object_at(level, rng),
+        3..=5 => generate::made_object_at(level, rng),
+        _ => compiled(level, rng),
     }
 }
 
-fn compiled(rng: &mut Rng) -> Vec<u8> {
+fn compiled(level: Level, rng: &mut Rng) -> Vec<u8> {
     let made = match rng.below(20) {
         0 => generate::limit_deck(rng),
-        _ => generate::ordinary_deck(rng),
+        _ => generate::ordinary_deck_at(level, rng),
     };
-    let mut out = vec![0; 60_000];
-    match independent::compile(made.k, &made.deck, &mut out) {
+    let mut out = vec![0; level.edition().longest()];
+    match level.compile(made.k, &made.deck, &mut out) {
         Ok(length) => out[..length].to_vec(),
-        Err(_) => generate::sound_object(rng),
+        Err(_) => generate::sound_object_at(level, rng),
     }
 }
