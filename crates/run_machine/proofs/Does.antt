@@ -14,13 +14,12 @@ use lib.Signed.{leZ}
 use Rattle.number.specs.Number.{Rule, Op, add, sub, mul, div, Result, value, trouble, apply}
 use Rattle.number.proofs.Laws.{ResultFits, apply-fits, neg-fits}
 use Rattle.rules_shared.specs.Runs.{go, halt}
-use Rattle.rules_formats.specs.Format.{Flat}
 use Rattle.rules_formats.specs.Walk.{Devices}
 use Rattle.rules_object.specs.Halts.{Halt, atStop, atEnd, badSubscript, badExit, badParameter, haltNumber, Out}
 use Rattle.rules_shared.specs.Choose as choose
 use Rattle.rules_shared.specs.Choose.{sign3, exit, positive, allPositive, again, over, turn, marked}
 use Rattle.rules_object.specs.Object.{Element, Loop}
-use Rattle.rules_object.specs.Operations.{Listed, Instr, HLT, CON, LOD, STO, LDE, STE, OP, NEG, JMP, BR3, BRC, DOI, DOE, READ, PRINT, pops, pushes}
+use Rattle.rules_object.specs.Operations.{Instr, HLT, CON, LOD, STO, LDE, STE, OP, NEG, JMP, BR3, BRC, DOI, DOE, READ, PRINT, pops, pushes}
 use Rattle.rules_object.specs.Machine.{State, cell, top, under, placeOf, act}
 use Rattle.rules_object.proofs.States.{state}
 use Rattle.rules_object.specs.Machine as book
@@ -31,6 +30,7 @@ use Rattle.run_registers.specs.declared.Turn.the-variants.{Next, Halt as Halts,
 use Rattle.run_registers.specs.Registers.{regs, stateOf}
 use Rattle.run_arithmetic.specs.Performed.{After, next, stopped, pushed, popped, joined, loaded, put, branched, begun, turned, ended, performed}
 use Rattle.run_subscripts.proofs.Laws.{place-below}
+use Rattle.run_machine.specs.Running.{IsTransfer, a-read, a-print}
 use Rattle.run_machine.proofs.Places.{tops, tops-is, tops-other, tops-push, under-tops, top-tops, zero-set, small-set}
 
 -- ---- a height, places and a store
@@ -42,11 +42,6 @@ pub record Sound (cells p h : ℕ) (st so : List ℤ) : Type 0 where
   pub stack : (i : ℕ) → natAbs (cell st i) < p
   pub long : cells ≤ length so
   pub store : (a : ℕ) → a < cells → natAbs (cell so a) < p
-
--- a READ or PRINT
-pub data IsTransfer : Instr → Type 0 where
-  a-read : (n : ℕ) (f : Flat) (list : List Listed) → IsTransfer (READ n f list)
-  a-print : (n : ℕ) (f : Flat) (list : List Listed) → IsTransfer (PRINT n f list)
 
 -- Both go on, to the same state, or both halt, where they were, by the same number; or nothing is done yet, of an instruction that is X.
 abbrev pub Did : Type 0 → ℕ → ℕ → List ℤ → List ℤ → State → Turn → List ℤ → List ℤ → Out State → Type 0

@@ -1,4 +1,4 @@
--- A run, turn by turn: what the loop keeps. Assumes nothing.
+-- A run, from one READ or PRINT to the next: what the loop keeps. Assumes nothing.
 use mathlib.Core.Path.{_≡_, refl, sym, ap, ap₂, _∙_, subst}
 use mathlib.Core.Bool.{Bool, false}
 use mathlib.Core.Logic.{_⊎_, inl, inr}
@@ -13,34 +13,29 @@ use Rattle.rules_formats.specs.Walk.{Trays, Devices, devicesOf}
 use Rattle.rules_object.specs.Halts.{haltNumber, Out}
 use Rattle.rules_object.specs.Object.{Object, ruleOf}
 use Rattle.rules_object.specs.Operations.{operationOf, instruction}
-use Rattle.rules_object.specs.Machine.{State, goingTo, next, withStore, withDevices, haltIn, act, step, benchStep}
+use Rattle.rules_object.specs.Machine.{State, goingTo, next, withStore, withDevices, haltIn, step, benchStep}
 use Rattle.rules_object.specs.Calls.{taken, ran, halted, runFrom}
-use Rattle.rules_object.specs.Safe.{Right, Faultless}
+use Rattle.rules_object.specs.Safe.{Faultless}
 use Rattle.object_contents.specs.declared.Layout.{Layout}
 use Rattle.object_contents.specs.Layout.{objectAt}
+use Rattle.object_contents.proofs.Entries.{code-length}
 use Rattle.run_registers.specs.declared.Regs.{Regs}
-use Rattle.run_registers.specs.declared.Turn.the-variants.{Next, Halt, Transfer}
 use Rattle.run_registers.specs.Registers.{onward, stateOf}
 use Rattle.run_registers.specs.Devices.{traysOf, devicesIn, Counted}
 use Rattle.run_registers.proofs.DeviceLaws.{devices-begin, counted-begin, counted-on, cards-taken, lines-written, lines-after}
-use Rattle.run_arithmetic.specs.Performed.{After, performed}
 use Rattle.run_operations.specs.Ready.{Held}
-use Rattle.run_machine.proofs.Places.{tops-is, length-tops, given-back}
-use Rattle.run_machine.specs.declared.Ran.{Ran}
-use Rattle.run_transfers.specs.declared.Transferred.{Transferred}
-use Rattle.run_transfers.specs.Transfers.{Ready, Moved, Transfers}
-use Rattle.object_contents.proofs.Entries.{code-length}
 use Rattle.run_guards.specs.Guarding.{wordOf, guardOf}
 use Rattle.run_guards.proofs.Guards.{word-in-table}
-use Rattle.run_machine.specs.Running.{answer}
-use Rattle.run_machine.proofs.Does.{Sound, IsTransfer, Did, DidAll}
-use Rattle.run_machine.proofs.Performs.{performs, held-sound, sound-held}
+use Rattle.run_transfers.specs.declared.Transferred.{Transferred}
+use Rattle.run_transfers.specs.Transfers.{Ready, Moved, Transfers}
+use Rattle.run_machine.specs.declared.Ran.{Ran}
+use Rattle.run_machine.specs.Running.{answer, Rights, IsTransfer}
+use Rattle.run_machine.proofs.Places.{given-back}
+use Rattle.run_machine.proofs.Does.{Sound}
+use Rattle.run_machine.proofs.Performs.{held-sound, sound-held}
+use Rattle.run_machine.proofs.Passes.{guard-passes}
+use Rattle.run_machine.proofs.Stepping.{rights-on, bench-step}
 use Rattle.run_machine.proofs.Transferring.{transfer-number, transfer-keeps, moved-on, moved-not}
-use Rattle.run_machine.proofs.Passes.{guard-passes, passes-ready, instruction-is, guard-none, guard-stops, right-guard}
-
--- at every state of the unguarded run from t the instruction can be done
-abbrev pub Rights : Object → State → Type 0
-Rights o t = (n : ℕ) (u : State) → run (step o) n t ≡ go u → Right o u
 
 -- one run's answer, as the code has it
 abbrev pub ranAs : ℕ → ℕ → Regs → ℕ → ℕ → Ran
@@ -49,9 +44,6 @@ ranAs h n r taken written = record { halt = h; steps = n; regs = r; taken = take
 module _ (e : Layout) (s : List ℕ) (k : Rule) where
   abbrev o : Object
   o = objectAt e s
-
-  abbrev f : State → Out State
-  f = benchStep o
 
   module _ (r : Regs) (st so : List ℤ) (held : Held e s k r st so) where
     -- the book's answer, where the run is at such a state
@@ -66,70 +58,6 @@ module _ (e : Layout) (s : List ℕ) (k : Rule) where
         let e₄ = sym (lines-after trays taken lines written c) in
         let z : answer o (ranAs h n r taken written) st so lines ≡ halted h n o trays (stateOf r st so v) = cc in
         z
-
-  module _ (r : Regs) (st so : List ℤ) (v : Devices) (held : Held e s k r st so) where
-    abbrev t : State
-    t = stateOf r st so v
-
-    pub height-is : length (t .stack) ≡ r .height
-    unfolding taken
-    height-is = ap length (tops-is (r .height) st (omega (arith, held .low, held .forty))) ∙ length-tops (r .height) st
-
-    pub guard-at : guardOf o (r .index) (r .height) ≡ guardOf o (t .index) (length (t .stack))
-    unfolding taken
-    guard-at = ap (guardOf o (r .index)) (sym height-is)
-
-    pub rights-guard : Rights o t → guardOf o (r .index) (r .height) ≡ 0
-    rights-guard w = guard-at ∙ right-guard o t (w 0 t refl)
-
-    pub rights-on : (u : State) → step o t ≡ go u → Rights o t → Rights o u
-    rights-on u q w n u′ x = w (suc n) u′ (ap (λ y. then y (λ v. run (step o) n v)) q ∙ x)
-
-    -- a step as the code does it, and the book's
-    module _ (zero-guard : guardOf o (r .index) (r .height) ≡ 0) (a : After) (is : a ≡ performed (ruleOf o) (instruction o (r .index)) r st so) where
-      abbrev C : ℕ
-      C = ruleOf o .ceiling
-
-      abbrev X : Type 0
-      X = IsTransfer (instruction o (r .index))
-
-      pub bench-step : f t ≡ step o t
-      bench-step = guard-none o t (sym guard-at ∙ zero-guard)
-
-      did : DidAll X (e .cells) C st so t a (step o t)
-      unfolding step taken
-      did =
-          let i = r .index in
-          let w = wordOf o i in
-          let d = performs e s k r st so held v _ _ (passes-ready o i (r .height) w _ _ (guard-passes o i (r .height) zero-guard) refl refl refl) in
-          let q = instruction-is o i w _ _ refl refl refl in
-          subst (λ b. DidAll X (e .cells) C st so t b (step o t)) (sym is)
-          (subst (λ n. DidAll (IsTransfer n) (e .cells) C st so t (performed (ruleOf o) n r st so) (act (ruleOf o) n t)) q d)
-
-      module _ (q : Regs) (goes : a .turn ≡ Next q) where
-        on : (b : Out State) → step o t ≡ b → Did X (e .cells) C st so t (Next q) (a .places) (a .store) b
-            → (Held e s k q (a .places) (a .store) × (length (a .store) ≡ length so)) × (step o t ≡ go (stateOf q (a .places) (a .store) v))
-        unfolding taken
-        on (go u) x d = ((sound-held e s k r st so held q (a .places) (a .store) (d .0 .0), d .0 .1), x ∙ ap go (sym (d .1)))
-        on (halt h u) x d = absurd d
-
-        pub goes-on : (Held e s k q (a .places) (a .store) × (length (a .store) ≡ length so)) × (step o t ≡ go (stateOf q (a .places) (a .store) v))
-        goes-on = on (step o t) refl (subst (λ y. Did X (e .cells) C st so t y (a .places) (a .store) (step o t)) goes did)
-
-      module _ (n : ℕ) (stops : a .turn ≡ Halt n) where
-        off : (b : Out State) → step o t ≡ b → Did X (e .cells) C st so t (Halt n) (a .places) (a .store) b
-            → ((a .places ≡ st) × (a .store ≡ so)) × ((h : _) × ((step o t ≡ halt h t) × (n ≡ haltNumber h)))
-        off (go u) x d = absurd d
-        off (halt h u) x d = (d .0, (h, (x ∙ ap (halt h) (d .1 .1), d .1 .0)))
-
-        pub stops-there : ((a .places ≡ st) × (a .store ≡ so)) × ((h : _) × ((f t ≡ halt h t) × (n ≡ haltNumber h)))
-        stops-there =
-            let d = off (step o t) refl (subst (λ y. Did X (e .cells) C st so t y (a .places) (a .store) (step o t)) stops did) in
-            (d .0, (d .1 .0, (bench-step ∙ d .1 .1 .0, d .1 .1 .1)))
-
-      -- a READ or PRINT, of which nothing is done yet
-      pub left-over : a .turn ≡ Transfer → X × ((a .places ≡ st) × (a .store ≡ so))
-      left-over q = subst (λ y. Did X (e .cells) C st so t y (a .places) (a .store) (step o t)) q did
 
 -- ---- the loop's invariant
 
@@ -175,9 +103,6 @@ module _ (guarded : Bool) (e : Layout) (s : List ℕ) (k : Rule) (allowance : �
     abbrev u : State
     u = stateOf r st so v
 
-    pub guard-is : guarded ≡ false → guardOf O (r .index) (r .height) ≡ 0
-    guard-is q = rights-guard e s k r st so v (g .held) (g .rights q)
-
     -- what is lent for lines as it is now
     pub counted-now : Counted (traysOf (trays .cards) lines) taken lines written
     counted-now = record { cards = g .counted .cards; room = g .counted .room; long = refl; rest = refl }
@@ -195,7 +120,7 @@ module _ (guarded : Bool) (e : Layout) (s : List ℕ) (k : Rule) (allowance : �
       one = omega arith
 
       -- one step halts the run; cards and lines are as they were
-      ends : (x : _) (n : ℕ) → F u ≡ halt x u → n ≡ haltNumber x → (taken′ : ℕ) (lines′ : List ℕ) (written′ : ℕ) → Counted trays taken′ lines′ written′ → devicesIn (trays .cards) taken′ lines′ written′ ≡ v
+      pub ends : (x : _) (n : ℕ) → F u ≡ halt x u → n ≡ haltNumber x → (taken′ : ℕ) (lines′ : List ℕ) (written′ : ℕ) → Counted trays taken′ lines′ written′ → devicesIn (trays .cards) taken′ lines′ written′ ≡ v
           → answer O (ranAs n (i + 1) r taken′ written′) st so lines′ ≡ runFrom O trays F allowance t₀
       ends x n b q taken′ lines′ written′ c w =
           let d : i + 1 ≡ i + suc zero = omega arith in
@@ -205,102 +130,80 @@ module _ (guarded : Bool) (e : Layout) (s : List ℕ) (k : Rule) (allowance : �
           ∙ ap₂ (λ k d. halted k (i + 1) O trays (stateOf r st so d)) q w
           ∙ ap₂ (λ k b. ran O trays k b) count left
 
-      ends-here : (x : _) (n : ℕ) → F u ≡ halt x u → n ≡ haltNumber x → answer O (ranAs n (i + 1) r taken written) st so lines ≡ runFrom O trays F allowance t₀
-      ends-here x n b q = ends x n b q taken lines written (g .counted) refl
-
-      pub guard-ends : (n : ℕ) → n ≡ guardOf O (r .index) (r .height) → (n ≡ 0 → ⊥) → answer O (ranAs n (i + 1) r taken written) st so lines ≡ runFrom O trays F allowance t₀
-      guard-ends n a b = let x = guard-stops O u n (a ∙ guard-at e s k r st so v (g .held)) b in ends-here (x .0) n (x .1 .0) (x .1 .1)
-
-      module _ (z : guardOf O (r .index) (r .height) ≡ 0) (a : After) (is : a ≡ performed (ruleOf O) (instruction O (r .index)) r st so) where
+      module _ (z : guardOf O (r .index) (r .height) ≡ 0) (is : IsTransfer (instruction O (r .index))) where
         -- one step more
         goes-to : (q : Regs) (st′ so′ : List ℤ) (taken′ : ℕ) (lines′ : List ℕ) (written′ : ℕ) → Held e s k q st′ so′ → length so′ ≡ length so → Counted trays taken′ lines′ written′
             → step O u ≡ go (stateOf q st′ so′ (devicesIn (trays .cards) taken′ lines′ written′))
             → Going guarded e s k allowance start st₀ so₀ trays q st′ so′ taken′ lines′ written′ (i + 1)
         goes-to q st′ so′ taken′ lines′ written′ h n c x =
             let w = stateOf q st′ so′ (devicesIn (trays .cards) taken′ lines′ written′) in
-            let y : F u ≡ go w = bench-step e s k r st so v (g .held) z a is ∙ x in
+            let y : F u ≡ go w = bench-step e s k r st so v (g .held) z ∙ x in
             let rest = allowance - (i + 1) in
             let m : i + suc (steps F rest w) ≡ i + 1 + steps F rest w = omega arith in
             record {
               most = omega arith;
               held = h;
               counted = c;
-              rights = λ q. rights-on e s k r st so v (g .held) w x (g .rights q);
+              rights = λ q. rights-on O u w x (g .rights q);
               long = n ∙ g .long;
               left = g .left ∙ ap (λ j. run F j u) (sym one) ∙ ap (λ c. then c (λ w. run F rest w)) y;
               count = g .count ∙ ap (λ j. i + steps F j u) (sym one) ∙ ap (λ c. i + suc (stepsFrom c (λ w. steps F rest w))) y ∙ m;
             }
 
-        pub goes : (q : Regs) → a .turn ≡ Next q → Going guarded e s k allowance start st₀ so₀ trays q (a .places) (a .store) taken lines written (i + 1)
-        goes q b = let x = goes-on e s k r st so v (g .held) z a is q b in goes-to q (a .places) (a .store) taken lines written (x .0 .0) (x .0 .1) (g .counted) (x .1)
+        pub ready : (kept : List ℤ) → (0 < e .«transfer_count» → e .cells ≤ length kept) → Ready e s k (r .index) so kept
+        unfolding operationOf
+        ready kept room =
+            let h = g .held in
+            let p = guard-passes O (r .index) (r .height) z in
+            record {
+              placed = h .placed;
+              right = h .right;
+              rule = h .rule;
+              inside = omega (arith, p .inside, code-length e s);
+              is = either (transfer-number is) (word-in-table O (wordOf O (r .index)) (p .operand) .1);
+              operand = p .operand;
+              entry = p .entry;
+              long = h .long;
+              fit = h .store;
+              room = room;
+            }
+          where
+            either : {n m : ℕ} → (n ≡ 16) ⊎ (n ≡ 17) → n ≡ m → (m ≡ 16) ⊎ (m ≡ 17)
+            either (inl p) q = inl (sym q ∙ p)
+            either (inr p) q = inr (sym q ∙ p)
 
-        pub stops : (n : ℕ) → a .turn ≡ Halt n → answer O (ranAs n (i + 1) r taken written) (a .places) (a .store) lines ≡ runFrom O trays F allowance t₀
-        stops n b =
-            let x = stops-there e s k r st so v (g .held) z a is n b in
-            ap₂ (λ p c. answer O (ranAs n (i + 1) r taken written) p c lines) (x .0 .0) (x .0 .1) ∙ ends-here (x .1 .0) n (x .1 .1 .0) (x .1 .1 .1)
+        module _ (m : Transferred) (so′ : List ℤ) (lines′ : List ℕ) (tr : Transfers O (r .index) so (trays .cards) taken lines written m so′ lines′) where
+          abbrev v′ : Devices
+          v′ = devicesIn (trays .cards) (m .taken) lines′ (m .written)
 
-        -- ---- a READ or PRINT
+          counted′ : Counted trays (m .taken) lines′ (m .written)
+          counted′ = counted-on trays taken lines written (g .counted) (m .taken) lines′ (m .written) (tr .counted) (tr .onward)
 
-        module _ (b : a .turn ≡ Transfer) where
-          over : IsTransfer (instruction O (r .index)) × ((a .places ≡ st) × (a .store ≡ so))
-          over = left-over e s k r st so v (g .held) z a is b
+          outcome : Moved (m .halt) u so′ v′ (step O u)
+          unfolding taken
+          outcome = tr .is u refl refl refl
 
-          pub ready : (kept : List ℤ) → (0 < e .«transfer_count» → e .cells ≤ length kept) → Ready e s k (r .index) (a .store) kept
-          unfolding operationOf
-          ready kept room =
+          -- the state after it
+          after-is : next (withDevices v′ (withStore so′ u)) ≡ stateOf (onward (r .height) r) st so′ v′
+          unfolding taken
+          after-is = let j : suc (r .index) ≡ r .index + 1 = omega arith in ap (λ n. goingTo n (withDevices v′ (withStore so′ u))) j
+
+          pub transfer-goes : m .halt ≡ 0 → Going guarded e s k allowance start st₀ so₀ trays (onward (r .height) r) st so′ (m .taken) lines′ (m .written) (i + 1)
+          unfolding taken step
+          transfer-goes q =
+              let x = moved-on outcome q ∙ ap go after-is in
               let h = g .held in
-              let p = guard-passes O (r .index) (r .height) z in
-              subst (λ c. Ready e s k (r .index) c kept) (sym (over .1 .1))
-              (record {
-                placed = h .placed;
-                right = h .right;
-                rule = h .rule;
-                inside = omega (arith, p .inside, code-length e s);
-                is = either (transfer-number (over .0)) (word-in-table O (wordOf O (r .index)) (p .operand) .1);
-                operand = p .operand;
-                entry = p .entry;
-                long = h .long;
-                fit = h .store;
-                room = room;
-              })
-            where
-              either : {n m : ℕ} → (n ≡ 16) ⊎ (n ≡ 17) → n ≡ m → (m ≡ 16) ⊎ (m ≡ 17)
-              either (inl p) q = inl (sym q ∙ p)
-              either (inr p) q = inr (sym q ∙ p)
+              let y = held-sound e s k r st so h in
+              let c = transfer-keeps (ruleOf O) (e .cells) (length so) (instruction O (r .index)) is u (refl, y .store) _ x in
+              let w : Sound (e .cells) (ruleOf O .ceiling) (r .height) st so′ = record { low = y .low; forty = y .forty; clean = y .clean; stack = y .stack; long = omega (arith, c .0, y .long); store = c .1 } in
+              goes-to (onward (r .height) r) st so′ (m .taken) lines′ (m .written) (sound-held e s k r st so h (onward (r .height) r) st so′ w) (c .0) counted′ x
 
-          module _ (m : Transferred) (so′ : List ℤ) (lines′ : List ℕ) (tr : Transfers O (r .index) (a .store) (trays .cards) taken lines written m so′ lines′) where
-            abbrev v′ : Devices
-            v′ = devicesIn (trays .cards) (m .taken) lines′ (m .written)
-
-            counted′ : Counted trays (m .taken) lines′ (m .written)
-            counted′ = counted-on trays taken lines written (g .counted) (m .taken) lines′ (m .written) (tr .counted) (tr .onward)
-
-            outcome : Moved (m .halt) u so′ v′ (step O u)
-            unfolding taken
-            outcome = tr .is u refl (sym (over .1 .1)) refl
-
-            -- the state after it
-            after-is : next (withDevices v′ (withStore so′ u)) ≡ stateOf (onward (r .height) r) st so′ v′
-            unfolding taken
-            after-is = let j : suc (r .index) ≡ r .index + 1 = omega arith in ap (λ n. goingTo n (withDevices v′ (withStore so′ u))) j
-
-            pub transfer-goes : m .halt ≡ 0 → Going guarded e s k allowance start st₀ so₀ trays (onward (r .height) r) (a .places) so′ (m .taken) lines′ (m .written) (i + 1)
-            unfolding taken step
-            transfer-goes q =
-                let x = moved-on outcome q ∙ ap go after-is in
-                let h = g .held in
-                let y = held-sound e s k r st so h in
-                let c = transfer-keeps (ruleOf O) (e .cells) (length so) (instruction O (r .index)) (over .0) u (refl, y .store) _ x in
-                let w : Sound (e .cells) (ruleOf O .ceiling) (r .height) st so′ = record { low = y .low; forty = y .forty; clean = y .clean; stack = y .stack; long = omega (arith, c .0, y .long); store = c .1 } in
-                subst (λ p. Going guarded e s k allowance start st₀ so₀ trays (onward (r .height) r) p so′ (m .taken) lines′ (m .written) (i + 1)) (sym (over .1 .0))
-                (goes-to (onward (r .height) r) st so′ (m .taken) lines′ (m .written) (sound-held e s k r st so h (onward (r .height) r) st so′ w) (c .0) counted′ x)
-
-            pub transfer-stops : (m .halt ≡ 0 → ⊥) → answer O (ranAs (m .halt) (i + 1) r (m .taken) (m .written)) (a .places) so′ lines′ ≡ runFrom O trays F allowance t₀
-            unfolding taken
-            transfer-stops q =
-                let x = moved-not outcome q in
-                ap₂ (λ p c. answer O (ranAs (m .halt) (i + 1) r (m .taken) (m .written)) p c lines′) (over .1 .0) (x .store)
-                ∙ ends (haltIn (x .trouble)) (m .halt) (bench-step e s k r st so v (g .held) z a is ∙ x .is) (x .number) (m .taken) lines′ (m .written) counted′ (x .devices)
+          pub transfer-stops : (m .halt ≡ 0 → ⊥) → answer O (ranAs (m .halt) (i + 1) r (m .taken) (m .written)) st so′ lines′ ≡ runFrom O trays F allowance t₀
+          unfolding taken
+          transfer-stops q =
+              let x = moved-not outcome q in
+              ap (λ c. answer O (ranAs (m .halt) (i + 1) r (m .taken) (m .written)) st c lines′) (x .store)
+              ∙ ends (haltIn (x .trouble)) (m .halt) (bench-step e s k r st so v (g .held) z ∙ x .is) (x .number) (m .taken) lines′ (m .written) counted′ (x .devices)
 
 -- ---- a run of an object that passes is its bench run
 

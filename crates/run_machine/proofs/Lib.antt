@@ -2,7 +2,10 @@ pub mod Places
 pub mod Does
 pub mod Performs
 pub mod Passes
+pub mod Stepping
+pub mod Pausing
 pub mod Transferring
 pub mod Going
+pub mod Rounds
 pub mod Sequences
 pub mod Starts

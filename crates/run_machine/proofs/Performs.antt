@@ -11,7 +11,6 @@ use borrow.Author.Tests.{ltb-true, leb-true}
 use Rattle.number.specs.declared.Rule.{Rule}
 use Rattle.number.specs.Number as numbers
 use Rattle.number.proofs.Laws.{fits-yes}
-use Rattle.rules_shared.specs.Choose as choose
 use Rattle.rules_formats.specs.Walk.{Devices}
 use Rattle.rules_object.specs.Object.{Element, Loop, Object, ruleOf}
 use Rattle.rules_object.specs.Check.{rightConstant, rightElement, rightLoop}
@@ -26,7 +25,8 @@ use Rattle.run_arithmetic.specs.Performed.{performed}
 use Rattle.run_operations.specs.Ready.{Held, Ready}
 use Rattle.run_subscripts.proofs.Laws.{apart}
 use Rattle.run_operations.proofs.Known.{both}
-use Rattle.run_machine.proofs.Does.{Sound, IsTransfer, DidAll, Good, does}
+use Rattle.run_machine.specs.Running.{IsTransfer}
+use Rattle.run_machine.proofs.Does.{Sound, DidAll, Good, does}
 
 -- ---- an instruction that is ready is right
 

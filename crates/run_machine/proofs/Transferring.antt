@@ -17,8 +17,8 @@ use Rattle.rules_object.specs.Halts.{haltNumber, Out}
 use Rattle.rules_object.specs.Operations.{Instr, operationNumber}
 use Rattle.rules_object.specs.Machine.{State, cell, next, withStore, withDevices, Spot, spots, spotCell, storeWith, spotGet, spotSet, haltIn, wasPrinted, wasRead, act}
 use Rattle.run_transfers.specs.Transfers.{Moved, done, not-done}
+use Rattle.run_machine.specs.Running.{IsTransfer, a-read, a-print}
 use Rattle.run_machine.proofs.Places.{small-set}
-use Rattle.run_machine.proofs.Does.{IsTransfer, a-read, a-print}
 
 pub transfer-number : {n : Instr} → IsTransfer n → (operationNumber n ≡ 16) ⊎ (operationNumber n ≡ 17)
 transfer-number (a-read n f list) = inl refl

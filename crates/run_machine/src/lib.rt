@@ -1,4 +1,4 @@
-// The run of an object: a step, and the one loop of a run and a bench run.
+// The run of an object: a step, and the loops of a run and a bench run.
 ghost use mathlib.Core.Path.{_≡_};
 ghost use mathlib.Core.Bool.{false};
 ghost use Prim.Native.Nat.{_≤_, _<_};
@@ -16,7 +16,7 @@ ghost use Rattle.run_registers.specs.Devices.{traysOf};
 ghost use Rattle.run_arithmetic.specs.Performed.{after, performed};
 ghost use Rattle.run_operations.specs.Ready.{Held};
 ghost use Rattle.run_guards.specs.Guarding.{guardOf, Sees};
-ghost use Rattle.run_machine.specs.Running.{answer};
+ghost use Rattle.run_machine.specs.Running.{answer, NoFault, Pauses};
 use limits::CELLS;
 use limits::CODE;
 use limits::STACK;
@@ -33,6 +33,23 @@ pub struct Ran {
     pub regs: Regs,
     pub taken: usize,
     pub written: usize,
+}
+
+// How the steps up to a READ or PRINT end.
+enum Pause {
+    // the allowance is used
+    Used,
+    // the last step halted
+    Halted(u32),
+    // the last step is a READ or PRINT, which is not done here
+    Transfer,
+}
+
+// With the steps taken, the last of them counted.
+struct Paused {
+    pause: Pause,
+    steps: u32,
+    regs: Regs,
 }
 
 // One instruction, where the guard finds nothing wrong.
@@ -54,7 +71,64 @@ fn step(
     run_operations::perform(object_words::operation(w), x, o, e, rule, r, stack, store)
 }
 
-// The one loop. Only one call of `step` keeps it inlined. READ keeps the cells in `kept`.
+// The one loop over single steps, which has no READ or PRINT in it and so is fast. Only one call of `step` keeps it inlined.
+fn until_transfer(
+    guarded: bool,
+    o: &[u8],
+    e: Layout,
+    rule: Rule,
+    start: Regs,
+    stack: &mut [i64; STACK],
+    store: &mut [i64],
+    allowance: u32,
+    seen: &mut Seen,
+) -> Paused
+    requires { ⌜ Held e (now o) rule start (now stack) (now store) ⌝ }
+    requires { ⌜ (guarded ≡ false → NoFault (objectAt e (now o)) start (now stack) (now store)) ⌝ }
+    requires { ⌜ Sees (objectAt e (now o)) (now seen) ⌝ }
+    ensures { λ q. ⌜ Pauses e (now (o .entry)) rule allowance start (now (stack .entry)) (now (store .entry)) q (now (stack .exit)) (now (store .exit)) × Sees (objectAt e (now (o .entry))) (now (seen .exit)) ⌝ }
+{
+    let mut r = start;
+    let mut steps: u32 = 0;
+    while steps < allowance {
+        let g = run_guards::test(guarded, o, e, rule, r, seen);
+        steps = steps + 1;
+        if g != 0 {
+            return Paused {
+                pause: Pause::Halted(g),
+                steps: steps,
+                regs: r,
+            };
+        }
+        let t = step(o, e, rule, r, stack, store);
+        match t {
+            Turn::Next(q) => {
+                r = q;
+            }
+            Turn::Halt(h) => {
+                return Paused {
+                    pause: Pause::Halted(h),
+                    steps: steps,
+                    regs: r,
+                };
+            }
+            Turn::Transfer => {
+                return Paused {
+                    pause: Pause::Transfer,
+                    steps: steps,
+                    regs: r,
+                };
+            }
+        }
+    }
+    Paused {
+        pause: Pause::Used,
+        steps: steps,
+        regs: r,
+    }
+}
+
+// The whole run, from one READ or PRINT to the next. READ keeps the cells in `kept`.
 fn turns(
     guarded: bool,
     o: &[u8],
@@ -79,24 +153,23 @@ fn turns(
     let mut steps: u32 = 0;
     let mut taken: usize = 0;
     let mut written: usize = 0;
-    while steps < allowance {
-        let g = run_guards::test(guarded, o, e, rule, r, seen);
-        steps = steps + 1;
-        if g != 0 {
-            return Ran {
-                halt: g,
-                steps: steps,
-                regs: r,
-                taken: taken,
-                written: written,
-            };
-        }
-        let t = step(o, e, rule, r, stack, store);
-        match t {
-            Turn::Next(q) => {
-                r = q;
+    loop {
+        let left = allowance - steps;
+        let p = until_transfer(guarded, o, e, rule, r, stack, store, left, seen);
+        steps = steps + p.steps;
+        r = p.regs;
+        let pause = p.pause;
+        match pause {
+            Pause::Used => {
+                return Ran {
+                    halt: 2,
+                    steps: steps,
+                    regs: r,
+                    taken: taken,
+                    written: written,
+                };
             }
-            Turn::Halt(h) => {
+            Pause::Halted(h) => {
                 return Ran {
                     halt: h,
                     steps: steps,
@@ -105,7 +178,7 @@ fn turns(
                     written: written,
                 };
             }
-            Turn::Transfer => {
+            Pause::Transfer => {
                 let m = run_transfers::transfer(
                     o,
                     e,
@@ -132,13 +205,6 @@ fn turns(
                 r = run_registers::onward(r, r.height);
             }
         }
-    }
-    Ran {
-        halt: 2,
-        steps: steps,
-        regs: r,
-        taken: taken,
-        written: written,
     }
 }
 
