@@ -17,7 +17,7 @@ use Rattle.rules_object.specs.Operations.{NEG}
 use Rattle.rules_text.specs.Trees.{Statement}
 use Rattle.rules_deck.specs.Deck.{positionOf, Do, dosOf, dimsOf, endingWith, endings}
 use Rattle.rules_deck.specs.Whole.{lastOf}
-use Rattle.rules_deck.specs.Translation.{heldOf, doNumber, words, addressAt}
+use Rattle.rules_deck.specs.Translation.{heldOf, noFormat, doNumber, words, addressAt}
 use Rattle.rules_deck.specs.Accepted.{Among}
 use Rattle.rules_deck.proofs.TestLaws.{clash, at-before}
 use Rattle.rules_deck.proofs.Addresses.{at-some, address-suc, address-most}
@@ -153,7 +153,7 @@ module _ {house : House} {deck : List Statement} {rows : List ℕ} {count : ℕ}
     next-address =
         let a = ap (addressAt deck) (add-one i) ∙ address-suc deck i s e in
         let o = row-own (told .in-rows) i s e in
-        let f = own-length (heldOf deck) (dimsOf deck) (λ m. 0) NEG (s .form) in
+        let f = own-length (heldOf deck) (dimsOf deck) (λ m. 0) (λ m. noFormat) NEG (s .form) in
         let l = ap length ends-are ∙ length-map (endings deck (s .number)) (λ d. doNumber (dosOf deck) (d .position)) in
         omega arith
 

@@ -8,7 +8,7 @@ use mathlib.Core.List.{List, [], _∷_, _++_, map, reverse, reverseAux}
 use mathlib.Core.Option.{some}
 use lib.ListN.{length, take, getD, getElem?, length-append}
 use lib.Seq.{getD-append-add}
-use Rattle.rules_text.specs.Trees.{valueOf, Form, assign, goTo, computed, ifs, loop, continue, stop, end, dimension, Statement, formExits, formLast}
+use Rattle.rules_text.specs.Trees.{valueOf, Form, assign, goTo, computed, ifs, loop, continue, stop, end, dimension, transfer, format, Statement, formExits, formLast, formUses}
 use Rattle.rules_deck.specs.Deck.{Do, doOf, dosFrom}
 use Rattle.rules_deck.specs.Accepted.{Among, here, there}
 use Rattle.rules_deck.proofs.TestLaws.{clash}
@@ -55,7 +55,7 @@ data Brings (q j : ℕ) (f : Form) : Type 0 where
   a-do : (d : Do) → doOf q f ≡ d ∷ [] → loopWords q j f ≡ q ∷ j ∷ [] → jumpWords f ≡ d .last ∷ [] → d .position ≡ q → Brings q j f
 
 brings : (q j : ℕ) (f : Form) → Brings q j f
-unfolding formExits formLast
+unfolding formExits formLast formUses
 brings q j (assign t e) = no-do refl refl
 brings q j (goTo n) = no-do refl refl
 brings q j (computed ns v) = no-do refl refl
@@ -65,6 +65,8 @@ brings q j continue = no-do refl refl
 brings q j stop = no-do refl refl
 brings q j end = no-do refl refl
 brings q j (dimension arrays) = no-do refl refl
+brings q j (transfer d n list) = no-do refl refl
+brings q j (format f) = no-do refl refl
 
 pub do-told : (q j : ℕ) (more : List Statement) (m : ℕ) (x : Do) → getElem? (dosFrom q more) m ≡ some x → DoTold q j more m x
 do-told q j [] m x e = absurd (clash (sym e))

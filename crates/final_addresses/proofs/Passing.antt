@@ -28,7 +28,7 @@ passed-none deck starts l =
           subst (λ (i : ℕ). getD (set starts 0 0) i 0 ≡ addressAt deck i) (sym z) (getD-set-same starts 0 0 0 l ∙ sym (address-zero deck));
     }
 
-less-or-same : (a b : ℕ) → a ≤ b + 1 → (a ≤ b) ⊎ (a ≡ b + 1)
+pub less-or-same : (a b : ℕ) → a ≤ b + 1 → (a ≤ b) ⊎ (a ≡ b + 1)
 less-or-same zero b h = inl (omega arith)
 less-or-same (suc a) zero h = inr (omega arith)
 less-or-same (suc a) (suc b) h = go (less-or-same a b (omega arith))

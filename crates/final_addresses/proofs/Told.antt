@@ -3,20 +3,20 @@
 use mathlib.Core.Path.{_≡_, refl, sym, ap, _∙_}
 use Prim.Native.Nat.{ℕ, zero, suc, _+_, _*_, _≤_, _<_}
 use native.Mathlib.Omega.{arith}
-use mathlib.Core.List.{List, [], _∷_, _++_, map}
+use mathlib.Core.List.{List, [], _∷_, _++_}
 use mathlib.Core.Option.{some}
 use lib.ListN.{length, take, getD, getElem?, length-take, List·getD-append}
 use lib.Seq.{getD-take, getD-append-add}
 use Rattle.rules_shared.specs.House.{House}
 use Rattle.rules_object.specs.Operations.{Instr, NEG}
-use Rattle.rules_object.specs.Bytes.{concat}
-use Rattle.rules_text.specs.Trees.{Name, Form, Statement}
+use Rattle.rules_text.specs.Trees.{Name, Digits, Form, Statement}
 use Rattle.rules_deck.specs.Deck.{Dims}
-use Rattle.rules_deck.specs.Translation.{Held, formCode}
+use Rattle.rules_deck.specs.Translation.{Held, heldOf, FormatPlace, noFormat, formCode}
 use Rattle.rules_deck.proofs.TestLaws.{clash, at-before}
 use Rattle.rules_deck.proofs.TableLaws.{form-length}
 use Rattle.take_draft.specs.Names.{dimsHeld}
 use Rattle.take_draft.specs.Draft.{kindOf, jumpWords, ownWords, rowWords}
+use Rattle.take_draft.specs.Sketch.{rowsWith, deckRows}
 use Rattle.final_addresses.specs.Given.{Rows}
 
 -- ---- the length of a list that a table begins with
@@ -29,30 +29,30 @@ begins-at table ws m e i h = sym (getD-take m table i 0 h) ∙ ap (λ (l : List 
 
 -- ---- rows
 
-pub rows-length : (deck : List Statement) → length (concat (map rowWords deck)) ≡ 5 * length deck
-rows-length [] = refl
-rows-length (s ∷ deck) = omega (arith, rows-length deck)
+pub rows-length : (held : List Held) (deck : List Statement) → length (rowsWith held deck) ≡ 5 * length deck
+rows-length held [] = refl
+rows-length held (s ∷ deck) = omega (arith, rows-length held deck)
 
-rows-get : (deck : List Statement) (j : ℕ) (s : Statement) → getElem? deck j ≡ some s → (r : ℕ) → r < 5
-    → getD (concat (map rowWords deck)) (5 * j + r) 0 ≡ getD (rowWords s) r 0
-rows-get [] j s e r h = absurd (clash (sym e))
-rows-get (t ∷ deck) zero s e r h =
+rows-get : (held : List Held) (deck : List Statement) (j : ℕ) (s : Statement) → getElem? deck j ≡ some s → (r : ℕ) → r < 5
+    → getD (rowsWith held deck) (5 * j + r) 0 ≡ getD (rowWords held s) r 0
+rows-get held [] j s e r h = absurd (clash (sym e))
+rows-get held (t ∷ deck) zero s e r h =
     let same : t ≡ s = cc in
     let n : 5 * 0 + r ≡ r = omega arith in
-    ap (λ (i : ℕ). getD (rowWords t ++ concat (map rowWords deck)) i 0) n
-    ∙ List·getD-append (rowWords t) (concat (map rowWords deck)) 0 r h ∙ ap (λ (x : Statement). getD (rowWords x) r 0) same
-rows-get (t ∷ deck) (suc j) s e r h =
+    ap (λ (i : ℕ). getD (rowWords held t ++ rowsWith held deck) i 0) n
+    ∙ List·getD-append (rowWords held t) (rowsWith held deck) 0 r h ∙ ap (λ (x : Statement). getD (rowWords held x) r 0) same
+rows-get held (t ∷ deck) (suc j) s e r h =
     let n : 5 * suc j + r ≡ 5 + (5 * j + r) = omega arith in
-    ap (λ (i : ℕ). getD (rowWords t ++ concat (map rowWords deck)) i 0) n
-    ∙ getD-append-add (rowWords t) (concat (map rowWords deck)) (5 * j + r) 0 ∙ rows-get deck j s e r h
+    ap (λ (i : ℕ). getD (rowWords held t ++ rowsWith held deck) i 0) n
+    ∙ getD-append-add (rowWords held t) (rowsWith held deck) (5 * j + r) 0 ∙ rows-get held deck j s e r h
 
 module _ {house : House} {deck : List Statement} {rows : List ℕ} {count : ℕ} (told : Rows house deck rows count) where
   pub rows-long : 5 * count ≤ length rows
-  rows-long = begins-long rows (concat (map rowWords deck)) (5 * count) (told .rows-are) (omega (arith, rows-length deck, told .counted))
+  rows-long = begins-long rows (deckRows deck) (5 * count) (told .rows-are) (omega (arith, rows-length (heldOf deck) deck, told .counted))
 
-  at-row : (j : ℕ) (s : Statement) → getElem? deck j ≡ some s → (r : ℕ) → r < 5 → getD rows (5 * j + r) 0 ≡ getD (rowWords s) r 0
+  at-row : (j : ℕ) (s : Statement) → getElem? deck j ≡ some s → (r : ℕ) → r < 5 → getD rows (5 * j + r) 0 ≡ getD (rowWords (heldOf deck) s) r 0
   at-row j s e r h =
-      begins-at rows (concat (map rowWords deck)) (5 * count) (told .rows-are) (5 * j + r) (omega (arith, told .counted, at-before deck j e)) ∙ rows-get deck j s e r h
+      begins-at rows (deckRows deck) (5 * count) (told .rows-are) (5 * j + r) (omega (arith, told .counted, at-before deck j e)) ∙ rows-get (heldOf deck) deck j s e r h
 
   module _ (j : ℕ) (s : Statement) (e : getElem? deck j ≡ some s) where
     pub row-number : getD rows (5 * j) 0 ≡ s .number
@@ -68,5 +68,6 @@ module _ {house : House} {deck : List Statement} {rows : List ℕ} {count : ℕ}
     row-jumps = at-row j s e 4 (omega arith)
 
 -- the length of a form's code depends on the form alone
-pub own-length : (held : List Held) (dims : Name → Dims) (address : ℕ → ℕ) (entry : Instr) (f : Form) → length (formCode held dims address entry f) ≡ ownWords f
-own-length held dims address entry f = omega (arith, form-length held dims address entry f, form-length [] (dimsHeld []) (λ n. n) NEG f)
+pub own-length : (held : List Held) (dims : Name → Dims) (address : ℕ → ℕ) (formats : Digits → FormatPlace) (entry : Instr) (f : Form) → length (formCode held dims address formats entry f) ≡ ownWords f
+own-length held dims address formats entry f =
+    omega (arith, form-length held dims address formats entry f, form-length [] (dimsHeld []) (λ n. n) (λ n. noFormat) NEG f)

@@ -5,20 +5,18 @@ use Prim.Native.Nat.{ℕ, _*_, _≤_}
 use mathlib.Core.List.{List, map}
 use lib.ListN.{length, take, getD}
 use Rattle.rules_shared.specs.House.{House}
-use Rattle.rules_object.specs.Bytes.{concat}
 use Rattle.rules_text.specs.Trees.{Statement}
 use Rattle.rules_deck.specs.Deck.{positionOf, dosOf}
 use Rattle.rules_deck.specs.Translation.{addressAt}
 use Rattle.rules_deck.specs.Accepted.{Accepted}
-use Rattle.take_draft.specs.Sketch.{deckJumps, loopsFrom}
-use Rattle.take_draft.specs.Draft.{rowWords}
+use Rattle.take_draft.specs.Sketch.{deckRows, deckJumps, loopsFrom}
 
 -- ---- the tables hold them
 
 pub record Rows (house : House) (deck : List Statement) (rows : List ℕ) (count : ℕ) : Type 0 where
   pub accepted : Accepted house deck
   pub counted : count ≡ length deck
-  pub rows-are : take (5 * count) rows ≡ concat (map rowWords deck)
+  pub rows-are : take (5 * count) rows ≡ deckRows deck
 
 pub record Loops (house : House) (deck : List Statement) (loops : List ℕ) (n : ℕ) : Type 0 where
   pub accepted : Accepted house deck

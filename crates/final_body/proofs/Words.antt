@@ -87,6 +87,11 @@ put-first {o} {w} {v} {x} {bs} {at} {next} p r =
       inside = omega (arith, length-append x (concat bs), r .inside, p .ends);
     }
 
+-- the output is as long as before
+pub written-long : {o v : List ℕ} {bs : List (List ℕ)} {at : ℕ} → Bodies o at bs v → length v ≡ length o
+written-long {o} {v} {bs} {at} w =
+    ap length (w .is) ∙ length-over at (bytesOf (concat bs)) o (omega (arith, length-bytes (concat bs), w .inside))
+
 -- the bodies before kind k are written: the next starts here, and the output is as long as before
 pub record Upto (before counts : List ℕ) (k : ℕ) (now : List ℕ) (at : ℕ) : Type 0 where
   pub starts : at ≡ startOf counts k

@@ -41,10 +41,13 @@ pub fn put_bodies(
     code: &[u32],
     lines: &[u32],
     names: &[u32],
+    formats: &[u32],
+    items: &[u32],
+    transfers: &[u32],
     counts: [usize; KINDS],
 )
-    requires { ⌜ (startOf counts count ≤ length (now out)) × Within counts (now constants ∷ now elements ∷ now exits ∷ now dos ∷ now code ∷ now lines ∷ now names ∷ []) ⌝ }
-    ensures { λ _. ⌜ now (out .exit) ≡ over head (bytesOf (concat (firstWords counts (now (constants .entry) ∷ now (elements .entry) ∷ now (exits .entry) ∷ now (dos .entry) ∷ now (code .entry) ∷ now (lines .entry) ∷ now (names .entry) ∷ [])))) (now (out .entry)) ⌝ }
+    requires { ⌜ (startOf counts count ≤ length (now out)) × Within counts (now constants ∷ now elements ∷ now exits ∷ now dos ∷ now code ∷ now lines ∷ now names ∷ now formats ∷ now items ∷ now transfers ∷ []) ⌝ }
+    ensures { λ _. ⌜ now (out .exit) ≡ over head (bytesOf (concat (firstWords counts (now (constants .entry) ∷ now (elements .entry) ∷ now (exits .entry) ∷ now (dos .entry) ∷ now (code .entry) ∷ now (lines .entry) ∷ now (names .entry) ∷ now (formats .entry) ∷ now (items .entry) ∷ now (transfers .entry) ∷ [])))) (now (out .entry)) ⌝ }
 {
     let elements_at = put_body(out, HEAD, constants, counts[0]);
     let exits_at = put_body(out, elements_at, elements, counts[1]);
@@ -52,5 +55,8 @@ pub fn put_bodies(
     let code_at = put_body(out, dos_at, dos, counts[3]);
     let lines_at = put_body(out, code_at, code, counts[4]);
     let names_at = put_body(out, lines_at, lines, counts[5]);
-    put_body(out, names_at, names, counts[6]);
+    let formats_at = put_body(out, names_at, names, counts[6]);
+    let items_at = put_body(out, formats_at, formats, counts[7]);
+    let transfers_at = put_body(out, items_at, items, counts[8]);
+    put_body(out, transfers_at, transfers, counts[9]);
 }

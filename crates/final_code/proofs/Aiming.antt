@@ -6,16 +6,16 @@ use native.Mathlib.Omega.{arith}
 use native.Mathlib.Numerals.{add-one}
 use mathlib.Core.List.{List, [], _∷_, _++_, map}
 use mathlib.Core.Option.{some}
+use mathlib.Core.Logic.{⊎-elim}
 use lib.ListN.{length, take, drop, getD, getElem?, length-append, length-map}
-use borrow.Author.Tests.{ltb-true}
 use Rattle.rules_shared.specs.House.{House}
-use Rattle.rules_text.specs.Trees.{Digits, valueOf, Statement, formExits, formLast}
+use Rattle.rules_text.specs.Trees.{Digits, valueOf, Statement, formExits, formLast, formNumbers, formUses}
 use Rattle.rules_deck.specs.Deck.{positionOf}
-use Rattle.rules_deck.specs.Whole.{defined, right22}
 use Rattle.rules_deck.specs.Translation.{addressAt, addressOf}
 use Rattle.rules_deck.specs.Accepted.{Among, here, there, Accepted}
-use Rattle.rules_deck.proofs.TestLaws.{all-among}
-use Rattle.rules_deck.proofs.PassedDeck.{passes22}
+use Rattle.rules_deck.proofs.TestLaws.{at-before, among-append}
+use Rattle.rules_deck.proofs.NestedDeck.{targets as exits-defined, lasts}
+use Rattle.rules_deck.proofs.UsedFormats.{has-format}
 use Rattle.rules_deck.proofs.Addresses.{address-most}
 use Rattle.rules_deck.proofs.FittingDeck.{fitting}
 use Rattle.take_draft.specs.Draft.{jumpWords}
@@ -35,9 +35,14 @@ leading told = record { in-rows = told .judged .in-rows; jumps-are = told .judge
 -- ---- every number is defined
 
 used : {house : House} {deck : List Statement} → Accepted house deck → (j : ℕ) (s : Statement) → getElem? deck j ≡ some s
-    → (n : Digits) → Among n (formExits (s .form) ++ formLast (s .form)) → positionOf deck (valueOf n) < length deck
-unfolding right22
-used {house} {deck} accepted j s e n a = ltb-true (positionOf deck (valueOf n)) (length deck) (all-among (defined deck) (passes22 accepted j s e) a)
+    → (n : Digits) → Among n (formNumbers (s .form) ++ formUses (s .form)) → positionOf deck (valueOf n) < length deck
+used {house} {deck} accepted j s e n a = ⊎-elim number format (among-append (formNumbers (s .form)) (formUses (s .form)) a)
+  where
+    number : Among n (formNumbers (s .form)) → positionOf deck (valueOf n) < length deck
+    number b = ⊎-elim (exits-defined accepted j s e n) (lasts accepted j s e n) (among-append (formExits (s .form)) (formLast (s .form)) b)
+
+    format : Among n (formUses (s .form)) → positionOf deck (valueOf n) < length deck
+    format b = at-before deck (positionOf deck (valueOf n)) (has-format accepted j s e n b .at)
 
 all-small : (f : ℕ → ℕ) (most : ℕ) (ns : List Digits) → ((n : Digits) → Among n ns → f (valueOf n) < most) → (m : ℕ) → m < length ns → getD (map f (map valueOf ns)) m 0 < most
 all-small f most [] h m l = absurd (omega arith)
@@ -53,7 +58,7 @@ all-addresses f g h most same (n ∷ ns) small =
 
 module _ {house : House} {deck : List Statement} {rows : List ℕ} {count : ℕ} {jumps starts : List ℕ} (told : Leading house deck rows count jumps starts) where
   module _ (i : ℕ) (s : Statement) (e : getElem? deck i ≡ some s) where
-    small : (n : Digits) → Among n (formExits (s .form) ++ formLast (s .form)) → positionOf deck (valueOf n) < length deck
+    small : (n : Digits) → Among n (formNumbers (s .form) ++ formUses (s .form)) → positionOf deck (valueOf n) < length deck
     small = used (told .in-rows .accepted) i s e
 
     jumps-parts : take (length (deckJumps deck)) jumps ≡ map (positionOf deck) (deckJumps (take i deck)) ++ (map (positionOf deck) (jumpWords (s .form)) ++ map (positionOf deck) (deckJumps (drop (suc i) deck)))
@@ -81,8 +86,8 @@ module _ {house : House} {deck : List Statement} {rows : List ℕ} {count : ℕ}
 
       position-here : (m : ℕ) → m < many → getD jumps (j + m) 0 < length deck
       position-here m l =
-          let n = length-map (formExits (s .form) ++ formLast (s .form)) valueOf in
-          let p = all-small (positionOf deck) (length deck) (formExits (s .form) ++ formLast (s .form)) small m (omega arith) in
+          let n = length-map (formNumbers (s .form) ++ formUses (s .form)) valueOf in
+          let p = all-small (positionOf deck) (length deck) (formNumbers (s .form) ++ formUses (s .form)) small m (omega arith) in
           let q = slice-get jumps j many m l ∙ ap (λ (w : List ℕ). getD w m 0) jumps-here in
           omega arith
 
@@ -99,7 +104,7 @@ module _ {house : House} {deck : List Statement} {rows : List ℕ} {count : ℕ}
       pub targets-here : targets jumps j many starts ≡ map (addressOf deck) (jumpWords (s .form))
       targets-here =
           ap (map (λ p. getD starts p 0)) jumps-here
-          ∙ all-addresses (λ p. getD starts p 0) (addressAt deck) (positionOf deck) (length deck) (λ p l. told .starts-are .at p (omega arith)) (formExits (s .form) ++ formLast (s .form)) small
+          ∙ all-addresses (λ p. getD starts p 0) (addressAt deck) (positionOf deck) (length deck) (λ p l. told .starts-are .at p (omega arith)) (formNumbers (s .form) ++ formUses (s .form)) small
 
     pub jumps-next : (j : ℕ) → j ≡ length (deckJumps (take i deck)) → j + getD rows (5 * i + 4) 0 ≡ length (deckJumps (take (i + 1) deck))
     jumps-next j at =

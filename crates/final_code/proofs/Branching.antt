@@ -12,10 +12,10 @@ use lib.ListN.{length, take, drop, getD, getElem?, length-append, length-map}
 use lib.Seq.{take-length}
 use Rattle.rules_shared.specs.House.{House}
 use Rattle.rules_object.specs.Operations.{Instr, DOE}
-use Rattle.rules_text.specs.Trees.{Name, valueOf, Expr, con, var, elm, neg, par, bin, Target, cell, element, Form, assign, goTo, computed, ifs, loop, continue, stop, end, dimension, Statement, formExits, formLast}
+use Rattle.rules_text.specs.Trees.{Name, valueOf, Expr, con, var, elm, neg, par, bin, Target, cell, element, reading, printing, Form, assign, goTo, computed, ifs, loop, continue, stop, end, dimension, transfer, format, Statement, formExits, formLast, formUses}
 use Rattle.rules_deck.specs.Deck.{Dims, Do, dimsOf, endings}
 use Rattle.rules_deck.specs.Meaning.{third}
-use Rattle.rules_deck.specs.Translation.{Held, heldOf, exprCode, storeCode, formCode, addressOf, doInstr, enterCode, statementCode, codeFrom, codeOf, Tables, noTables, tablesOf, translate}
+use Rattle.rules_deck.specs.Translation.{Held, heldOf, formatPlace, exprCode, storeCode, formCode, addressOf, doInstr, enterCode, statementCode, codeFrom, codeOf, Tables, noTables, tablesOf, translate}
 use Rattle.rules_deck.proofs.Addresses.{at-some}
 use Rattle.rules_deck.proofs.TableLaws.{tables-append}
 use Rattle.rules_deck.proofs.FittingDeck.{fitting}
@@ -64,13 +64,13 @@ ends-add : (deck : List Statement) (ds : List Do) → Adds (map (doInstr deck DO
 ends-add deck [] = adds-none
 ends-add deck (d ∷ ds) = record { exits = λ T. ends-add deck ds .exits T }
 
-map-twice : (f : ℕ → ℕ) (ns : List Rattle.rules_text.specs.Trees.Digits) → map f (map valueOf (ns ++ [])) ≡ map (λ n. f (valueOf n)) ns
+map-twice : (f : ℕ → ℕ) (ns : List Rattle.rules_text.specs.Trees.Digits) → map f (map valueOf ((ns ++ []) ++ [])) ≡ map (λ n. f (valueOf n)) ns
 map-twice f [] = refl
 map-twice f (n ∷ ns) = ap (λ (l : List ℕ). f (valueOf n) ∷ l) (map-twice f ns)
 
 module _ (deck : List Statement) (q : ℕ) where
-  form-adds : (f : Form) → Adds (formCode (heldOf deck) (dimsOf deck) (addressOf deck) (enterCode deck q f) f) (exitsOf (kindOf f) (map (addressOf deck) (jumpWords f)))
-  unfolding formExits formLast
+  form-adds : (f : Form) → Adds (formCode (heldOf deck) (dimsOf deck) (addressOf deck) (formatPlace deck) (enterCode deck q f) f) (exitsOf (kindOf f) (map (addressOf deck) (jumpWords f)))
+  unfolding formExits formLast formUses
   form-adds (assign t e) = adds-both (expr-adds (heldOf deck) (dimsOf deck) e) (store-adds (heldOf deck) (dimsOf deck) t)
   form-adds (goTo n) = record { exits = λ T. sym (append-nil (T .exits)) }
   form-adds (computed ns v) = rw (map-twice (addressOf deck) ns) (record { exits = λ T. refl })
@@ -81,6 +81,9 @@ module _ (deck : List Statement) (q : ℕ) where
   form-adds stop = record { exits = λ T. sym (append-nil (T .exits)) }
   form-adds end = record { exits = λ T. sym (append-nil (T .exits)) }
   form-adds (dimension arrays) = adds-none
+  form-adds (transfer reading n list) = record { exits = λ T. sym (append-nil (T .exits)) }
+  form-adds (transfer printing n list) = record { exits = λ T. sym (append-nil (T .exits)) }
+  form-adds (format f) = adds-none
 
   statement-adds : (s : Statement) → Adds (statementCode deck q s) (exitsOf (kindOf (s .form)) (map (addressOf deck) (jumpWords (s .form))) ++ [])
   statement-adds s = adds-both (form-adds (s .form)) (ends-add deck (endings deck (s .number)))

@@ -12,9 +12,9 @@ use lib.ListN.{length, take, drop, getD, getElem?, length-append, length-map}
 use borrow.Author.Tests.{eq-eqb, ne-eqb}
 use Rattle.rules_shared.specs.House.{House}
 use Rattle.rules_object.specs.Operations.{Instr, DOI, DOE}
-use Rattle.rules_text.specs.Trees.{Digits, valueOf, Form, assign, goTo, computed, ifs, loop, continue, stop, end, dimension, Statement, formExits, formLast}
+use Rattle.rules_text.specs.Trees.{Digits, valueOf, reading, printing, Form, assign, goTo, computed, ifs, loop, continue, stop, end, dimension, transfer, format, Statement, formExits, formLast, formUses}
 use Rattle.rules_deck.specs.Deck.{Do, dosOf, dimsOf, endings}
-use Rattle.rules_deck.specs.Translation.{heldOf, formCode, doNumber, addressOf, doInstr, enterCode, statementCode, codeFrom, Tables, noTables, wordOf, emit, tablesOf}
+use Rattle.rules_deck.specs.Translation.{heldOf, noFormat, formatPlace, formCode, doNumber, addressOf, doInstr, enterCode, statementCode, codeFrom, Tables, noTables, wordOf, emit, tablesOf}
 use Rattle.rules_deck.proofs.TestLaws.{at-before}
 use Rattle.rules_deck.proofs.Addresses.{at-some}
 use Rattle.rules_deck.proofs.Tables.{emit-length}
@@ -51,6 +51,9 @@ enters deck i d e continue h = absurd (omega arith)
 enters deck i d e stop h = absurd (omega arith)
 enters deck i d e end h = absurd (omega arith)
 enters deck i d e (dimension arrays) h = absurd (omega arith)
+enters deck i d e (transfer reading n list) h = absurd (omega arith)
+enters deck i d e (transfer printing n list) h = absurd (omega arith)
+enters deck i d e (format f) h = absurd (omega arith)
 
 ends-tables : (deck : List Statement) (T : Tables) (ds : List Do) → tablesOf T (map (doInstr deck DOE) ds) ≡ T
 ends-tables deck T [] = refl
@@ -68,7 +71,7 @@ alike-to deck (suc i) l =
     let e = s .1 in
     let n = number-is deck i (omega arith) in
     let T = tablesOf noTables (codeTo deck i) in
-    let form = formCode (heldOf deck) (dimsOf deck) (addressOf deck) (enterCode deck i (s .0 .form)) (s .0 .form) in
+    let form = formCode (heldOf deck) (dimsOf deck) (addressOf deck) (formatPlace deck) (enterCode deck i (s .0 .form)) (s .0 .form) in
     let c = ap (λ (d : List Statement). tablesOf noTables (codeFrom deck 0 d)) (take-more deck i (s .0) e)
     ∙ ap (tablesOf noTables) (code-more deck i (s .0) e)
     ∙ tables-append noTables (codeTo deck i) (statementCode deck i (s .0))
@@ -77,7 +80,7 @@ alike-to deck (suc i) l =
     let p = ap (λ (d : List Statement). tablesOf noTables (plainFrom (heldOf deck) (dimsOf deck) 0 d)) (take-more deck i (s .0) e)
     ∙ ap (tablesOf noTables) (plain-more deck i (s .0) e)
     ∙ tables-append noTables (plainTo deck i) (plainHere deck i (s .0) e) in
-    let a = form-tables (heldOf deck) (dimsOf deck) (addressOf deck) (λ n. n) (enterCode deck i (s .0 .form)) (DOI (dosIn (take i deck)) noLoop) (s .0 .form)
+    let a = form-tables (heldOf deck) (dimsOf deck) (addressOf deck) (λ n. n) (formatPlace deck) (λ n. noFormat) (enterCode deck i (s .0 .form)) (DOI (dosIn (take i deck)) noLoop) (s .0 .form)
     (enters deck i (dosIn (take i deck)) n (s .0 .form)) (alike-to deck i (omega arith)) in
     subst (λ (U : Tables). Alike (tablesOf noTables (codeTo deck (suc i))) U) (sym p) (subst (λ (U : Tables). Alike U (tablesOf (tablesOf noTables (plainTo deck i)) (plainHere deck i (s .0) e))) (sym c) a)
 
@@ -93,15 +96,18 @@ which continue = inl (λ h. omega arith)
 which stop = inl (λ h. omega arith)
 which end = inl (λ h. omega arith)
 which (dimension arrays) = inl (λ h. omega arith)
+which (transfer reading n list) = inl (λ h. omega arith)
+which (transfer printing n list) = inl (λ h. omega arith)
+which (format f) = inl (λ h. omega arith)
 
 one-jump : (n : Digits) → jumpWords (goTo n) ≡ valueOf n ∷ []
-unfolding formExits formLast
+unfolding formExits formLast formUses
 one-jump n = refl
 
 module _ {house : House} {deck : List Statement} {rows : List ℕ} {count : ℕ} {loops : List ℕ} {n : ℕ} {jumps starts draft : List ℕ} (told : Settling house deck rows count loops n jumps starts draft) where
   module _ (i : ℕ) (s : Statement) (e : getElem? deck i ≡ some s) where
     abbrev pub formHere : List Instr
-    formHere = formCode (heldOf deck) (dimsOf deck) (addressOf deck) (enterCode deck i (s .form)) (s .form)
+    formHere = formCode (heldOf deck) (dimsOf deck) (addressOf deck) (formatPlace deck) (enterCode deck i (s .form)) (s .form)
 
     draft-parts : take (length (plainCode deck)) draft
         ≡ emit noTables (plainBefore deck i s e) ++ (emit (tablesOf noTables (plainBefore deck i s e)) (plainHere deck i s e)
@@ -113,7 +119,7 @@ module _ {house : House} {deck : List Statement} {rows : List ℕ} {count : ℕ}
 
     own-here : getD rows (5 * i + 3) 0 ≡ length (emit (tablesOf noTables (plainBefore deck i s e)) (plainHere deck i s e))
     own-here =
-        row-own (told .judged .in-rows) i s e ∙ sym (own-length (heldOf deck) (dimsOf deck) (λ m. m) (DOI (dosIn (take i deck)) noLoop) (s .form))
+        row-own (told .judged .in-rows) i s e ∙ sym (own-length (heldOf deck) (dimsOf deck) (λ m. m) (λ m. noFormat) (DOI (dosIn (take i deck)) noLoop) (s .form))
         ∙ sym (emit-length (tablesOf noTables (plainBefore deck i s e)) (plainHere deck i s e))
 
     module _ (from : ℕ) (from-is : from ≡ length (plainTo deck i)) where
@@ -140,7 +146,7 @@ module _ {house : House} {deck : List Statement} {rows : List ℕ} {count : ℕ}
           ap (λ (t : Bool). cond t (goWord (getD starts (getD jumps j 0) 0) ∷ []) (take (getD rows (5 * i + 3) 0) (drop from draft))) b
           ∙ drafted-here
           ∙ sym (emit-like (alike-to deck i (omega arith))
-          (form-likes (heldOf deck) (dimsOf deck) (addressOf deck) (λ m. m) (enterCode deck i (s .form)) (DOI (dosIn (take i deck)) noLoop) (s .form) h
+          (form-likes (heldOf deck) (dimsOf deck) (addressOf deck) (λ m. m) (formatPlace deck) (λ m. noFormat) (enterCode deck i (s .form)) (DOI (dosIn (take i deck)) noLoop) (s .form) h
           (enters deck i (dosIn (take i deck)) (number-is deck i (omega arith)) (s .form))))
 
       own-jump : (j : ℕ) → j ≡ length (deckJumps (take i deck)) → (m : Digits) → s .form ≡ goTo m
@@ -156,7 +162,7 @@ module _ {house : House} {deck : List Statement} {rows : List ℕ} {count : ℕ}
           ∙ ap (λ (l : List ℕ). getD l 0 0) (targets-here lead i s e j 1 at (sym one) ∙ ap (λ (f : Form). map (addressOf deck) (jumpWords f)) g ∙ ap (map (addressOf deck)) (one-jump m)) in
           ap (λ (c : Bool). cond c (goWord (getD starts (getD jumps j 0) 0) ∷ []) (take (getD rows (5 * i + 3) 0) (drop from draft))) b
           ∙ ap (λ (a : ℕ). goWord a ∷ []) t
-          ∙ ap (λ (f : Form). emit (tablesOf noTables (codeTo deck i)) (formCode (heldOf deck) (dimsOf deck) (addressOf deck) (enterCode deck i f) f)) (sym g)
+          ∙ ap (λ (f : Form). emit (tablesOf noTables (codeTo deck i)) (formCode (heldOf deck) (dimsOf deck) (addressOf deck) (formatPlace deck) (enterCode deck i f) f)) (sym g)
 
       pub own-is : (j : ℕ) → j ≡ length (deckJumps (take i deck)) → ownWords (getD rows (5 * i + 1) 0) (getD rows (5 * i + 3) 0) draft from jumps j starts ≡ emit (tablesOf noTables (codeTo deck i)) formHere
       own-is j at = go (which (s .form))
@@ -171,7 +177,7 @@ module _ {house : House} {deck : List Statement} {rows : List ℕ} {count : ℕ}
           let p = ap (λ (m : ℕ). plainTo deck m) (add-one i) ∙ ap (plainFrom (heldOf deck) (dimsOf deck) 0) (take-more deck i s e) ∙ plain-more deck i s e in
           let l = length-append (plainBefore deck i s e) (plainHere deck i s e) in
           let o = row-own (told .judged .in-rows) i s e in
-          let h = own-length (heldOf deck) (dimsOf deck) (λ m. m) (DOI (dosIn (take i deck)) noLoop) (s .form) in
+          let h = own-length (heldOf deck) (dimsOf deck) (λ m. m) (λ m. noFormat) (DOI (dosIn (take i deck)) noLoop) (s .form) in
           omega (arith, ap length p, from-is)
 
     pub jump-aimed : 400 < length starts → (j : ℕ) → j ≡ length (deckJumps (take i deck)) → getD rows (5 * i + 1) 0 ≡ 1 → (1 ≤ getD rows (5 * i + 3) 0) × Aimed jumps j 1 starts
@@ -200,7 +206,7 @@ module _ {house : House} {deck : List Statement} {rows : List ℕ} {count : ℕ}
     pub words-fit : length (codeTo deck i) + getD rows (5 * i + 3) 0 + length (endsAt loops jumps i n) ≤ 4096
     words-fit =
         let o = row-own (told .judged .in-rows) i s e in
-        let h = own-length (heldOf deck) (dimsOf deck) (addressOf deck) (enterCode deck i (s .form)) (s .form) in
+        let h = own-length (heldOf deck) (dimsOf deck) (addressOf deck) (formatPlace deck) (enterCode deck i (s .form)) (s .form) in
         let d = ap length (ends-are (told .judged) i s e) ∙ length-map (endings deck (s .number)) (λ d. doNumber (dosOf deck) (d .position)) in
         let m = length-map (endings deck (s .number)) (doInstr deck DOE) in
         let l = length-append formHere (map (doInstr deck DOE) (endings deck (s .number))) in

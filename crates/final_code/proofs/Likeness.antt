@@ -1,16 +1,17 @@
--- Code that differs in addresses and in DOs' entries only has the same words, but for its jumps.
+-- Code that differs in addresses, in DOs' entries and in FORMATs' places only has the same words, but for its jumps.
 -- Assumes nothing.
 use mathlib.Core.Path.{_≡_, refl, sym, ap, _∙_}
 use Prim.Native.Nat.{ℕ, suc, _+_, _*_, _^_}
 use native.Mathlib.Omega.{arith}
 use mathlib.Core.List.{List, [], _∷_, _++_}
 use lib.ListN.{length, length-append, length-map}
+use Rattle.rules_formats.specs.Format.{Flat}
 use Rattle.rules_object.specs.Object.{Element, Loop}
 use Rattle.rules_object.specs.Operations.{Listed, Instr, HLT, CON, LOD, STO, LDE, STE, OP, NEG, JMP, BR3, BRC, DOI, DOE, READ, PRINT, operationNumber}
-use Rattle.rules_text.specs.Trees.{Name, valueOf, Form, assign, goTo, computed, ifs, loop, continue, stop, end, dimension}
+use Rattle.rules_text.specs.Trees.{Name, Digits, valueOf, reading, printing, Form, assign, goTo, computed, ifs, loop, continue, stop, end, dimension, transfer, format}
 use Rattle.rules_deck.specs.Deck.{Dims}
 use Rattle.rules_deck.specs.Meaning.{third}
-use Rattle.rules_deck.specs.Translation.{Held, exprCode, formCode, Tables, pool, poolAt, addElement, addExits, listElements, addTransfer, tablesAfter, wordOf, emit, tablesOf}
+use Rattle.rules_deck.specs.Translation.{Held, FormatPlace, exprCode, formCode, Tables, pool, poolAt, addElement, addExits, listElements, addTransfer, tablesAfter, wordOf, emit, tablesOf}
 use Rattle.take_draft.specs.Draft.{kindOf}
 
 -- ---- tables
@@ -31,6 +32,8 @@ pub data Like : Instr → Instr → Type 0 where
   three : {a b c d e f : ℕ} → Like (BR3 a b c) (BR3 d e f)
   many : {ts us : List ℕ} → length ts ≡ length us → Like (BRC ts) (BRC us)
   enter : {n m : ℕ} {d e : Loop} → n ≡ m → Like (DOI n d) (DOI m e)
+  read : {n m : ℕ} {f g : Flat} {list : List Listed} → Like (READ n f list) (READ m g list)
+  print : {n m : ℕ} {f g : Flat} {list : List Listed} → Like (PRINT n f list) (PRINT m g list)
 
 word-same : {T U : Tables} → Alike T U → (i : Instr) → wordOf T i ≡ wordOf U i
 unfolding wordOf
@@ -56,6 +59,8 @@ word-like a (same i) = word-same a i
 word-like h (three {a} {b} {c}) = ap (λ (n : ℕ). operationNumber (BR3 a b c) * 2 ^ 24 + n) (h .exits)
 word-like a (many {ts} e) = ap (λ (n : ℕ). operationNumber (BRC ts) * 2 ^ 24 + n) (a .exits)
 word-like a (enter {n} {m} {d} {e} p) = ap (λ (x : ℕ). operationNumber (DOI n d) * 2 ^ 24 + x) p
+word-like a (read {n} {m} {f} {g} {list}) = ap (λ (x : ℕ). operationNumber (READ n f list) * 2 ^ 24 + x) (a .transfers)
+word-like a (print {n} {m} {f} {g} {list}) = ap (λ (x : ℕ). operationNumber (PRINT n f list) * 2 ^ 24 + x) (a .transfers)
 
 longer : {A : Type 0} (k l xs ys : List A) → length k ≡ length l → length xs ≡ length ys → length (k ++ xs) ≡ length (l ++ ys)
 longer k l xs ys e f = omega (arith, e, f, length-append k xs, length-append l ys)
@@ -67,8 +72,8 @@ module _ {T U : Tables} (a : Alike T U) where
   with-exits : (xs ys : List ℕ) → length xs ≡ length ys → Alike (addExits T xs) (addExits U ys)
   with-exits xs ys e = record { constants = a .constants; elements = a .elements; exits = longer (T .exits) (U .exits) xs ys (a .exits) e; transfers = a .transfers }
 
-  with-transfer : (n : ℕ) (list : List Listed) → Alike (addTransfer T n list) (addTransfer U n list)
-  with-transfer n list =
+  with-transfer : (n m : ℕ) (list : List Listed) → Alike (addTransfer T n list) (addTransfer U m list)
+  with-transfer n m list =
       record {
         constants = a .constants;
         elements = longer (T .elements) (U .elements) (listElements list) (listElements list) (a .elements) refl;
@@ -90,14 +95,16 @@ after-same a (BR3 x y z) = with-exits a (x ∷ y ∷ z ∷ []) (x ∷ y ∷ z �
 after-same a (BRC ts) = with-exits a (length ts ∷ ts) (length ts ∷ ts) refl
 after-same a (DOI n d) = a
 after-same a (DOE n d) = a
-after-same a (READ n f list) = with-transfer a n list
-after-same a (PRINT n f list) = with-transfer a n list
+after-same a (READ n f list) = with-transfer a n n list
+after-same a (PRINT n f list) = with-transfer a n n list
 
 after-like : {T U : Tables} {i j : Instr} → Alike T U → Like i j → Alike (tablesAfter T i) (tablesAfter U j)
 after-like a (same i) = after-same a i
 after-like h (three {a} {b} {c} {d} {e} {f}) = with-exits h (a ∷ b ∷ c ∷ []) (d ∷ e ∷ f ∷ []) refl
 after-like a (many {ts} {us} e) = with-exits a (length ts ∷ ts) (length us ∷ us) (ap suc e)
 after-like a (enter p) = a
+after-like a (read {n} {m} {f} {g} {list}) = with-transfer a n m list
+after-like a (print {n} {m} {f} {g} {list}) = with-transfer a n m list
 
 -- ---- code
 
@@ -128,9 +135,9 @@ emit-append T (i ∷ is) js = ap (λ (ws : List ℕ). wordOf T i ∷ ws) (emit-a
 
 -- ---- forms
 
-module _ (held : List Held) (dims : Name → Dims) (address other : ℕ → ℕ) (entry plain : Instr) where
+module _ (held : List Held) (dims : Name → Dims) (address other : ℕ → ℕ) (formats others : Digits → FormatPlace) (entry plain : Instr) where
   -- every form but a GO TO
-  pub form-likes : (f : Form) → (kindOf f ≡ 1 → ⊥) → (kindOf f ≡ 4 → Like entry plain) → Likes (formCode held dims address entry f) (formCode held dims other plain f)
+  pub form-likes : (f : Form) → (kindOf f ≡ 1 → ⊥) → (kindOf f ≡ 4 → Like entry plain) → Likes (formCode held dims address formats entry f) (formCode held dims other others plain f)
   form-likes (assign t e) other-kind enters = likes-self _
   form-likes (goTo n) other-kind enters = absurd (other-kind refl)
   form-likes (computed ns v) other-kind enters = more (same _) (more (many (length-map ns (λ n. address (valueOf n)) ∙ sym (length-map ns (λ n. other (valueOf n))))) no-more)
@@ -141,9 +148,12 @@ module _ (held : List Held) (dims : Name → Dims) (address other : ℕ → ℕ)
   form-likes stop other-kind enters = likes-self _
   form-likes end other-kind enters = likes-self _
   form-likes (dimension arrays) other-kind enters = no-more
+  form-likes (transfer reading n list) other-kind enters = more read no-more
+  form-likes (transfer printing n list) other-kind enters = more print no-more
+  form-likes (format f) other-kind enters = no-more
 
   -- the tables, of every form
-  pub form-tables : (f : Form) → (kindOf f ≡ 4 → Like entry plain) → {T U : Tables} → Alike T U → Alike (tablesOf T (formCode held dims address entry f)) (tablesOf U (formCode held dims other plain f))
+  pub form-tables : (f : Form) → (kindOf f ≡ 4 → Like entry plain) → {T U : Tables} → Alike T U → Alike (tablesOf T (formCode held dims address formats entry f)) (tablesOf U (formCode held dims other others plain f))
   form-tables (assign t e) enters a = tables-like a (form-likes (assign t e) (λ z. omega arith) enters)
   form-tables (goTo n) enters a = a
   form-tables (computed ns v) enters a = tables-like a (form-likes (computed ns v) (λ z. omega arith) enters)
@@ -153,3 +163,6 @@ module _ (held : List Held) (dims : Name → Dims) (address other : ℕ → ℕ)
   form-tables stop enters a = a
   form-tables end enters a = a
   form-tables (dimension arrays) enters a = a
+  form-tables (transfer reading n list) enters a = tables-like a (form-likes (transfer reading n list) (λ z. omega arith) enters)
+  form-tables (transfer printing n list) enters a = tables-like a (form-likes (transfer printing n list) (λ z. omega arith) enters)
+  form-tables (format f) enters a = a

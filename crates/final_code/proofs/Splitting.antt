@@ -10,9 +10,9 @@ use lib.ListN.{length, take, drop, getElem?}
 use lib.Seq.{length-take-le}
 use borrow.Author.Tests.{lt-ltb, le-ltb}
 use Rattle.rules_object.specs.Operations.{Instr, DOI}
-use Rattle.rules_text.specs.Trees.{Name, valueOf, Form, assign, goTo, computed, ifs, loop, continue, stop, end, dimension, Statement, formLast}
+use Rattle.rules_text.specs.Trees.{Name, valueOf, Form, assign, goTo, computed, ifs, loop, continue, stop, end, dimension, transfer, format, Statement, formLast}
 use Rattle.rules_deck.specs.Deck.{Dims, Do, doOf, dosFrom, dosOf, dimsOf}
-use Rattle.rules_deck.specs.Translation.{Held, heldOf, formCode, doNumber, statementCode, codeFrom, codeOf}
+use Rattle.rules_deck.specs.Translation.{Held, heldOf, noFormat, formCode, doNumber, statementCode, codeFrom, codeOf}
 use Rattle.rules_deck.proofs.TestLaws.{clash, at-before}
 use Rattle.take_draft.specs.Draft.{jumpWords, noLoop}
 use Rattle.take_draft.specs.Sketch.{deckJumps, plainFrom, plainCode}
@@ -43,6 +43,8 @@ brings q continue = no-do refl refl
 brings q stop = no-do refl refl
 brings q end = no-do refl refl
 brings q (dimension arrays) = no-do refl refl
+brings q (transfer d n list) = no-do refl refl
+brings q (format f) = no-do refl refl
 
 number-none : (q : ℕ) (more : List Statement) (p : ℕ) → p ≤ q → doNumber (dosFrom q more) p ≡ 0
 number-none q [] p l = refl
@@ -79,7 +81,7 @@ module _ (held : List Held) (dims : Name → Dims) where
   pub plain-append : (d : ℕ) (a b : List Statement) → plainFrom held dims d (a ++ b) ≡ plainFrom held dims d a ++ plainFrom held dims (d + dosIn a) b
   plain-append d [] b = ap (λ (n : ℕ). plainFrom held dims n b) (sym (add-zero d))
   plain-append d (s ∷ a) b =
-      let first = formCode held dims (λ n. n) (DOI d noLoop) (s .form) in
+      let first = formCode held dims (λ n. n) (λ n. noFormat) (DOI d noLoop) (s .form) in
       let next = d + length (formLast (s .form)) in
       ap (λ (l : List Instr). first ++ l) (plain-append next a b ∙ ap (λ (n : ℕ). plainFrom held dims next a ++ plainFrom held dims n b) (add-assoc d (length (formLast (s .form))) (dosIn a)))
       ∙ sym (append-assoc first (plainFrom held dims next a) (plainFrom held dims (d + (length (formLast (s .form)) + dosIn a)) b))
@@ -105,7 +107,7 @@ module _ (deck : List Statement) (i : ℕ) (s : Statement) (e : getElem? deck i 
   plainBefore = plainFrom (heldOf deck) (dimsOf deck) 0 (take i deck)
 
   abbrev pub plainHere : List Instr
-  plainHere = formCode (heldOf deck) (dimsOf deck) (λ n. n) (DOI (dosIn (take i deck)) noLoop) (s .form)
+  plainHere = formCode (heldOf deck) (dimsOf deck) (λ n. n) (λ n. noFormat) (DOI (dosIn (take i deck)) noLoop) (s .form)
 
   abbrev pub plainAfter : List Instr
   plainAfter = plainFrom (heldOf deck) (dimsOf deck) (dosIn (take i deck) + length (formLast (s .form))) (drop (suc i) deck)

@@ -7,6 +7,7 @@ ghost use Rattle.read_items.specs.Parsed.{Put};
 ghost use Rattle.final_entries.specs.Lines.{lineOf};
 ghost use Rattle.final_entries.specs.Turned.{turned};
 use take_kinds::DIMENSION;
+use take_kinds::FORMAT;
 
 // One line's three words; how many words there are then.
 pub fn put_line(out: &mut [u32], top: usize, sequence: u32, number: u32, address: u32) -> usize
@@ -30,7 +31,7 @@ pub fn put_statement(
     requires { ⌜ top + 3 ≤ length (now out) ⌝ }
     ensures { λ r. ⌜ Put (now (out .entry)) (now (out .exit)) top (lineOf kind sequence number address) r ⌝ }
 {
-    if kind == DIMENSION {
+    if kind == DIMENSION || kind == FORMAT {
         return top;
     }
     put_line(out, top, sequence, number, address)

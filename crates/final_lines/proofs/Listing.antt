@@ -8,26 +8,25 @@ use native.Mathlib.Numerals.{add-one}
 use mathlib.Core.Bool.{Bool, true, false, not, cond}
 use mathlib.Core.List.{List, [], _∷_, _++_, map}
 use mathlib.Core.Option.{some}
-use lib.Dec.{eqb}
 use lib.ListN.{length, take, getD, getElem?}
 use lib.Seq.{length-take-le, take-length}
 use Rattle.rules_shared.specs.House.{House}
 use Rattle.rules_object.specs.Object.{Line}
 use Rattle.rules_object.specs.Bytes.{concat, lineWords}
-use Rattle.rules_text.specs.Trees.{Form, assign, goTo, computed, ifs, loop, continue, stop, end, dimension, Statement}
+use Rattle.rules_text.specs.Trees.{reading, printing, Form, assign, goTo, computed, ifs, loop, continue, stop, end, dimension, transfer, format, Statement}
 use Rattle.rules_deck.specs.Translation.{addressAt, executable, linesFrom}
 use Rattle.rules_deck.proofs.TestLaws.{at-before}
 use Rattle.rules_deck.proofs.Addresses.{at-some}
 use Rattle.take_draft.specs.Draft.{kindOf}
 use Rattle.read_items.specs.Parsed.{Put}
-use Rattle.final_entries.specs.Lines.{lineOf}
+use Rattle.final_entries.specs.Lines.{declares, lineOf}
 use Rattle.final_addresses.specs.Given.{Rows, Starts, Holds}
 use Rattle.final_addresses.proofs.Told.{row-number, row-kind}
 use Rattle.final_addresses.proofs.Lasts.{take-more}
 use Rattle.final_addresses.proofs.Holding.{holds-more, holds-as, concat-append, map-append}
 
--- DIMENSION alone is no line
-executable-kind : (f : Form) → executable f ≡ not (eqb (kindOf f) 8)
+-- DIMENSION and FORMAT alone are no lines
+executable-kind : (f : Form) → executable f ≡ not (declares (kindOf f))
 executable-kind (assign t e) = refl
 executable-kind (goTo n) = refl
 executable-kind (computed ns v) = refl
@@ -37,6 +36,9 @@ executable-kind continue = refl
 executable-kind stop = refl
 executable-kind end = refl
 executable-kind (dimension arrays) = refl
+executable-kind (transfer reading n list) = refl
+executable-kind (transfer printing n list) = refl
+executable-kind (format f) = refl
 
 lines-append : (deck : List Statement) (q : ℕ) (a b : List Statement) → linesFrom deck q (a ++ b) ≡ linesFrom deck q a ++ linesFrom deck (q + length a) b
 lines-append deck q [] b = ap (λ (p : ℕ). linesFrom deck p b) (sym (add-zero q))
@@ -77,7 +79,7 @@ module _ {house : House} {deck : List Statement} {rows : List ℕ} {count : ℕ}
       let l = at-before deck i e in
       let ad = at .at i (omega arith) in
       let nu = is ∙ row-number told i s e in
-      rw (row-kind told i s e, executable-kind (s .form), ad, nu, add-one i) (go (eqb (kindOf (s .form)) 8))
+      rw (row-kind told i s e, executable-kind (s .form), ad, nu, add-one i) (go (declares (kindOf (s .form))))
     where
       go : (b : Bool) → cond b [] (suc i ∷ s .number ∷ addressAt deck i ∷ [])
           ≡ concat (map lineWords (cond (not b) (record { sequence = suc i; number = s .number; address = addressAt deck i } ∷ []) []))
@@ -96,7 +98,7 @@ module _ {house : House} {deck : List Statement} {rows : List ℕ} {count : ℕ}
       holds-as (ap (λ (m : ℕ). linesTo deck m) (h ∙ told .counted) ∙ ap (λ (d : List Statement). concat (map lineWords (linesFrom deck 0 d))) (take-length deck)) held
 
 pub line-short : (kind sequence number address : ℕ) → length (lineOf kind sequence number address) ≤ 3
-line-short kind sequence number address = go (eqb kind 8)
+line-short kind sequence number address = go (declares kind)
   where
     go : (b : Bool) → length (cond b [] (sequence ∷ number ∷ address ∷ [])) ≤ 3
     go true = omega arith

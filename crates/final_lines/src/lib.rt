@@ -11,7 +11,6 @@ ghost use Rattle.rules_deck.specs.Translation.{heldOf, loopEntry, linesFrom, na
 ghost use Rattle.final_addresses.specs.Given.{Rows, Loops, Rowed, Looped, Starts, Holds};
 ghost use Rattle.final_lines.specs.Names.{Names, Listed};
 ghost use Rattle.take_draft.specs.Sketch.{openEntry};
-use take_kinds::DIMENSION;
 use take_name_table::COLUMNS;
 use take_name_table::ENTRY_WORDS;
 use take_name_table::FIRST;
@@ -30,7 +29,7 @@ pub fn bodies(loops: &[u32], n: usize, starts: &[u32], dos: &mut [u32])
     }
 }
 
-// Sequence, number and address of every statement but DIMENSION; how many words they are.
+// Sequence, number and address of every statement but DIMENSION and FORMAT; how many words they are.
 pub fn lines(rows: &[u64], count: usize, starts: &[u32], out: &mut [u32]) -> usize
     requires { ⌜ Rowed (now rows) count × (count ≤ length (now starts)) × (3 * count ≤ length (now out)) ⌝ }
     ensures { λ r. ⌜ ((house : House) (deck : List Statement) → Rows house deck (now (rows .entry)) count → Starts deck (now (starts .entry)) → Holds (now (out .exit)) r (concat (map lineWords (linesFrom deck 0 deck)))) ⌝ }

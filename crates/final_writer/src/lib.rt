@@ -30,10 +30,13 @@ pub fn write(
     code: &[u32],
     lines: &[u32],
     names: &[u32],
+    formats: &[u32],
+    items: &[u32],
+    transfers: &[u32],
     counts: [usize; KINDS],
 ) -> Wrote
-    requires { ⌜ (startOf counts count < 2 ^ 32) × Within counts (now constants ∷ now elements ∷ now exits ∷ now dos ∷ now code ∷ now lines ∷ now names ∷ []) ⌝ }
-    ensures { λ r. ⌜ (answer r (now (out .exit)) ≡ write noRoom (bytesOf (wordsOfBodies k cells (firstWords counts (now (constants .entry) ∷ now (elements .entry) ∷ now (exits .entry) ∷ now (dos .entry) ∷ now (code .entry) ∷ now (lines .entry) ∷ now (names .entry) ∷ [])))) (now (out .entry))) × Low r ⌝ }
+    requires { ⌜ (startOf counts count < 2 ^ 32) × Within counts (now constants ∷ now elements ∷ now exits ∷ now dos ∷ now code ∷ now lines ∷ now names ∷ now formats ∷ now items ∷ now transfers ∷ []) ⌝ }
+    ensures { λ r. ⌜ (answer r (now (out .exit)) ≡ write noRoom (bytesOf (wordsOfBodies k cells (firstWords counts (now (constants .entry) ∷ now (elements .entry) ∷ now (exits .entry) ∷ now (dos .entry) ∷ now (code .entry) ∷ now (lines .entry) ∷ now (names .entry) ∷ now (formats .entry) ∷ now (items .entry) ∷ now (transfers .entry) ∷ [])))) (now (out .entry))) × Low r ⌝ }
 {
     let end = final_contents::end_of(counts);
     if out.len() < end {
@@ -50,6 +53,9 @@ pub fn write(
         code,
         lines,
         names,
+        formats,
+        items,
+        transfers,
         counts,
     );
     Wrote::Bytes(end)

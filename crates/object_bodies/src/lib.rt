@@ -17,9 +17,9 @@ use limits::TRANSFERS;
 
 // ---- the edition that is written
 
-pub const EDITION: u32 = 1;
+pub const EDITION: u32 = 2;
 
-pub const KINDS: usize = 7;
+pub const KINDS: usize = 10;
 
 // Words of the contents: edition, digits, cells and how many bodies; then of each body its kind, first byte and length in bytes.
 pub const CONTENTS: usize = 4 + 3 * KINDS;

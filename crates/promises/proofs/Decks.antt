@@ -2,7 +2,7 @@
 -- Assumes nothing.
 use mathlib.Core.Path.{_≡_, refl, sym, ap, _∙_, subst}
 use mathlib.Core.Logic.{_⊎_, inl, inr}
-use Prim.Native.Nat.{ℕ, zero, suc, _≤_, _<_}
+use Prim.Native.Nat.{ℕ, zero, suc, _-_, _≤_, _<_}
 use native.Mathlib.Decide.{ℕ-discrete}
 use native.Mathlib.Omega.{arith}
 use mathlib.Core.Bool.{Bool, true, false, _||_, cond}
@@ -12,23 +12,26 @@ use lib.ListN.{length, getElem?}
 use lib.IntN.{ℤ}
 use Rattle.rules_shared.specs.House.{House}
 use Rattle.rules_shared.specs.Runs.{Outcome, go, halt, run, steps}
-use Rattle.rules_formats.specs.Walk.{Trays, noTrays, devicesOf}
+use Rattle.rules_formats.specs.Walk.{Devices, cardsOf, Trays, noTrays, devicesOf, linesAfter}
+use Rattle.rules_formats.proofs.Lengths.{last-count}
+use Rattle.rules_formats.proofs.Resume.{Used, used-none}
 use Rattle.rules_object.specs.Halts.{Out}
 use Rattle.rules_shared.specs.Choose.{positive}
 use Rattle.rules_object.specs.Object.{Named, Object}
 use Rattle.rules_object.specs.Machine.{State, fresh, cell, step}
 use Rattle.rules_object.specs.Bytes.{readObject}
 use Rattle.rules_shared.specs.Refusals.{accepted}
-use Rattle.rules_object.specs.Calls.{checking, given, right50, right51, sequenceOf, Ran, ran, runFrom, running, taken}
+use Rattle.rules_object.specs.Calls.{checking, given, right50, right51, Ran, halted, ran, runFrom, running, taken}
 use Rattle.rules_shared.proofs.RunLaws.{steps-go}
 use Rattle.rules_object.specs.Passed.{Passed}
 use Rattle.rules_object.proofs.Passed.{check-passed, both}
 use Rattle.rules_object.proofs.Lents.{long-enough, fresh-stands, stands-52}
 use Rattle.rules_object.proofs.Accepts.{Accepts, accepts-run}
+use Rattle.rules_object.proofs.Earlier.{run-used}
 use Rattle.rules_object.proofs.Refusals.{from-accepts}
 use Rattle.rules_object.proofs.Runnable.{runs-exactly}
 use Rattle.rules_object.specs.Safe.{freshLent}
-use Rattle.rules_object.specs.Promised.{rightStoreOf, rightStore}
+use Rattle.rules_object.specs.Promised.{cameTo, rightStoreOf, rightStore}
 use Rattle.rules_text.specs.Trees.{Name, Statement, formNames}
 use Rattle.rules_deck.specs.Deck.{Do, sameName, Dims, dimsIn, dimsOf, endings}
 use Rattle.rules_deck.specs.Meaning.{Cause, plain, bounds, Standing, begin, meaning}
@@ -45,7 +48,7 @@ use Rattle.rules_deck.proofs.BodySeven.{InDeck, name-entry, entry-name, names-o
 use Rattle.rules_deck.proofs.CompiledWritable.{compiled-passes}
 use Rattle.rules_deck.proofs.NeverAbove.{never-above}
 use Rattle.rules_deck.proofs.SoundDeck.{sound}
-use Rattle.rules_deck.proofs.Sequence.{same-sequence, dimension-empty}
+use Rattle.rules_deck.proofs.Sequence.{same-sequence, not-run-empty}
 use Rattle.rules_deck.proofs.Simulation.{goes-alike, halts-alike, halts-meant, ends-entered}
 use Rattle.promises.specs.Promises.{Alike, HaltedAlike, HaltsAlike, GoesAlike, Meant, MeansAlike, NeverHalts, EndsAfterDo, EntryOf, OneEntry, NamesOnce, CompiledPasses, NeverAbove}
 use Rattle.promises.proofs.Runs.{series-run}
@@ -91,29 +94,38 @@ module _ {house : House} {deck object : List ℕ} (m : Made house deck object) (
   unfolding translate
   starting = holds-named m store (long-enough o store (rights .0))
 
-  means : (n : ℕ) → meaningOf house deck (namedValues object store) n ≡ some (meaning (house .rule) (m .statements) (namedValues object store) n)
+  means : (d : Devices) (n : ℕ) → meaningOf house deck (namedValues object store) d n ≡ some (meaning (house .rule) (m .statements) (namedValues object store) d n)
   unfolding meaningOf
-  means n = ap (λ r. meaningRead house r (namedValues object store) n) (m .reads)
+  means d n = ap (λ r. meaningRead house r (namedValues object store) d n) (m .reads)
 
-  meant-as : (n : ℕ) {x : Outcome Cause Standing} → meaningOf house deck (namedValues object store) n ≡ some x → meaning (house .rule) (m .statements) (namedValues object store) n ≡ x
-  meant-as n e = some-same (sym (means n) ∙ e)
+  meant-as : (d : Devices) (n : ℕ) {x : Outcome Cause Standing} → meaningOf house deck (namedValues object store) d n ≡ some x → meaning (house .rule) (m .statements) (namedValues object store) d n ≡ x
+  meant-as d n e = some-same (sym (means d n) ∙ e)
 
-  steps-mean : (n : ℕ) → deckSteps house deck (namedValues object store) n ≡ meaningSteps (house .rule) (m .statements) n (begin (namedValues object store))
+  steps-mean : (d : Devices) (n : ℕ) → deckSteps house deck (namedValues object store) d n ≡ meaningSteps (house .rule) (m .statements) n (begin (namedValues object store) d)
   unfolding deckSteps
-  steps-mean n = ap (λ r. meaningSteps (house .rule) (statementsOf r) n (begin (namedValues object store))) (m .reads)
+  steps-mean d n = ap (λ r. meaningSteps (house .rule) (statementsOf r) n (begin (namedValues object store) d)) (m .reads)
 
   answers : (trays : Trays) (a : ℕ) (x : Out State) → run (step o) a (fresh store (devicesOf trays)) ≡ x → running object store freshLent trays a ≡ ran o trays (steps (step o) a (fresh store (devicesOf trays))) x
   answers trays a x e = runs trays a ∙ ap (ran o trays (steps (step o) a (fresh store (devicesOf trays)))) e
 
-  -- an answer whose store holds a standing's values, and whose mark means its loss
-  alike : (r : Ran) (t : State) (s : Standing) → r .refusal ≡ accepted → r .store ≡ t .store → r .sequence ≡ sequenceOf (o .lines) (t .mark) → Holds (heldOf (m .statements)) (s .values) (t .store)
-      → SameMark (m .statements) (s .lost) (t .mark) → Alike object s r
+  -- what a run came to has used of what was lent
+  used : (trays : Trays) (a : ℕ) (x : Out State) → run (step o) a (fresh store (devicesOf trays)) ≡ x → Used trays (cameTo x .devices)
+  used trays a x e = subst (λ (y : Out State). Used trays (cameTo y .devices)) e (run-used o trays a (fresh store (devicesOf trays)) (used-none trays))
+
+  -- an answer at a state whose store holds a standing's values, whose mark means its loss, and whose cards and paper are the standing's
+  alike : (trays : Trays) (number n : ℕ) (t : State) (s : Standing) (r : Ran) → r ≡ halted number n o trays t → Used trays (t .devices)
+      → Holds (heldOf (m .statements)) (s .values) (t .store) → SameMark (m .statements) (s .lost) (t .mark) → t .devices ≡ s .devices → Alike object trays s r
   unfolding translate
-  alike r t s e f g v w =
+  alike trays number n t s r q u v w d =
+      let taken : r .cardsTaken ≡ length (cardsOf (trays .cards)) - length (t .devices .cards) = ap (λ (y : Ran). y .cardsTaken) q in
+      let same : length (t .devices .cards) ≡ length (s .devices .cards) = ap (λ (y : Devices). length (y .cards)) d in
       record {
-        accepts = e;
-        values = λ x c n. let h = named-has m x c n in ap (λ z. cell z c) f ∙ ap (cell (t .store)) (sym (h .1)) ∙ v .same x (h .0);
-        lost = g ∙ same-sequence (m .statements) (dimension-empty house (m .statements) (right m)) (s .lost) (t .mark) w;
+        accepts = ap (λ (y : Ran). y .refusal) q;
+        values = λ x c e. let h = named-has m x c e in ap (λ (y : Ran). cell (y .store) c) q ∙ ap (cell (t .store)) (sym (h .1)) ∙ v .same x (h .0);
+        lost = ap (λ (y : Ran). y .sequence) q ∙ same-sequence (m .statements) (not-run-empty house (m .statements) (right m)) (s .lost) (t .mark) w;
+        lines = ap (λ (y : Ran). y .lines) q ∙ ap (λ (y : Devices). linesAfter (y .paper .lines) (trays .lines)) d;
+        written = ap (λ (y : Ran). y .linesWritten) q ∙ ap (λ (y : Devices). length (y .paper .lines)) d;
+        cards = omega (arith, last-count (u .cards));
       }
 
   -- body 6 tells the statement of a word
@@ -121,15 +133,15 @@ module _ {house : House} {deck object : List ℕ} (m : Made house deck object) (
   unfolding lineOf translate
   tells j i w =
       ap (λ x. lineInObject x i) (reads-back m)
-      ∙ same-sequence (m .statements) (dimension-empty house (m .statements) (right m)) (suc j) (suc i) (marked j refl (omega (arith, w .0)) (omega (arith, w .1)))
+      ∙ same-sequence (m .statements) (not-run-empty house (m .statements) (right m)) (suc j) (suc i) (marked j refl (omega (arith, w .0)) (omega (arith, w .1)))
 
   halted-alike : (trays : Trays) (a n : ℕ) (h : Cause) (t : State) (s : Standing) → run (step o) a (fresh store (devicesOf trays)) ≡ halt (haltOf h) t → steps (step o) a (fresh store (devicesOf trays)) ≡ n → InStatement (m .statements) (s .at) (t .index)
-      → Holds (heldOf (m .statements)) (s .values) (t .store) → SameMark (m .statements) (s .lost) (t .mark) → HaltedAlike house deck object h s n (running object store freshLent trays a)
+      → Holds (heldOf (m .statements)) (s .values) (t .store) → SameMark (m .statements) (s .lost) (t .mark) → t .devices ≡ s .devices → HaltedAlike house deck object trays h s n (running object store freshLent trays a)
   unfolding given
-  halted-alike trays a n h t s e f g v w =
+  halted-alike trays a n h t s e f g v w d =
       let q = answers trays a (halt (haltOf h) t) e in
       record {
-        alike = alike (running object store freshLent trays a) t s (ap (λ x. x .refusal) q) (ap (λ x. x .store) q) (ap (λ x. x .sequence) q) v w;
+        alike = alike trays _ _ t s (running object store freshLent trays a) q (used trays a (halt (haltOf h) t) e) v w d;
         halts = ap (λ x. x .halt) q;
         at = subst (λ x. InStatement (statementsOf x) (s .at) (running object store freshLent trays a .lent .index)) (sym (m .reads))
             (subst (λ i. InStatement (m .statements) (s .at) i) (sym (ap (λ x. x .lent .index) q)) g);
@@ -144,12 +156,13 @@ pub halts-kept : HaltsAlike
 halts-kept house deck object store trays c stored n h s e allowances =
     let m = made c in
     let a = sum allowances in
-    let x = halts-alike house (m .lawful) (m .statements) (sound (right m)) (namedValues object store) store (starting m store stored) (devicesOf trays) n h s (meant-as m store stored n e) in
-    let count = steps-mean m store stored n in (
-      λ enough. subst (λ r. HaltedAlike house deck object h s (deckSteps house deck (namedValues object store) n) r) (sym (serial m store stored trays allowances))
-          (let l : meaningSteps (house .rule) (m .statements) n (begin (namedValues object store)) ≤ a = omega arith in
-          halted-alike m store stored trays a _ h (x .at) s (x .halted a l) (x .took a l ∙ sym count) (x .among) (x .values) (x .mark)),
-      λ fewer. let l : a < meaningSteps (house .rule) (m .statements) n (begin (namedValues object store)) = omega arith in
+    let d = devicesOf trays in
+    let x = halts-alike house (m .lawful) (m .statements) (sound (right m)) (namedValues object store) store (starting m store stored) d n h s (meant-as m store stored d n e) in
+    let count = steps-mean m store stored d n in (
+      λ enough. subst (λ r. HaltedAlike house deck object trays h s (deckSteps house deck (namedValues object store) d n) r) (sym (serial m store stored trays allowances))
+          (let l : meaningSteps (house .rule) (m .statements) n (begin (namedValues object store) d) ≤ a = omega arith in
+          halted-alike m store stored trays a _ h (x .at) s (x .halted a l) (x .took a l ∙ sym count) (x .among) (x .values) (x .mark) (x .left)),
+      λ fewer. let l : a < meaningSteps (house .rule) (m .statements) n (begin (namedValues object store) d) = omega arith in
           let (t, g) = x .before a l in
           ap (λ r. r .halt) (serial m store stored trays allowances ∙ answers m store stored trays a (go t) g),
     )
@@ -158,41 +171,43 @@ pub goes-kept : GoesAlike
 unfolding given
 goes-kept house deck object store trays c stored n s e allowances just =
     let m = made c in
-    let count = steps-mean m store stored n in
-    let x = goes-alike house (m .lawful) (m .statements) (sound (right m)) (namedValues object store) store (starting m store stored) (devicesOf trays) n s (meant-as m store stored n e) in
+    let d = devicesOf trays in
+    let count = steps-mean m store stored d n in
+    let x = goes-alike house (m .lawful) (m .statements) (sound (right m)) (namedValues object store) store (starting m store stored) d n s (meant-as m store stored d n e) in
     let f = step (translate house (m .statements)) in
-    let g : run f (sum allowances) (fresh store (devicesOf trays)) ≡ go (x .at) = ap (λ a. run f a (fresh store (devicesOf trays))) (just ∙ count) ∙ x .goes in
+    let g : run f (sum allowances) (fresh store d) ≡ go (x .at) = ap (λ a. run f a (fresh store d)) (just ∙ count) ∙ x .goes in
     let q = serial m store stored trays allowances ∙ answers m store stored trays (sum allowances) (go (x .at)) g in
     record {
-      alike = alike m store stored (series object store freshLent trays allowances) (x .at) s (ap (λ r. r .refusal) q) (ap (λ r. r .store) q) (ap (λ r. r .sequence) q) (x .values) (x .mark);
+      alike = alike m store stored trays _ _ (x .at) s (series object store freshLent trays allowances) q (used m store stored trays (sum allowances) (go (x .at)) g) (x .values) (x .mark) (x .left);
       halts = ap (λ r. r .halt) q;
       at = ap (λ r. r .lent .index) q ∙ x .index ∙ ap (λ r. addressAt (statementsOf r) (s .at)) (sym (m .reads));
       height = ap (λ r. r .lent .height) q ∙ ap length (x .stack);
-      steps = ap (λ r. r .steps) q ∙ steps-go f (sum allowances) (fresh store (devicesOf trays)) (x .at) g ∙ just;
+      steps = ap (λ r. r .steps) q ∙ steps-go f (sum allowances) (fresh store d) (x .at) g ∙ just;
     }
 
 -- a run that halts other than by 2 is the machine's, halted
 module _ {house : House} {deck object : List ℕ} (m : Made house deck object) (store : List ℤ) (stored : rightStore object store ≡ true) (trays : Trays) (a : ℕ) where
-  meant : (running object store freshLent trays a .halt ≡ 2 → ⊥) → Meant house deck object store (running object store freshLent trays a)
+  meant : (running object store freshLent trays a .halt ≡ 2 → ⊥) → Meant house deck object store trays (running object store freshLent trays a)
   meant other = by (run (step (translate house (m .statements))) a (fresh store (devicesOf trays))) refl
     where
-      by : (x : Out State) → run (step (translate house (m .statements))) a (fresh store (devicesOf trays)) ≡ x → Meant house deck object store (running object store freshLent trays a)
+      by : (x : Out State) → run (step (translate house (m .statements))) a (fresh store (devicesOf trays)) ≡ x → Meant house deck object store trays (running object store freshLent trays a)
       by (go t) e = absurd (other (ap (λ r. r .halt) (answers m store stored trays a (go t) e)))
       by (halt h t) e =
-          let x = halts-meant house (m .lawful) (m .statements) (sound (right m)) (namedValues object store) store (starting m store stored) (devicesOf trays) a h t e in
+          let d = devicesOf trays in
+          let x = halts-meant house (m .lawful) (m .statements) (sound (right m)) (namedValues object store) store (starting m store stored) d a h t e in
           record {
             count = x .count;
             how = x .how;
             end = x .at;
-            halts = means m store stored (x .count) ∙ ap some (x .halted);
-            alike = halted-alike m store stored trays a _ (x .how) t (x .at) (e ∙ ap (λ i. halt i t) (sym (x .told))) (x .took ∙ sym (steps-mean m store stored (x .count))) (x .among) (x .values) (x .mark);
+            halts = means m store stored d (x .count) ∙ ap some (x .halted);
+            alike = halted-alike m store stored trays a _ (x .how) t (x .at) (e ∙ ap (λ i. halt i t) (sym (x .told))) (x .took ∙ sym (steps-mean m store stored d (x .count))) (x .among) (x .values) (x .mark) (x .left);
           }
 
 pub means-kept : MeansAlike
 means-kept house deck object store trays c stored allowances other =
     let m = made c in
     let q = serial m store stored trays allowances in
-    subst (λ r. Meant house deck object store r) (sym q) (meant m store stored trays (sum allowances) (λ e. other (ap (λ r. r .halt) q ∙ e)))
+    subst (λ r. Meant house deck object store trays r) (sym q) (meant m store stored trays (sum allowances) (λ e. other (ap (λ r. r .halt) q ∙ e)))
 
 pub never-kept : NeverHalts
 never-kept house deck object store trays c stored never allowances = by (ℕ-discrete (series object store freshLent trays allowances .halt) 2)
@@ -202,11 +217,12 @@ never-kept house deck object store trays c stored never allowances = by (ℕ-dis
     by (no e) = let x = means-kept house deck object store trays c stored allowances e in absurd (never (x .count) (x .how) (x .end) (x .halts))
 
 pub ends-kept : EndsAfterDo
-ends-kept house deck object store c stored n s e =
+ends-kept house deck object store trays c stored n s e =
     let m = made c in
+    let d = devicesOf trays in
     subst (λ r. (x : Statement) → getElem? (statementsOf r) (s .at) ≡ some x → (d : Do) → Among d (endings (statementsOf r) (x .number))
     → (limit : ℤ) × ((step : ℤ) × ((s .entered (d .position) ≡ bounds limit step) × (positive step ≡ true)))) (sym (m .reads))
-    (ends-entered house (m .lawful) (m .statements) (sound (right m)) (namedValues object store) store (starting m store stored) n s (meant-as m store stored n e))
+    (ends-entered house (m .lawful) (m .statements) (sound (right m)) (namedValues object store) store (starting m store stored) d n s (meant-as m store stored d n e))
 
 -- ---- body 7
 

@@ -15,12 +15,14 @@ use Rattle.rules_object.proofs.ObjectExamples.{p9, p10, p11, p12}
 use Rattle.rules_object.proofs.CheckExactly.{check-exactly}
 use Rattle.rules_object.proofs.Runnable.{runs-exactly, benches-exactly, fresh-runnable, leaves-runnable}
 use Rattle.rules_object.proofs.Touches.{touches-only}
+use Rattle.rules_object.proofs.LentTrays.{run-trays, bench-trays}
 use Rattle.rules_object.proofs.Refusals.{run-keeps, bench-keeps, map-keeps, bench-only}
 use Rattle.rules_object.proofs.RoundTrip.{reads-back, writes-back}
 use Rattle.rules_deck.specs.Translation.{translate}
 use Rattle.rules_deck.specs.Compile.{Read, notRead, read, deckOf, writeRead, compiling}
 use Rattle.rules_deck.proofs.Houses.{lawful1401}
-use Rattle.rules_text.proofs.Spellings.{spell-read, own-text, read-exactly, one-spelled}
+use Rattle.rules_text.proofs.Spellings.{own-text}
+use Rattle.rules_text.proofs.Statements.{punched-exactly, one-punched, format-read, spelled-back}
 use Rattle.rules_deck.proofs.NoForm.{ten-exactly}
 use Rattle.rules_deck.proofs.CompiledWritable.{compiled-writable}
 use Rattle.rules_deck.proofs.Proved.{decks-right}
@@ -81,11 +83,12 @@ kept =
       neverAbove = above-kept;
       refusalKeeps = keeps;
       roundTrip = round;
-      readExactly = read-exactly;
-      readBack = (spell-read, own-text);
-      noTwoForms = λ text f g p q. one-spelled p q;
+      readExactly = punched-exactly;
+      readBack = (spelled-back, format-read, own-text);
+      noTwoForms = one-punched;
       tenExactly = ten-exactly;
       table = record { decks = decks-right; p9 = p9; p10 = p10; p11 = p11; p12 = p12 };
       programPrints = program-kept;
+      staysInTrays = λ object store l trays a. (run-trays object store l trays a, bench-trays object store l trays a);
       printedReadsBack = λ rule v fits width h before after. print-read-at (rule .ceiling) before width v after h fits;
     }

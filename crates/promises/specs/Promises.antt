@@ -1,5 +1,6 @@
 -- Every promise, each under a sentence in plain words. Decks and objects are bytes here; `compiling`, `checking`, `running`, `benching` and `mapping` are the calls,
--- `meaningOf` is what a deck means, `printed` what the program prints. A deck is compiled in a house: the calls have the 1401's with k digits, `house1401 k`. A run is lent trays, the bytes of its cards and the room for its lines. `Judged`, `Runnable`, `TouchesOnly` and `StepsOf` stand in `rules_object`, in `Promised.antt`. `proofs/Kept.antt` has the proof of each.
+-- `meaningOf` is what a deck means, `printed` what the program prints. A deck is compiled in a house: the calls have the 1401's with k digits, `house1401 k`. A run is lent trays, the bytes of its cards and the room for its lines;
+-- the meaning starts with the same cards and the same room, `devicesOf trays`. `Judged`, `Runnable`, `TouchesOnly`, `InTrays` and `StepsOf` stand in `rules_object`, in `Promised.antt`. `proofs/Kept.antt` has the proof of each.
 -- Assumes nothing.
 use mathlib.Core.Path.{_≡_}
 use mathlib.Core.Logic.{_↔_}
@@ -14,7 +15,9 @@ use Rattle.rules_shared.specs.Limits.{limits}
 use Rattle.rules_shared.specs.House.{House, house1401}
 use Rattle.rules_shared.specs.Runs.{go, halt, run}
 use Rattle.rules_formats.specs.Fields.{holds, printed as printedNumber, fieldRead}
-use Rattle.rules_formats.specs.Walk.{Trays, noTrays, devicesOf}
+use Rattle.rules_formats.specs.Format.{Format}
+use Rattle.rules_formats.specs.Spelled.{punch, Punchable}
+use Rattle.rules_formats.specs.Walk.{cardsOf, Trays, devicesOf, linesAfter}
 use Rattle.rules_object.specs.Halts.{haltNumber}
 use Rattle.rules_shared.specs.Choose.{positive, SubscriptParts, subscriptValue, place}
 use Rattle.rules_object.specs.Object.{Named, Object}
@@ -31,8 +34,8 @@ use Rattle.rules_object.specs.Calls.{checking, Lent, taken, Ran, notRun, runnin
 use Rattle.rules_object.specs.Safe.{Right, NoFaultHalt, ranWithCells, freshLent, rest, afterRun, In}
 use Rattle.rules_object.specs.Small.{wordHLT, wordCON, wordADD, wordJMP, object, codeOnly}
 use Rattle.rules_shared.specs.Lists.{Each}
-use Rattle.rules_object.specs.Promised.{Judged, rightStore, Runnable, TouchesOnly, StepsOf}
-use Rattle.rules_text.specs.Trees.{Name, Statement, Form}
+use Rattle.rules_object.specs.Promised.{Judged, rightStore, Runnable, TouchesOnly, InTrays, StepsOf}
+use Rattle.rules_text.specs.Trees.{Name, Statement, Form, format}
 use Rattle.rules_deck.specs.Deck.{Do, endings}
 use Rattle.rules_text.specs.Cards.{cardLength}
 use Rattle.rules_text.specs.Grammar.{formOf}
@@ -41,12 +44,13 @@ use Rattle.rules_deck.specs.Translation.{addressAt, filled}
 use Rattle.rules_deck.specs.Compile.{deckOf, compiling}
 use Rattle.rules_deck.specs.Lawful.{Lawful}
 use Rattle.rules_deck.specs.Accepted.{Among}
-use Rattle.rules_text.specs.Spelling.{spellForm, Spells, Spellable, withoutPluses}
+use Rattle.rules_text.specs.Spelling.{spellForm, Spellable, withoutPluses}
+use Rattle.rules_text.specs.Statements.{punchedForm, SpellsPunched}
 use Rattle.rules_deck.specs.Unspelled.{NoForm}
 use Rattle.rules_deck.specs.Seen.{statementsOf, meaningOf, haltOf, deckSteps, InStatement, deckNames, deckDims, deckLevels, objectIn, namedCell, namedValues, lineOf, series, sum}
 use Rattle.rules_deck.specs.Worked.{decks, DecksRight}
-use Rattle.rules_program.specs.Text.{haltLine, refusedLine, nameLines}
-use Rattle.rules_program.specs.Program.{controlOf, zeroStore, printed}
+use Rattle.rules_program.specs.Text.{paperLines, haltLine, refusedLine, nameLines}
+use Rattle.rules_program.specs.Program.{controlOf, zeroStore, thousandLines, printed}
 
 -- compiling the deck in a house that is lawful gives the object
 pub record Compiled (house : House) (deck object : List ℕ) : Type 0 where
@@ -61,46 +65,50 @@ HouseLawful = (k : ℕ) → Lawful (house1401 k)
 
 -- ---- 1, 2. A run does as the deck means
 
--- the answer has the meaning's named values, and its first statement that lost digits
-pub record Alike (object : List ℕ) (m : Standing) (r : Ran) : Type 0 where
+-- the answer has the meaning's named values, its first statement that lost digits, its lines at the start of the room lent, and their count;
+-- the cards taken and those that the meaning has left are all that were lent
+pub record Alike (object : List ℕ) (trays : Trays) (m : Standing) (r : Ran) : Type 0 where
   pub accepts : r .refusal ≡ accepted
   pub values : (x : Key) (c : ℕ) → namedCell object x ≡ some c → cell (r .store) c ≡ m .values x
   pub lost : r .sequence ≡ m .lost
+  pub lines : r .lines ≡ linesAfter (m .devices .paper .lines) (trays .lines)
+  pub written : r .linesWritten ≡ length (m .devices .paper .lines)
+  pub cards : r .cardsTaken + length (m .devices .cards) ≡ length (cardsOf (trays .cards))
 
 -- and the same halt, at a word of the statement at which the meaning halted, which body 6 tells, after n steps
-pub record HaltedAlike (house : House) (deck object : List ℕ) (h : Cause) (m : Standing) (n : ℕ) (r : Ran) : Type 0 where
-  pub alike : Alike object m r
+pub record HaltedAlike (house : House) (deck object : List ℕ) (trays : Trays) (h : Cause) (m : Standing) (n : ℕ) (r : Ran) : Type 0 where
+  pub alike : Alike object trays m r
   pub halts : r .halt ≡ haltNumber (haltOf h)
   pub at : InStatement (statementsOf (deckOf house deck)) (m .at) (r .lent .index)
   pub line : lineOf object (r .lent .index) ≡ suc (m .at)
   pub steps : r .steps ≡ n
 
--- If the meaning, which starts from the named values alone, halts, then runs one after the other halt alike, after just the steps that its statements take; allowed fewer, they halt by 2.
+-- If the meaning, which starts from the named values, the cards and the room for lines alone, halts, then runs one after the other halt alike, after just the steps that its statements take; allowed fewer, they halt by 2.
 abbrev pub HaltsAlike : Type 0
 HaltsAlike =
     (house : House) (deck object : List ℕ) (store : List ℤ) (trays : Trays) → Compiled house deck object → rightStore object store ≡ true → (n : ℕ) (h : Cause) (m : Standing) →
-    meaningOf house deck (namedValues object store) n ≡ some (halt h m) → (allowances : List ℕ) →
-    (deckSteps house deck (namedValues object store) n ≤ sum allowances →
-    HaltedAlike house deck object h m (deckSteps house deck (namedValues object store) n) (series object store freshLent trays allowances)) ×
-    (sum allowances < deckSteps house deck (namedValues object store) n → series object store freshLent trays allowances .halt ≡ 2)
+    meaningOf house deck (namedValues object store) (devicesOf trays) n ≡ some (halt h m) → (allowances : List ℕ) →
+    (deckSteps house deck (namedValues object store) (devicesOf trays) n ≤ sum allowances →
+    HaltedAlike house deck object trays h m (deckSteps house deck (namedValues object store) (devicesOf trays) n) (series object store freshLent trays allowances)) ×
+    (sum allowances < deckSteps house deck (namedValues object store) (devicesOf trays) n → series object store freshLent trays allowances .halt ≡ 2)
 
 -- the meaning halts, and the run with it
-pub record Meant (house : House) (deck object : List ℕ) (store : List ℤ) (r : Ran) : Type 0 where
+pub record Meant (house : House) (deck object : List ℕ) (store : List ℤ) (trays : Trays) (r : Ran) : Type 0 where
   pub count : ℕ
   pub how : Cause
   pub end : Standing
-  pub halts : meaningOf house deck (namedValues object store) count ≡ some (halt how end)
-  pub alike : HaltedAlike house deck object how end (deckSteps house deck (namedValues object store) count) r
+  pub halts : meaningOf house deck (namedValues object store) (devicesOf trays) count ≡ some (halt how end)
+  pub alike : HaltedAlike house deck object trays how end (deckSteps house deck (namedValues object store) (devicesOf trays) count) r
 
 -- If runs one after the other halt other than by 2, the meaning halts alike.
 abbrev pub MeansAlike : Type 0
 MeansAlike =
     (house : House) (deck object : List ℕ) (store : List ℤ) (trays : Trays) → Compiled house deck object → rightStore object store ≡ true → (allowances : List ℕ) →
-    (series object store freshLent trays allowances .halt ≡ 2 → ⊥) → Meant house deck object store (series object store freshLent trays allowances)
+    (series object store freshLent trays allowances .halt ≡ 2 → ⊥) → Meant house deck object store trays (series object store freshLent trays allowances)
 
 -- or the allowance is used, at the first word of the statement that comes next in the meaning, after n steps
-pub record StandsAlike (house : House) (deck object : List ℕ) (m : Standing) (n : ℕ) (r : Ran) : Type 0 where
-  pub alike : Alike object m r
+pub record StandsAlike (house : House) (deck object : List ℕ) (trays : Trays) (m : Standing) (n : ℕ) (r : Ran) : Type 0 where
+  pub alike : Alike object trays m r
   pub halts : r .halt ≡ 2
   pub at : r .lent .index ≡ addressAt (statementsOf (deckOf house deck)) (m .at)
   pub height : r .lent .height ≡ 0
@@ -110,21 +118,21 @@ pub record StandsAlike (house : House) (deck object : List ℕ) (m : Standing) (
 abbrev pub GoesAlike : Type 0
 GoesAlike =
     (house : House) (deck object : List ℕ) (store : List ℤ) (trays : Trays) → Compiled house deck object → rightStore object store ≡ true → (n : ℕ) (m : Standing) →
-    meaningOf house deck (namedValues object store) n ≡ some (go m) → (allowances : List ℕ) → sum allowances ≡ deckSteps house deck (namedValues object store) n →
-    StandsAlike house deck object m (deckSteps house deck (namedValues object store) n) (series object store freshLent trays allowances)
+    meaningOf house deck (namedValues object store) (devicesOf trays) n ≡ some (go m) → (allowances : List ℕ) → sum allowances ≡ deckSteps house deck (namedValues object store) (devicesOf trays) n →
+    StandsAlike house deck object trays m (deckSteps house deck (namedValues object store) (devicesOf trays) n) (series object store freshLent trays allowances)
 
 -- A deck that never halts is never made to halt.
 abbrev pub NeverHalts : Type 0
 NeverHalts =
     (house : House) (deck object : List ℕ) (store : List ℤ) (trays : Trays) → Compiled house deck object → rightStore object store ≡ true →
-    ((n : ℕ) (h : Cause) (m : Standing) → meaningOf house deck (namedValues object store) n ≡ some (halt h m) → ⊥) →
+    ((n : ℕ) (h : Cause) (m : Standing) → meaningOf house deck (namedValues object store) (devicesOf trays) n ≡ some (halt h m) → ⊥) →
     (allowances : List ℕ) → series object store freshLent trays allowances .halt ≡ 2
 
 -- A DO's end is reached only after its DO, with a step above 0: so nothing depends on what hidden cells held at the start.
 abbrev pub EndsAfterDo : Type 0
 EndsAfterDo =
-    (house : House) (deck object : List ℕ) (store : List ℤ) → Compiled house deck object → rightStore object store ≡ true → (n : ℕ) (m : Standing) →
-    meaningOf house deck (namedValues object store) n ≡ some (go m) → (s : Statement) → getElem? (statementsOf (deckOf house deck)) (m .at) ≡ some s →
+    (house : House) (deck object : List ℕ) (store : List ℤ) (trays : Trays) → Compiled house deck object → rightStore object store ≡ true → (n : ℕ) (m : Standing) →
+    meaningOf house deck (namedValues object store) (devicesOf trays) n ≡ some (go m) → (s : Statement) → getElem? (statementsOf (deckOf house deck)) (m .at) ≡ some s →
     (d : Do) → Among d (endings (statementsOf (deckOf house deck)) (s .number)) → (limit : ℤ) × ((step : ℤ) × ((m .entered (d .position) ≡ bounds limit step) × (positive step ≡ true)))
 
 -- an entry of body 7 that is a name's, with what the deck says of the name
@@ -298,21 +306,22 @@ RoundTrip =
 
 -- ---- 10. The grammar, both ways
 
--- A text is read as a form exactly if it spells the form.
+-- A statement's columns are read as a form exactly if they spell the form: by their text, or, where that is of no form and begins FORMAT, as a FORMAT or as none of its forms.
 abbrev pub ReadExactly : Type 0
-ReadExactly = (text : List ℕ) (f : Form) → (formOf text ≡ some f) ↔ Spells text f
+ReadExactly = (columns : List ℕ) (f : Form) → (punchedForm columns ≡ some f) ↔ SpellsPunched columns f
 
--- Every form written out is read back as itself, and what is read is its form's own text but for plus signs that no tree keeps.
+-- Every form written out is read back as itself, a FORMAT too; and what is read by its text is its form's own text but for plus signs that no tree keeps.
 abbrev pub ReadBack : Type 0
 ReadBack =
-    ((f : Form) → Spellable f → formOf (spellForm f) ≡ some f) ×
+    ((f : Form) → Spellable f → punchedForm (spellForm f) ≡ some f) ×
+    ((f : Format) → Punchable f → punchedForm (punch f) ≡ some (format (some f))) ×
     ((text : List ℕ) (f : Form) → formOf text ≡ some f → Spellable f × (withoutPluses text ≡ spellForm f))
 
--- No text is of two statement forms.
+-- No columns spell two statement forms.
 abbrev pub NoTwoForms : Type 0
-NoTwoForms = (text : List ℕ) (f g : Form) → Spells text f → Spells text g → f ≡ g
+NoTwoForms = (columns : List ℕ) (f g : Form) → SpellsPunched columns f → SpellsPunched columns g → f ≡ g
 
--- 10 is given exactly for a statement whose text spells no form, where the cards are right and the statements before it pass.
+-- 10 is given exactly for a statement whose text spells no form and does not begin FORMAT, where the cards are right and the statements before it pass.
 abbrev pub TenExactly : Type 0
 TenExactly = (house : House) (deck output : List ℕ) (q : ℕ) → (compiling house deck output .refusal ≡ refusal 10 (suc q) 0) ↔ NoForm house deck q
 
@@ -335,15 +344,21 @@ pub data Prints (card deck : List ℕ) : List ℕ → Type 0 where
   -- the deck is refused whatever room its object has, by a number that only decks are refused by: never by 30, nor by 40 and above
   noDeck : (k : ℕ) (r : Refusal) → controlOf card ≡ some k → ((output : List ℕ) → compiling (house1401 k) deck output .refusal ≡ r) → (1 ≤ r .number) × (r .number ≤ 25)
       → Prints card deck (refusedLine (r .number) (r .place))
-  -- its object is run with a zero store, no cards and no lines, and not refused: the halt, and the values of the names
+  -- its object is run with a zero store, no cards and room for 1,000 lines, and not refused: the lines written, without the blanks at their ends, the halt, and the values of the names
   ran : (k : ℕ) (object : List ℕ) (o : Object) (r : Ran) → controlOf card ≡ some k → Compiled (house1401 k) deck object → readObject object ≡ some o
-      → running object zeroStore freshLent noTrays 1000000 ≡ r → r .refusal ≡ accepted → Prints card deck (haltLine (r .halt) (r .steps) (r .sequence) ++ nameLines (o .names) (r .store))
+      → running object zeroStore freshLent thousandLines 1000000 ≡ r → r .refusal ≡ accepted
+      → Prints card deck (paperLines (r .linesWritten) (r .lines) ++ (haltLine (r .halt) (r .steps) (r .sequence) ++ nameLines (o .names) (r .store)))
 
 -- Of every input one of these is printed, the first 80 bytes being the control card.
 abbrev pub ProgramPrints : Type 0
 ProgramPrints = (input : List ℕ) → Prints (take cardLength input) (drop cardLength input) (printed input)
 
--- ---- 13. What is printed reads back
+-- ---- 13. Cards and lines
+
+-- Neither a run nor a bench run, refused or not, takes a card or writes a line that was not lent; the room for lines comes back as long as it was, and only the lines written have changed in it.
+abbrev pub StaysInTrays : Type 0
+StaysInTrays =
+    (object : List ℕ) (store : List ℤ) (l : Lent) (trays : Trays) (a : ℕ) → InTrays trays (running object store l trays a) × InTrays trays (benching object store l trays a)
 
 -- A number printed in a field that can hold it, its digits and minus, reads back as the same number from the same columns, the blanks before it and all.
 abbrev pub PrintedReadsBack : Type 0
@@ -389,4 +404,5 @@ pub record Kept : Type 0 where
   pub tenExactly : TenExactly
   pub table : Table
   pub programPrints : ProgramPrints
+  pub staysInTrays : StaysInTrays
   pub printedReadsBack : PrintedReadsBack

@@ -7,7 +7,7 @@ use mathlib.Core.Option.{Option, none, some}
 use mathlib.Core.Bool.{Bool, _&&_, cond}
 use lib.Dec.{eqb}
 use lib.ListN.{length, take, drop}
-use Rattle.rules_text.specs.Trees.{Digits, Expr, con, var, elm, neg, par, bin, Array, array, Form, assign, goTo, computed, ifs, loop, continue, stop, end, dimension, formNames, formConstants, formLevels}
+use Rattle.rules_text.specs.Trees.{Digits, Expr, con, var, elm, neg, par, bin, Array, array, Form, assign, goTo, computed, ifs, loop, continue, stop, end, dimension, transfer, format, formNames, formConstants, formLevels}
 use Rattle.rules_text.specs.Tokens.{comma, wordContinue, wordStop, wordEnd, Reader, give, ahead, andThen, after, allOf, number}
 use Rattle.rules_deck.specs.Meaning.{third}
 use Rattle.read_cards.specs.declared.Number.{Number}
@@ -16,6 +16,7 @@ use Rattle.read_tokens.specs.Words.{capped, nameOf, nameWords, startsWord}
 use Rattle.read_tokens.specs.Sizes.{sizesOf}
 use Rattle.read_elements.specs.Values.{targetValue}
 use Rattle.read_items.specs.Items.{flat, exprSizes}
+use Rattle.read_transfers.specs.Transfers.{listWords, directionValue}
 use Rattle.read_forms.specs.declared.Parameter.{Parameter}
 use Rattle.read_forms.specs.declared.Parameter.the-variants as parameter
 use Rattle.read_forms.specs.declared.Statement.{Statement}
@@ -32,7 +33,7 @@ unfoldable pub allWords : List Array → List ℕ
 allWords [] = []
 allWords (a ∷ more) = arrayWords a ++ allWords more
 
--- an expression's items, a computed GO TO's numbers, a DIMENSION's arrays
+-- an expression's items, a computed GO TO's numbers, a DIMENSION's arrays, the items of a READ's or PRINT's list
 unfoldable pub formWords : Form → List ℕ
 formWords (assign t e) = flat e
 formWords (goTo n) = []
@@ -43,6 +44,8 @@ formWords continue = []
 formWords stop = []
 formWords end = []
 formWords (dimension arrays) = allWords arrays
+formWords (transfer d n list) = listWords list
+formWords (format f) = []
 
 -- ---- what is given back
 
@@ -84,6 +87,16 @@ statementOf continue = statement.Continue
 statementOf stop = statement.Stop
 statementOf end = statement.End
 statementOf (dimension arrays) = statement.Dimension (record { arrays = length arrays; sizes = formSizes (dimension arrays) })
+statementOf (transfer d n list) =
+    statement.Transfer (record {
+      direction = directionValue d;
+      format = numberValue n;
+      listed = length list;
+      count = length (listWords list);
+      sizes = formSizes (transfer d n list);
+    })
+-- a FORMAT is read from its columns, and not from its text
+statementOf (format f) = statement.Bad
 
 unfoldable pub answer : Option Form → Statement
 answer none = statement.Bad

@@ -1,4 +1,4 @@
-// The statement forms: assignment, GO TO, IF, and those that are a word. The others are in the crates above.
+// The statement forms: assignment, GO TO, IF, READ, PRINT, and those that are a word. The others are in the crates above.
 ghost use mathlib.Core.Path.{_≡_};
 ghost use Prim.Native.Nat.{_*_, _≤_};
 ghost use lib.ListN.{length, drop};
@@ -6,6 +6,7 @@ ghost use Rattle.rules_text.specs.Tokens.{comma, after, number};
 ghost use Rattle.rules_text.specs.Grammar.{readAssignment, readGoTo, readIf};
 ghost use Rattle.read_tokens.specs.Words.{most};
 ghost use Rattle.read_tokens.specs.Reading.{ReadsNumber};
+ghost use Rattle.read_transfers.specs.Transfers.{readEither};
 ghost use Rattle.read_forms.specs.Statements.{asNumber, answer, Reads, EndsIf, onlyWord, wordForm};
 use read_cards::Number;
 use read_elements::GotPlace;
@@ -14,6 +15,8 @@ use read_items::Got;
 use read_tokens::Name;
 use read_tokens::Sizes;
 use read_tokens::Token;
+use read_transfers::Direction;
+use read_transfers::GotTransfer;
 
 pub struct Assignment {
     pub target: Target,
@@ -59,6 +62,16 @@ pub struct Dimension {
     pub sizes: Sizes,
 }
 
+pub struct Transfer {
+    pub direction: Direction,
+    // the FORMAT's number
+    pub format: Number,
+    // items of the list, and their words in the table
+    pub listed: usize,
+    pub count: usize,
+    pub sizes: Sizes,
+}
+
 // Bad is refused 10.
 pub enum Statement {
     Assign(Assignment),
@@ -70,6 +83,7 @@ pub enum Statement {
     Stop,
     End,
     Dimension(Dimension),
+    Transfer(Transfer),
     Bad,
 }
 
@@ -198,6 +212,26 @@ pub fn read_if(text: &[u8], items: &mut [u64]) -> Statement
         return Statement::Bad;
     }
     read_exits(text, a + 1, n, sizes)
+}
+
+// READn,list or PRINTn,list
+pub fn read_transfer(text: &[u8], items: &mut [u64]) -> Statement
+    requires { ⌜ 5 * length (now text) ≤ length (now items) ⌝ }
+    ensures { λ r. ⌜ Reads (now (items .exit)) (readEither (now (text .entry))) r ⌝ }
+{
+    let GotTransfer::Read(t) = read_transfers::read_transfer(text, items) else {
+        return Statement::Bad;
+    };
+    let direction = t.direction;
+    let list = t.list;
+    let sizes = list.sizes;
+    Statement::Transfer(Transfer {
+        direction,
+        format: number_of(t.format),
+        listed: list.count,
+        count: list.words,
+        sizes,
+    })
 }
 
 // Whether the text is this word and nothing more.

@@ -121,10 +121,21 @@ unfolding targetWords targetValue targetWeight
 target-words (cell v) = refl
 target-words (element v s) = refl
 
-pub place-room : {s : List ℕ} {at : ℕ} {t : Target} {z : Sizes} → TookPlace s at t z → length (targetWords t) ≤ 5 * at
-place-room {s} {at} {t} {z} k =
+pub place-room : {s : List ℕ} {from at : ℕ} {o : Found trees.Target} {t : Target} {z : Sizes} → chains.Took targetValue targetSizes targetWeight s from o at t z
+    → length (targetWords t) + 5 * from ≤ 5 * at
+place-room {s} {from} {at} {o} {t} {z} k =
     let e : length (targetWords t) ≡ targetWeight (k .tree) = ap (λ (x : Target). length (targetWords x)) (k .value-is) ∙ target-words (k .tree) in
     omega (arith, k .few)
+
+-- and a byte at least
+pub place-takes : {s : List ℕ} {from at : ℕ} {o : Found trees.Target} {t : Target} {z : Sizes} → chains.Took targetValue targetSizes targetWeight s from o at t z
+    → from + 1 ≤ at
+unfolding targetWeight
+place-takes k = let some = weighs (k .tree) in omega (arith, k .few)
+  where
+    weighs : (t : trees.Target) → 5 ≤ targetWeight t
+    weighs (cell v) = omega arith
+    weighs (element v s) = omega arith
 
 operand-words : (t : trees.Target) → flat (operandOf t) ≡ targetWords (targetValue t)
 unfolding operandOf flat targetWords targetValue
@@ -149,9 +160,10 @@ place-refused {s} e = refuse (then-bad s 0 place _ e) refl
 
 pub place-read : {s a b : List ℕ} {n at m : ℕ} {t : Target} {z : Sizes} → TookPlace s at t z → Put a b n (targetWords t) m → Parsed s a b n (placed s) (Read at m z)
 place-read {s} {a} {b} {n} {at} {m} {t} {z} k p =
+    let room : length (targetWords t) ≤ 5 * at = omega (arith, place-room k) in
     leaf (operandOf (k .tree)) (targetWords t)
     (then-upto s 0 place _ (k .upto) (give-upto s at (operandOf (k .tree)) (k .upto .within))) p
-    (operand-words (k .tree) ∙ ap targetWords (sym (k .value-is))) (operand-levels (k .tree)) (k .sizes-is ∙ operand-sizes (k .tree)) (place-room k)
+    (operand-words (k .tree) ∙ ap targetWords (sym (k .value-is))) (operand-levels (k .tree)) (k .sizes-is ∙ operand-sizes (k .tree)) room
 
 operand-place : (s : List ℕ) → number s ≡ bad → operand s ≡ placed s
 unfolding operand

@@ -9,12 +9,15 @@ use native.Mathlib.Omega.{arith}
 use lib.ListN.{length, take}
 use Rattle.rules_shared.specs.Lists.{each-more}
 use Rattle.rules_shared.proofs.EachLaws.{each-one}
-use Rattle.rules_text.specs.Trees.{Form, assign, goTo, computed, ifs, loop, continue, stop, end, dimension}
+use Rattle.rules_text.specs.Trees.{Form, continue, stop, end}
 use Rattle.rules_text.specs.Tokens.{comma, equals, wordContinue, wordStop, wordEnd, Reader, give, afterWord, whole}
 use Rattle.rules_text.specs.Grammar.{plainGoTo, doLoop, readAssignment, readGoTo, readComputed, readIf, readDo, readContinue, readStop, readEnd, readDimension, present, readings, firstOf, formOf}
+use Rattle.rules_text.specs.Spelling.{Spells, an-assignment, a-go-to, a-computed, an-if, a-loop, a-continue, a-stop, an-end, a-dimension, a-transfer}
 use Rattle.rules_text.proofs.Readers.{Any, Good, good-then, good-give, good-after, good-word, good-choose, good-any, good-number, good-name}
 use Rattle.rules_text.proofs.ReadForms.{whole-good, good-parameter}
 use Rattle.rules_text.proofs.OneForm.{form-is}
+use Rattle.rules_text.proofs.SpelledText.{read-spells}
+use Rattle.read_transfers.specs.Transfers.{readEither}
 use Rattle.read_forms.specs.declared.Statement.{Statement}
 use Rattle.read_forms.specs.Statements.{formWords, statementOf, answer, words, Reads, onlyWord, wordForm}
 use Rattle.read_forms.proofs.Forms.{only-is}
@@ -25,17 +28,19 @@ use Rattle.read_statement.specs.Which.{isForm}
 clash : true ≡ false → ⊥
 clash e = let z : _≡_ {A = ℕ} 0 1 = cc in omega arith
 
-form-true : (f : Form) → isForm (statementOf f) ≡ true
+-- no text spells a FORMAT
+spelled-form : {s : List ℕ} {f : Form} → Spells s f → isForm (statementOf f) ≡ true
 unfolding isForm statementOf
-form-true (assign t e) = refl
-form-true (goTo n) = refl
-form-true (computed ns v) = refl
-form-true (ifs e a b c) = refl
-form-true (loop n v p q r) = refl
-form-true continue = refl
-form-true stop = refl
-form-true end = refl
-form-true (dimension l) = refl
+spelled-form (an-assignment t p u) = refl
+spelled-form (a-go-to n p) = refl
+spelled-form (a-computed ns v p few most q) = refl
+spelled-form (an-if a b c u p q r) = refl
+spelled-form (a-loop n v p q r a b c d e) = refl
+spelled-form a-continue = refl
+spelled-form a-stop = refl
+spelled-form an-end = refl
+spelled-form (a-dimension a others p q) = refl
+spelled-form (a-transfer d n list p q) = refl
 
 pub settled : {b : List ℕ} {o p : Option Form} {r : Statement} → ((f : Form) → o ≡ some f → p ≡ some f) → Reads b o r → isForm r ≡ true → Reads b p r
 unfolding answer isForm
@@ -45,13 +50,13 @@ settled {b} {o} {p} {r} law h t = go o refl h
     go none e g = absurd (clash (sym t ∙ ap isForm (g .says)))
     go (some f) e g = subst (λ (y : Option Form). Reads b y r) (sym (law f e)) g
 
-pub not-this : {o : Option Form} {r : Statement} → r ≡ answer o → isForm r ≡ false → o ≡ none
+pub not-this : (s : List ℕ) {o : Option Form} {r : Statement} → ((f : Form) → o ≡ some f → formOf s ≡ some f) → r ≡ answer o → isForm r ≡ false → o ≡ none
 unfolding answer
-not-this {o} {r} h t = go o refl h
+not-this s {o} {r} law h t = go o refl h
   where
     go : (x : Option Form) → o ≡ x → r ≡ answer x → o ≡ none
     go none e g = e
-    go (some f) e g = absurd (clash (sym (form-true f) ∙ ap isForm (sym g) ∙ t))
+    go (some f) e g = absurd (clash (sym (spelled-form (read-spells s f (law f e))) ∙ ap isForm (sym g) ∙ t))
 
 pub reads-as : {b : List ℕ} {o p : Option Form} {r : Statement} → p ≡ o → Reads b o r → Reads b p r
 reads-as {b} {o} {p} {r} e h = subst (λ (x : Option Form). Reads b x r) (sym e) h
@@ -126,14 +131,12 @@ module _ (s : List ℕ) (f : Form) where
       go false false true ep eq er x = form-is s 7 f (ap some (at wordEnd end er ∙ x))
       go false false false ep eq er x = let z : _≡_ {A = ℕ} 0 1 = cc in absurd (omega arith)
 
+  pub is-dimension : readDimension s ≡ some f → formOf s ≡ some f
+  is-dimension e = form-is s 8 f (ap some e)
+
 skip : {o : Option Form} (os : List (Option Form)) → o ≡ none → firstOf (present (o ∷ os)) ≡ firstOf (present os)
 unfolding present
 skip os e = ap (λ (x : Option Form). firstOf (present (x ∷ os))) e
-
-last-one : (o : Option Form) → firstOf (present (o ∷ [])) ≡ o
-unfolding present firstOf
-last-one none = refl
-last-one (some f) = refl
 
 no-words : (s : List ℕ) → wordForm s ≡ none → (readContinue s ≡ none) × (readStop s ≡ none) × (readEnd s ≡ none)
 unfolding wordForm readContinue readStop readEnd
@@ -150,10 +153,10 @@ no-words s e = go (onlyWord wordContinue s) (onlyWord wordStop s) (onlyWord word
     go false false true ep eq er x = let z : _≡_ {A = ℕ} 0 1 = cc in absurd (omega arith)
     go false false false ep eq er x = (at wordContinue continue ep, at wordStop stop eq, at wordEnd end er)
 
--- none of the others: DIMENSION or none at all
+-- none of the others: READ, PRINT or none at all
 pub is-last : (s : List ℕ) → readAssignment s ≡ none → readGoTo s ≡ none → readComputed s ≡ none → readIf s ≡ none → readDo s ≡ none → wordForm s ≡ none
-    → formOf s ≡ readDimension s
-unfolding formOf readings
-is-last s a b c d e w =
+    → readDimension s ≡ none → formOf s ≡ readEither s
+unfolding formOf readings readEither
+is-last s a b c d e w f =
     let n = no-words s w in
-    skip _ a ∙ skip _ b ∙ skip _ c ∙ skip _ d ∙ skip _ e ∙ skip _ (n .0) ∙ skip _ (n .1) ∙ skip _ (n .2) ∙ last-one (readDimension s)
+    skip _ a ∙ skip _ b ∙ skip _ c ∙ skip _ d ∙ skip _ e ∙ skip _ (n .0) ∙ skip _ (n .1) ∙ skip _ (n .2) ∙ skip _ f

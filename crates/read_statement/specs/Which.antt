@@ -2,7 +2,7 @@
 -- Assumes nothing.
 use mathlib.Core.Bool.{Bool, true, false}
 use Rattle.read_forms.specs.declared.Statement.{Statement}
-use Rattle.read_forms.specs.declared.Statement.the-variants.{Assign, GoTo, Computed, If, Do, Continue, Stop, End, Dimension, Bad}
+use Rattle.read_forms.specs.declared.Statement.the-variants.{Assign, GoTo, Computed, If, Do, Continue, Stop, End, Dimension, Transfer, Bad}
 
 unfoldable pub isForm : Statement → Bool
 isForm (Assign a) = true
@@ -14,4 +14,5 @@ isForm Continue = true
 isForm Stop = true
 isForm End = true
 isForm (Dimension d) = true
+isForm (Transfer t) = true
 isForm Bad = false

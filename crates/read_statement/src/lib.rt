@@ -20,6 +20,7 @@ pub fn is_form(s: Statement) -> bool
         Statement::Stop => true,
         Statement::End => true,
         Statement::Dimension(_) => true,
+        Statement::Transfer(_) => true,
         Statement::Bad => false,
     }
 }
@@ -52,5 +53,9 @@ pub fn read(text: &[u8], items: &mut [u64]) -> Statement
     if is_form(word) {
         return word;
     }
-    read_lists::read_dimension(text, items)
+    let dimension = read_lists::read_dimension(text, items);
+    if is_form(dimension) {
+        return dimension;
+    }
+    read_forms::read_transfer(text, items)
 }

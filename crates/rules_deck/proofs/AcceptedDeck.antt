@@ -14,24 +14,25 @@ use Rattle.rules_shared.specs.Refusals.{Refusal}
 use Rattle.rules_shared.specs.Lists.{Each, each-none, each-more}
 use Rattle.rules_text.specs.Trees.{Form, Statement}
 use Rattle.rules_text.specs.Cards.{characters, Punched, textOf, Carded, cardsRefused, statements, carded, rightDigits}
+use Rattle.rules_text.specs.Statements.{punchedForm}
 use Rattle.rules_deck.specs.Lawful.{Lawful}
-use Rattle.rules_text.specs.Grammar.{formOf}
-use Rattle.rules_deck.specs.Judge.{Taken, nothingTaken, takes, wrong, right11, right12, right13, right14, right15, right16, right18, judgeForm}
+use Rattle.rules_deck.specs.Judge.{Taken, nothingTaken, takes, wrong, right11, right12, right13, right14, right15, right16, right17, right18, judgeForm}
 use Rattle.rules_deck.specs.Whole.{judgeDeck}
 use Rattle.rules_deck.specs.Compile.{Read, notRead, read, withStatement, afterJudging, afterReading, readText, readFrom, readCarded, orRefuse, judgeRead, deckOf}
 use Rattle.rules_deck.specs.Accepted.{takenFrom, takenBefore, JudgedAt, Accepted}
-use Rattle.rules_text.proofs.CardsLaws.{TextCharacter, textLimit, RightStatement, statements-right, statements-few}
+use Rattle.rules_text.proofs.CardsLaws.{Character, textLimit, RightStatement, statements-right, statements-few}
 use Rattle.rules_deck.proofs.TestLaws.{clash, else-both, not-wrong}
 use Rattle.rules_deck.proofs.TakenLaws.{before-next}
+use Rattle.rules_deck.proofs.ReadableColumns.{format-readable}
 
 -- ---- one statement, with what those before it had taken
 
 record Passed (house : House) (q : ℕ) (t : Taken) (s : Statement) : Type 0 where
-  text : List ℕ
-  short : length text ≤ textLimit house
-  written : characters text ≡ true
-  form : formOf text ≡ some (s .form)
-  judged : judgeForm house q (s .form) t ≡ none
+  columns : List ℕ
+  short : length columns ≤ textLimit house
+  written : characters columns ≡ true
+  form : punchedForm columns ≡ some (s .form)
+  judged : judgeForm house q (s .number) (s .form) t ≡ none
   number : s .number ≤ limits .statementNumber
 
 data From (house : House) : ℕ → Taken → List Statement → Type 0 where
@@ -42,36 +43,35 @@ data FromRead (house : House) (q : ℕ) (t : Taken) (n : ℕ) : Read → Type 0 
   refused : {r : Refusal} → FromRead house q t n (notRead r)
   is : {deck : List Statement} → From house q t deck → length deck ≡ n → FromRead house q t n (read deck)
 
-all-characters : {s : List ℕ} → Each TextCharacter s → characters s ≡ true
+all-characters : {s : List ℕ} → Each Character s → characters s ≡ true
 all-characters each-none = refl
 all-characters (each-more p h) = rw (p .is) (all-characters h)
 
 module _ (house : House) (q : ℕ) (t : Taken) (p : Punched) (right : RightStatement house p) (n : ℕ) where
-  with-statement : (f : Form) → formOf (textOf (p .raw)) ≡ some f → judgeForm house q f t ≡ none → (rest : Read) → FromRead house (suc q) (takes q f t) n rest →
+  with-statement : (f : Form) → punchedForm (p .raw) ≡ some f → judgeForm house q (p .number) f t ≡ none → (rest : Read) → FromRead house (suc q) (takes q f t) n rest →
       FromRead house q t (suc n) (withStatement (record { number = p .number; form = f }) rest)
   with-statement f e j (notRead r) refused = refused
   with-statement f e j (read deck) (is h l) =
-      is (passed (record { text = textOf (p .raw); short = right .text-short; written = all-characters (right .text-characters); form = e; judged = j; number = right .number-small }) h)
+      is (passed (record { columns = p .raw; short = right .raw-short; written = all-characters (right .raw-characters); form = e; judged = j; number = right .number-small }) h)
       (ap suc l)
 
-  after-judging : (f : Form) → formOf (textOf (p .raw)) ≡ some f → (rest : Read) → FromRead house (suc q) (takes q f t) n rest → (o : Option ℕ) → judgeForm house q f t ≡ o →
+  after-judging : (f : Form) → punchedForm (p .raw) ≡ some f → (rest : Read) → FromRead house (suc q) (takes q f t) n rest → (o : Option ℕ) → judgeForm house q (p .number) f t ≡ o →
       FromRead house q t (suc n) (afterJudging q (record { number = p .number; form = f }) rest o)
   after-judging f e rest h (some number) j = refused
   after-judging f e rest h none j = with-statement f e j rest h
 
-  after-reading : (rest : Taken → Read) → ((u : Taken) → FromRead house (suc q) u n (rest u)) → (o : Option Form) → formOf (textOf (p .raw)) ≡ o →
+  after-reading : (rest : Taken → Read) → ((u : Taken) → FromRead house (suc q) u n (rest u)) → (o : Option Form) → punchedForm (p .raw) ≡ o →
       FromRead house q t (suc n) (afterReading house q (p .number) t rest o)
   after-reading rest h none e = refused
-  after-reading rest h (some f) e = after-judging f e (rest (takes q f t)) (h (takes q f t)) (judgeForm house q f t) refl
+  after-reading rest h (some f) e = after-judging f e (rest (takes q f t)) (h (takes q f t)) (judgeForm house q (p .number) f t) refl
 
-  read-text : (rest : Taken → Read) → ((u : Taken) → FromRead house (suc q) u n (rest u)) → (text : List ℕ) → textOf (p .raw) ≡ text →
-      FromRead house q t (suc n) (readText house q (p .number) t rest text)
-  read-text rest h [] e = refused
-  read-text rest h (c ∷ text) e = after-reading rest h (formOf (c ∷ text)) (ap formOf e)
+  read-text : (rest : Taken → Read) → ((u : Taken) → FromRead house (suc q) u n (rest u)) → (text : List ℕ) → FromRead house q t (suc n) (readText house q (p .number) t rest (p .raw) text)
+  read-text rest h [] = refused
+  read-text rest h (c ∷ text) = after-reading rest h (punchedForm (p .raw)) refl
 
 read-from : (house : House) (q : ℕ) (t : Taken) (ps : List Punched) → Each (RightStatement house) ps → FromRead house q t (length ps) (readFrom house q t ps)
 read-from house q t [] each-none = is nothing refl
-read-from house q t (p ∷ ps) (each-more r h) = read-text house q t p r (length ps) _ (λ u. read-from house (suc q) u ps h) (textOf (p .raw)) refl
+read-from house q t (p ∷ ps) (each-more r h) = read-text house q t p r (length ps) _ (λ u. read-from house (suc q) u ps h) (textOf (p .raw))
 
 passed-at : {house : House} {q : ℕ} {t : Taken} (deck : List Statement) → From house q t deck → (j : ℕ) (s : Statement) → getElem? deck j ≡ some s →
     Passed house (q + j) (takenFrom q (take j deck) t) s
@@ -94,18 +94,21 @@ judged-at {house} {deck} q s e p =
     let d = else-both (wrong (right14 f) 14) _ (c .1) in
     let g = else-both (wrong (right15 house (t .held) f) 15) _ (d .1) in
     let h = else-both (wrong (right16 (t .held) f) 16) _ (g .1) in
+    let i = else-both (wrong (right17 (s .number) f) 17) _ (h .1) in
     record {
-      text = p .text;
+      columns = p .columns;
       short = p .short;
       written = p .written;
       form = p .form;
+      readable = format-readable (p .columns) f (p .written) (p .form);
       passes11 = not-wrong (right11 house f) 11 (a .0);
       passes12 = not-wrong (right12 house f) 12 (b .0);
       passes13 = not-wrong (right13 house f) 13 (c .0);
       passes14 = not-wrong (right14 f) 14 (d .0);
       passes15 = not-wrong (right15 house (t .held) f) 15 (g .0);
       passes16 = not-wrong (right16 (t .held) f) 16 (h .0);
-      passes18 = subst (λ (u : Taken). right18 u ≡ true) (sym (before-next deck q s e)) (not-wrong (right18 (takes q f t)) 18 (h .1));
+      passes17 = not-wrong (right17 (s .number) f) 17 (i .0);
+      passes18 = subst (λ (u : Taken). right18 u ≡ true) (sym (before-next deck q s e)) (not-wrong (right18 (takes q f t)) 18 (i .1));
       number = p .number;
     }
 

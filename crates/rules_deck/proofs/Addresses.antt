@@ -8,9 +8,9 @@ use mathlib.Core.List.{List, [], _∷_, _++_, map}
 use mathlib.Core.Option.{some}
 use lib.ListN.{length, getElem?, length-append, length-map}
 use Rattle.rules_object.specs.Operations.{Instr, NEG, DOE}
-use Rattle.rules_text.specs.Trees.{Name, Form, assign, goTo, computed, ifs, loop, continue, stop, end, dimension, Statement}
+use Rattle.rules_text.specs.Trees.{Name, Digits, Form, assign, goTo, computed, ifs, loop, continue, stop, end, dimension, transfer, format, Statement}
 use Rattle.rules_deck.specs.Deck.{Dims, dimsOf, endings}
-use Rattle.rules_deck.specs.Translation.{Held, heldOf, formCode, words, addressIn, addressAt, addressOf, doInstr, enterCode, statementCode, codeFrom, codeOf}
+use Rattle.rules_deck.specs.Translation.{Held, heldOf, FormatPlace, noFormat, formatPlace, formCode, words, addressIn, addressAt, addressOf, doInstr, enterCode, statementCode, codeFrom, codeOf}
 use Rattle.rules_deck.proofs.TestLaws.{clash, at-before}
 
 -- ---- a block at an index
@@ -75,24 +75,26 @@ module _ {A : Type 0} where
 -- ---- a statement's words
 
 -- the length of a statement's code does not depend on addresses
-form-length : (held : List Held) (dims : Name → Dims) (address : ℕ → ℕ) (entry : Instr) (f : Form)
-    → length (formCode held dims address entry f) ≡ length (formCode held dims (λ n. 0) NEG f)
-form-length held dims address entry (assign t e) = refl
-form-length held dims address entry (goTo n) = refl
-form-length held dims address entry (computed ns v) = refl
-form-length held dims address entry (ifs e a b c) = simp length-append
-form-length held dims address entry (loop n v p₁ p₂ p₃) = simp length-append
-form-length held dims address entry continue = refl
-form-length held dims address entry stop = refl
-form-length held dims address entry end = refl
-form-length held dims address entry (dimension arrays) = refl
+form-length : (held : List Held) (dims : Name → Dims) (address : ℕ → ℕ) (formats : Digits → FormatPlace) (entry : Instr) (f : Form)
+    → length (formCode held dims address formats entry f) ≡ length (formCode held dims (λ n. 0) (λ n. noFormat) NEG f)
+form-length held dims address formats entry (assign t e) = refl
+form-length held dims address formats entry (goTo n) = refl
+form-length held dims address formats entry (computed ns v) = refl
+form-length held dims address formats entry (ifs e a b c) = simp length-append
+form-length held dims address formats entry (loop n v p₁ p₂ p₃) = simp length-append
+form-length held dims address formats entry continue = refl
+form-length held dims address formats entry stop = refl
+form-length held dims address formats entry end = refl
+form-length held dims address formats entry (dimension arrays) = refl
+form-length held dims address formats entry (transfer d n list) = refl
+form-length held dims address formats entry (format f) = refl
 
 module _ (deck : List Statement) where
-  pub words-code : (address : ℕ → ℕ) (entry : Instr) (s : Statement)
-      → length (formCode (heldOf deck) (dimsOf deck) address entry (s .form) ++ map (doInstr deck DOE) (endings deck (s .number))) ≡ words deck s
+  pub words-code : (address : ℕ → ℕ) (formats : Digits → FormatPlace) (entry : Instr) (s : Statement)
+      → length (formCode (heldOf deck) (dimsOf deck) address formats entry (s .form) ++ map (doInstr deck DOE) (endings deck (s .number))) ≡ words deck s
   unfolding words
-  words-code address entry s =
-      simp (length-append, length-map, form-length (heldOf deck) (dimsOf deck) address entry (s .form))
+  words-code address formats entry s =
+      simp (length-append, length-map, form-length (heldOf deck) (dimsOf deck) address formats entry (s .form))
 
   -- ---- addresses
 
@@ -104,7 +106,7 @@ module _ (deck : List Statement) where
       let at : At (codeFrom deck q (t ∷ more)) zero (statementCode deck q t) = at-front (statementCode deck q t) (codeFrom deck (suc q) more) in
       rw (add-zero, ← same) at
   from-at q (t ∷ more) (suc j) s e =
-      let l = words-code (addressOf deck) (enterCode deck q (t .form)) t in
+      let l = words-code (addressOf deck) (formatPlace deck) (enterCode deck q (t .form)) t in
       let next : suc q + j ≡ q + suc j = omega arith in
       rw (← next, ← l) (at-shift (statementCode deck q t) (from-at (suc q) more j s e))
 
@@ -125,7 +127,7 @@ module _ (deck : List Statement) where
   in-end q [] j h = refl
   in-end q (t ∷ more) zero h = absurd (omega arith)
   in-end q (t ∷ more) (suc j) h =
-      let l = words-code (addressOf deck) (enterCode deck q (t .form)) t in
+      let l = words-code (addressOf deck) (formatPlace deck) (enterCode deck q (t .form)) t in
       let z : length (codeFrom deck q (t ∷ more)) ≡ length (statementCode deck q t) + length (codeFrom deck (suc q) more) = length-append (statementCode deck q t) _ in
       omega (arith, in-end (suc q) more j (omega arith))
 

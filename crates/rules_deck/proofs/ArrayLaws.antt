@@ -1,4 +1,4 @@
--- The arrays and the names of a map: what a statement brings to them; the arrays of a deck's map are those that it declares.
+-- The arrays of a map: what a statement brings to them; those of a deck's map are those that it declares.
 -- Assumes nothing.
 use mathlib.Core.Path.{_≡_, refl, sym, ap, _∙_}
 use Prim.Native.Nat.{ℕ, suc}
@@ -7,12 +7,10 @@ use mathlib.Core.Bool.{Bool, true, false, _||_, cond, false≢true}
 use mathlib.Core.List.{List, [], _∷_, _++_, map, append-nil, append-assoc}
 use Rattle.rules_text.specs.Trees.{Name, Array, Form, Statement, Range, partsOf}
 use Rattle.rules_deck.specs.Deck.{sameName, Declared, declare, arraysIn, arraysOf, dimsIn, dimsOf}
-use Rattle.rules_deck.specs.Translation.{Held, name, array, hidden, arraySize, isName, isArray, holds, appear, formPlain, hiddenIn, brings, heldFrom, heldOf}
-use Rattle.rules_deck.specs.Judge.{Reference, rightCount, rightReference}
+use Rattle.rules_deck.specs.Translation.{Held, name, array, hidden, arraySize, isName, holds, appear, formPlain, hiddenIn, brings, heldFrom, heldOf}
 use Rattle.rules_deck.specs.Cells.{arraysHeld, sizeOf}
-use Rattle.rules_deck.specs.Accepted.{Among, here, there}
 use Rattle.rules_text.proofs.CardsLaws.{cases}
-use Rattle.rules_deck.proofs.TestLaws.{or-neither, or-either, or-one, name-same}
+use Rattle.rules_deck.proofs.TestLaws.{or-either, or-one}
 
 -- ---- the arrays of a map
 
@@ -44,7 +42,7 @@ pub arrays-brings : (q : ℕ) (f : Form) (held : List Held) → arraysHeld (brin
 arrays-brings q f held =
     let new = map (λ a. array (declare a)) (arraysIn f) in
     let right : arraysHeld (hiddenIn q f ++ new) ≡ map declare (arraysIn f) = arrays-hidden q f new ∙ arrays-declared (arraysIn f) in
-    arrays-append (appear held (formPlain f)) (hiddenIn q f ++ new) ∙ ap (λ (l : List Declared). l ++ arraysHeld (hiddenIn q f ++ new)) (arrays-appear held (formPlain f)) ∙
+    arrays-append (appear held (formPlain held f)) (hiddenIn q f ++ new) ∙ ap (λ (l : List Declared). l ++ arraysHeld (hiddenIn q f ++ new)) (arrays-appear held (formPlain held f)) ∙
     ap (λ (l : List Declared). arraysHeld held ++ l) right
 
 arrays-from : (q : ℕ) (deck : List Statement) (held : List Held) → arraysHeld (heldFrom q deck held) ≡ arraysHeld held ++ arraysOf deck
@@ -75,39 +73,6 @@ pub size-held : (deck : List Statement) (v : Name) → sizeOf (heldOf deck) v �
 unfolding dimsOf
 size-held deck v = size-in (heldOf deck) v ∙ ap (λ (l : List Declared). arraySize (dimsIn l v)) (arrays-held deck)
 
--- ---- which array a reference means
-
--- the array of the reference's name, whose dimensions are as many as its subscripts
-pub record Means (arrays : List Declared) (e : Reference) : Type 0 where
-  pub array : Declared
-  pub among : Among array arrays
-  pub named : sameName (array .name) (e .name) ≡ true
-  pub dims : dimsIn arrays (e .name) ≡ array .dims
-  pub count : rightCount (array .dims) (e .subscripts) ≡ true
-
--- the first array of a name stays the first
-pub means-in : (held : List Held) (more : List Declared) (e : Reference) → rightReference held e ≡ true → Means (arraysHeld held ++ more) e
-means-in [] more e h = absurd (false≢true h)
-means-in (name v ∷ held) more e h = means-in held more e h
-means-in (array a ∷ held) more e h = go (sameName (a .name) (e .name)) refl (means-in held more e) h
-  where
-    later : sameName (a .name) (e .name) ≡ false → Means (arraysHeld held ++ more) e → Means (a ∷ (arraysHeld held ++ more)) e
-    later s m =
-        record {
-          array = m .array;
-          among = there (m .among);
-          named = m .named;
-          dims = ap (λ (t : Bool). cond t (a .dims) (dimsIn (arraysHeld held ++ more) (e .name))) s ∙ m .dims;
-          count = m .count;
-        }
-
-    go : (t : Bool) → sameName (a .name) (e .name) ≡ t → (rightReference held e ≡ true → Means (arraysHeld held ++ more) e) →
-        cond t (rightCount (a .dims) (e .subscripts)) (rightReference held e) ≡ true → Means (a ∷ (arraysHeld held ++ more)) e
-    go true s rest c =
-        record { array = a; among = here; named = s; dims = ap (λ (t : Bool). cond t (a .dims) (dimsIn (arraysHeld held ++ more) (e .name))) s; count = c }
-    go false s rest c = later s (rest c)
-means-in (hidden q ∷ held) more e h = means-in held more e h
-
 -- ---- what a map holds
 
 pub holds-left : (test : Held → Bool) (a b : List Held) → holds test a ≡ true → holds test (a ++ b) ≡ true
@@ -117,32 +82,3 @@ holds-left test (h ∷ a) b e = go (or-one (test h) (holds test a) e) (holds-lef
     go : (test h ≡ true) ⊎ (holds test a ≡ true) → (holds test a ≡ true → holds test (a ++ b) ≡ true) → (test h || holds test (a ++ b)) ≡ true
     go (inl x) rest = or-either (test h) (holds test (a ++ b)) (inl x)
     go (inr x) rest = or-either (test h) (holds test (a ++ b)) (inr (rest x))
-
-holds-last : (v : Name) (held : List Held) → holds (isName v) (held ++ (name v ∷ [])) ≡ true
-holds-last v [] = or-either (sameName v v) false (inl (name-same v))
-holds-last v (h ∷ held) = or-either (isName v h) (holds (isName v) (held ++ (name v ∷ []))) (inr (holds-last v held))
-
-appear-keeps : (test : Held → Bool) (held : List Held) (vs : List Name) → holds test held ≡ true → holds test (appear held vs) ≡ true
-appear-keeps test held [] e = e
-appear-keeps test held (v ∷ vs) e =
-    appear-keeps test (cond (holds (isName v) held) held (held ++ (name v ∷ []))) vs
-    (cases (λ (l : List Held). holds test l ≡ true) (holds (isName v) held) held (held ++ (name v ∷ [])) (λ x. e) (λ x. holds-left test held (name v ∷ []) e))
-
-appear-holds : (held : List Held) (v : Name) (vs : List Name) → Among v vs → holds (isName v) (appear held vs) ≡ true
-appear-holds held v (w ∷ vs) here =
-    appear-keeps (isName v) (cond (holds (isName v) held) held (held ++ (name v ∷ []))) vs
-    (cases (λ (l : List Held). holds (isName v) l ≡ true) (holds (isName v) held) held (held ++ (name v ∷ [])) (λ x. x) (λ x. holds-last v held))
-appear-holds held v (w ∷ vs) (there a) = appear-holds (cond (holds (isName w) held) held (held ++ (name w ∷ []))) v vs a
-
--- what is held stays held, and a statement's plain names are held after it
-pub brings-keeps : (test : Held → Bool) (q : ℕ) (f : Form) (held : List Held) → holds test held ≡ true → holds test (brings q f held) ≡ true
-brings-keeps test q f held e = holds-left test (appear held (formPlain f)) (hiddenIn q f ++ map (λ a. array (declare a)) (arraysIn f)) (appear-keeps test held (formPlain f) e)
-
-pub brings-names : (q : ℕ) (f : Form) (held : List Held) (v : Name) → Among v (formPlain f) → holds (isName v) (brings q f held) ≡ true
-brings-names q f held v a = holds-left (isName v) (appear held (formPlain f)) (hiddenIn q f ++ map (λ a. array (declare a)) (arraysIn f)) (appear-holds held v (formPlain f) a)
-
-pub no-array : (v : Name) (held : List Held) → holds (isArray v) held ≡ false → (a : Declared) → Among a (arraysHeld held) → sameName (a .name) v ≡ false
-no-array v (name w ∷ held) e a h = no-array v held e a h
-no-array v (array x ∷ held) e a here = or-neither (sameName (a .name) v) (holds (isArray v) held) e .0
-no-array v (array x ∷ held) e a (there h) = no-array v held (or-neither (sameName (x .name) v) (holds (isArray v) held) e .1) a h
-no-array v (hidden q ∷ held) e a h = no-array v held e a h

@@ -28,29 +28,22 @@ use Rattle.rules_text.specs.Spelling.{IsName, is-name}
 use Rattle.rules_deck.proofs.Houses.{name-fits}
 use Rattle.rules_text.proofs.CardsLaws.{cases}
 use Rattle.rules_text.proofs.Readers.{both-true, digit-bounds, letter-bounds}
-use Rattle.rules_text.proofs.ReadForms.{read-names}
+use Rattle.rules_text.proofs.Statements.{punched-right}
 use Rattle.rules_deck.proofs.CellLaws.{holds-right}
 use Rattle.rules_deck.proofs.Names.{name-same}
 use Rattle.rules_deck.proofs.TestLaws.{all-among, among-left, among-append}
-use Rattle.rules_deck.proofs.ArrayLaws.{arrays-held, holds-left}
-use Rattle.rules_deck.proofs.DeckCells.{Grown, grown-same, grown-held, plain-has}
+use Rattle.rules_deck.proofs.TakenLaws.{before-held}
+use Rattle.rules_deck.proofs.ArrayLaws.{arrays-held}
+use Rattle.rules_deck.proofs.DeckCells.{grown-held, grown-holds, grown-take, plain-has}
 use Rattle.rules_deck.proofs.MapNames.{noDims, names-append, name-among, array-among, at-among, distinct-index, Listed, entryOf, plain-listed, array-listed, name-at, Inside, entry-inside, entries-ordered, NoBlank, filled-inj}
-use Rattle.rules_deck.proofs.Covered.{Covered, plainly, of-element, form-covered, plain-names, array-names, declared-names}
-use Rattle.rules_deck.proofs.MapOnce.{once-held, before-held}
+use Rattle.rules_deck.proofs.Covered.{Covered, plainly, of-element, whole, form-covered, plain-names, array-names, declared-names}
+use Rattle.rules_deck.proofs.MapOnce.{once-held}
 
 -- ---- an array that a statement declares or refers to is in the map
-
-grown-holds : {held later : List Held} → Grown held later → (test : Held → Bool) → holds test held ≡ true → holds test later ≡ true
-grown-holds {held} g test e = subst (λ (l : List Held). holds test l ≡ true) (sym (g .is)) (holds-left test held (g .more) e)
 
 declares : (arrays : List Array) {v : Name} → Among v (arrayNames arrays) → holds (isArray v) (map (λ a. Held.array (declare a)) arrays) ≡ true
 declares (array v r c ∷ arrays) here = ap (λ (b : Bool). b || holds (isArray v) (map (λ a. Held.array (declare a)) arrays)) (name-same v)
 declares (array w r c ∷ arrays) {v} (there a) = holds-right (isArray v) (Held.array (declare (array w r c)) ∷ []) (map (λ a. Held.array (declare a)) arrays) (declares arrays a)
-
-grown-take : (q : ℕ) (deck : List Statement) (held : List Held) (j : ℕ) → Grown (heldFrom q (take j deck) held) (heldFrom q deck held)
-grown-take q deck held zero = grown-held q deck held
-grown-take q [] held (suc j) = grown-same held
-grown-take q (s ∷ deck) held (suc j) = grown-take (suc q) deck (brings q (s .form) held) j
 
 declared-from : (q : ℕ) (deck : List Statement) (held : List Held) (j : ℕ) (s : Statement) (v : Name) → getElem? deck j ≡ some s → Among v (arrayNames (arraysIn (s .form)))
     → holds (isArray v) (heldFrom q deck held) ≡ true
@@ -59,7 +52,7 @@ declared-from q (t ∷ deck) held zero s v e a =
     let p : t ≡ s = cc in
     let b = subst (λ (x : Statement). Among v (arrayNames (arraysIn (x .form)))) (sym p) a in
     grown-holds (grown-held (suc q) deck (brings q (t .form) held)) (isArray v)
-    (holds-right (isArray v) (appear held (formPlain (t .form))) _ (holds-right (isArray v) (hiddenIn q (t .form)) _ (declares (arraysIn (t .form)) b)))
+    (holds-right (isArray v) (appear held (formPlain held (t .form))) _ (holds-right (isArray v) (hiddenIn q (t .form)) _ (declares (arraysIn (t .form)) b)))
 declared-from q (t ∷ deck) held (suc j) s v e a = declared-from (suc q) deck (brings q (t .form) held) j s v e a
 
 pub declared-has : (deck : List Statement) (j : ℕ) (s : Statement) (v : Name) → getElem? deck j ≡ some s → Among v (arrayNames (arraysIn (s .form)))
@@ -119,17 +112,17 @@ hidden-names q f = go (partsOf f .opens)
 
 brings-names : (q : ℕ) (f : Form) (held : List Held) (v : Name) → Among v (namesHeld (brings q f held)) → Among v (namesHeld held) ⊎ Among v (formNames f)
 brings-names q f held v a =
-    go (among-append (namesHeld (appear held (formPlain f))) (namesHeld (hiddenIn q f ++ arrays)) (subst (λ (l : List Name). Among v l) (names-append (appear held (formPlain f)) (hiddenIn q f ++ arrays)) a))
+    go (among-append (namesHeld (appear held (formPlain held f))) (namesHeld (hiddenIn q f ++ arrays)) (subst (λ (l : List Name). Among v l) (names-append (appear held (formPlain held f)) (hiddenIn q f ++ arrays)) a))
   where
     arrays : List Held
     arrays = map (λ a. Held.array (declare a)) (arraysIn f)
 
-    plains : Among v (namesHeld held) ⊎ Among v (formPlain f) → Among v (namesHeld held) ⊎ Among v (formNames f)
+    plains : Among v (namesHeld held) ⊎ Among v (formPlain held f) → Among v (namesHeld held) ⊎ Among v (formNames f)
     plains (inl b) = inl b
-    plains (inr b) = inr (plain-names f b)
+    plains (inr b) = inr (plain-names held f b)
 
-    go : Among v (namesHeld (appear held (formPlain f))) ⊎ Among v (namesHeld (hiddenIn q f ++ arrays)) → Among v (namesHeld held) ⊎ Among v (formNames f)
-    go (inl b) = plains (appear-names (formPlain f) held v b)
+    go : Among v (namesHeld (appear held (formPlain held f))) ⊎ Among v (namesHeld (hiddenIn q f ++ arrays)) → Among v (namesHeld held) ⊎ Among v (formNames f)
+    go (inl b) = plains (appear-names (formPlain held f) held v b)
     go (inr b) =
         inr (array-names f (subst (λ (l : List Name). Among v l)
         (names-append (hiddenIn q f) arrays ∙ ap (λ (l : List Name). l ++ namesHeld arrays) (hidden-names q f) ∙ declared-names (arraysIn f)) b))
@@ -176,12 +169,14 @@ pub name-kind : (house : House) (deck : List Statement) → Accepted house deck 
     → Has (heldOf deck) (key (plain v)) ⊎ (holds (isArray v) (heldOf deck) ≡ true)
 name-kind house deck c v i = go (form-covered (i .statement .form) (i .among))
   where
-    covered : Covered (formPlain (i .statement .form)) (formReferences (i .statement .form)) v → Has (heldOf deck) (key (plain v)) ⊎ (holds (isArray v) (heldOf deck) ≡ true)
+    covered : Covered (heldOf deck) (formPlain (heldOf deck) (i .statement .form)) (formReferences (i .statement .form)) v
+        → Has (heldOf deck) (key (plain v)) ⊎ (holds (isArray v) (heldOf deck) ≡ true)
     covered (plainly a) = inl (plain-has deck (i .position) (i .statement) v (i .at) a)
     covered (of-element r e a) =
         inr (subst (λ (x : Name). holds (isArray x) (heldOf deck) ≡ true) e (reference-has house deck c (i .position) (i .statement) r (i .at) a))
+    covered (whole e) = inr e
 
-    go : Covered (formPlain (i .statement .form)) (formReferences (i .statement .form)) v ⊎ Among v (arrayNames (arraysIn (i .statement .form)))
+    go : Covered (heldOf deck) (formPlain (heldOf deck) (i .statement .form)) (formReferences (i .statement .form)) v ⊎ Among v (arrayNames (arraysIn (i .statement .form)))
         → Has (heldOf deck) (key (plain v)) ⊎ (holds (isArray v) (heldOf deck) ≡ true)
     go (inl a) = covered a
     go (inr a) = inr (declared-has deck (i .position) (i .statement) v (i .at) a)
@@ -204,7 +199,7 @@ name-solid (is-name {c} p ps) = each-more (λ (z : c ≡ 32). omega (arith, lett
 pub solid : (house : House) (deck : List Statement) → Accepted house deck → (v : Name) → InDeck deck v → NoBlank v
 solid house deck c v i =
     let j = c .judged (i .position) (i .statement) (i .at) in
-    name-solid (each-here (read-names (j .text) (i .statement .form) (j .form)) (i .among))
+    name-solid (each-here (punched-right (j .columns) (i .statement .form) (j .form) .names) (i .among))
 
 module _ (house : House) (deck : List Statement) (c : Accepted house deck) where
   one-entry : (v : Name) (at : ℕ) (d : Dims) → Among v (namesHeld (heldOf deck)) → Listed (namesFrom house 0 (heldOf deck)) (entryOf house v at d) → OneEntry house deck v (entryOf house v at d)

@@ -1,25 +1,29 @@
 -- An accepted deck's object is as its bytes hold it, so they read back as it; and it passes the check, 40 to 44.
 -- Assumes nothing.
-use mathlib.Core.Path.{_≡_, ap, subst}
+use mathlib.Core.Path.{_≡_, refl, ap, subst}
 use mathlib.Core.Logic.{_⊎_, inl, inr}
-use Prim.Native.Nat.{ℕ, zero, suc, _+_, _*_, _≤_, _<_}
+use Prim.Native.Nat.{ℕ, zero, suc, _+_, _*_, _/_, _^_, _≤_, _<_}
 use native.Mathlib.Omega.{arith}
-use mathlib.Core.Bool.{true}
+use mathlib.Core.Bool.{Bool, true, false, _&&_, cond}
 use mathlib.Core.List.{List, [], _∷_, _++_}
 use mathlib.Core.Option.{some}
+use lib.Dec.{leb, ltb, eqb}
 use lib.ListN.{length, replicate, length-append, length-take}
 use lib.IntN.{ℤ, pos, negsuc, natAbs}
+use borrow.Author.Tests.{eqb-true}
 use Rattle.number.specs.Number.{add, sub, mul, div}
 use Rattle.rules_shared.specs.Limits.{limits}
 use Rattle.rules_shared.specs.House.{House}
-use Rattle.rules_object.specs.Object.{SubscriptEntry, Element, Loop, Line, Named, Object}
+use Rattle.rules_formats.specs.Punched.{rightNumber}
+use Rattle.rules_formats.specs.Words.{wordKind, wordOperand, isEnd}
+use Rattle.rules_object.specs.Object.{SubscriptEntry, Element, Loop, Line, Named, ListItem, Transfer, Object}
 use Rattle.rules_object.specs.Kinds.{edition, kindsOf, mostWords, contentsLength}
-use Rattle.rules_object.specs.Check.{span, isLetter, isDigit}
+use Rattle.rules_object.specs.Check.{span, isLetter, isDigit, character, rightField, formatWord, formatStart, rightFormat}
 use Rattle.rules_object.specs.Operations.{Instr, HLT, CON, LOD, STO, LDE, STE, OP, NEG, JMP, BR3, BRC, DOI, DOE, READ, PRINT, operationOf, operationNumber, flowOf}
 use Rattle.rules_object.specs.Bytes.{objectBytes, readObject}
 use Rattle.rules_object.specs.Flow.{Reached}
 use Rattle.rules_object.specs.Calls.{passed, checked, verdict, checking}
-use Rattle.rules_object.specs.Writable.{IsByte, IsWord, IsSigned, WritableSubscript, WritableElement, WritableLoop, WritableLine, WritableNamed, Writable}
+use Rattle.rules_object.specs.Writable.{IsByte, IsWord, IsSigned, WritableSubscript, WritableElement, WritableLoop, WritableLine, WritableNamed, WritableItem, WritableTransfer, Writable}
 use Rattle.rules_shared.specs.Lists.{Each, each-none, each-more}
 use Rattle.rules_shared.proofs.EachLaws.{each-map, each-append, each-take}
 use Rattle.rules_object.proofs.Limited.{tables-within}
@@ -32,15 +36,19 @@ use Rattle.rules_deck.specs.Seen.{levelsIn}
 use Rattle.rules_deck.specs.Lawful.{Lawful}
 use Rattle.rules_deck.specs.Accepted.{Accepted}
 use Rattle.rules_text.specs.Spelling.{Passes, IsName, is-name}
+use Rattle.rules_text.proofs.CardsLaws.{and-both}
 use Rattle.rules_text.proofs.Readers.{digit-bounds, letter-bounds}
-use Rattle.rules_deck.proofs.TestLaws.{or-one}
+use Rattle.rules_deck.proofs.TestLaws.{or-one, at-before}
+use Rattle.rules_deck.proofs.Tables.{getD-at}
 use Rattle.rules_deck.proofs.FittingDeck.{fitting}
+use Rattle.rules_deck.proofs.SoundDeck.{sound}
 use Rattle.rules_deck.proofs.Emitted.{code-length}
 use Rattle.rules_deck.proofs.HeightsCompiled.{below}
 use Rattle.rules_deck.proofs.TableCompiled.{stands, levels-most, compiled-table, compiled-height}
 use Rattle.rules_deck.proofs.RightCode.{RightSubscript, RightElement}
 use Rattle.rules_deck.proofs.RightDeck.{each-place, LoopWithin, LineWithin, NameWithin, digits-right, most, right-tables, right-loops, right-lines, right-names}
-use Rattle.rules_deck.proofs.CompiledRight.{compiled-edition, passes-41, passes-42, passes-43, coded}
+use Rattle.rules_deck.proofs.RightLists.{ItemInside, TransferInside}
+use Rattle.rules_deck.proofs.CompiledRight.{RightStart, compiled-edition, right-lists, right-formats, passes-41, passes-42, passes-43, coded}
 
 -- ---- names of eight bytes
 
@@ -146,6 +154,37 @@ word-small : (w : ℕ) → operationOf w ≤ 17 → IsWord w
 unfolding operationOf
 word-small w h = omega arith
 
+-- ---- FORMATs and lists
+
+-- the kinds of fields are 1 to 4
+field-kind : (kind n : ℕ) → rightField kind n ≡ true → kind ≤ 4
+unfolding rightField
+field-kind kind n e = by (eqb kind 1) (eqb kind 2) (eqb kind 3) refl refl refl e
+  where
+    by : (a b c : Bool) → eqb kind 1 ≡ a → eqb kind 2 ≡ b → eqb kind 3 ≡ c → cond a (rightNumber n) (cond b (rightNumber n) (cond c (character n) (eqb kind 4 && eqb n 0))) ≡ true → kind ≤ 4
+    by true b c p q r e = let z = eqb-true kind 1 p in omega arith
+    by false true c p q r e = let z = eqb-true kind 2 q in omega arith
+    by false false true p q r e = let z = eqb-true kind 3 r in omega arith
+    by false false false p q r e = let z = eqb-true kind 4 (and-both (eqb kind 4) (eqb n 0) e .0) in omega arith
+
+format-word : (o : Object) (i : ℕ) → rightFormat o i ≡ true → IsWord (formatWord o i)
+unfolding rightFormat isEnd
+format-word o i e = by (isEnd w) refl e
+  where
+    w : ℕ
+    w = formatWord o i
+
+    by : (b : Bool) → isEnd w ≡ b → cond b (leb (formatStart o i) (wordOperand w) && ltb (wordOperand w) i) (rightField (wordKind w) (wordOperand w) && ltb (suc i) (length (o .formats))) ≡ true → IsWord w
+    by true q e = let z : w / 2 ^ 24 ≡ 5 = eqb-true (w / 2 ^ 24) 5 q in omega arith
+    by false q e = let z : w / 2 ^ 24 ≤ 4 = field-kind (wordKind w) (wordOperand w) (and-both (rightField (wordKind w) (wordOperand w)) _ e .0) in omega arith
+
+item-writable : (cells entries : ℕ) → cells ≤ limits .cells → entries ≤ limits .elements → (i : ListItem) → ItemInside cells entries i → WritableItem i
+item-writable cells entries c n i (inl h) = record { first = omega (arith, h .1); count = omega (arith, h .0) }
+item-writable cells entries c n i (inr h) = record { first = omega (arith, h .1); count = omega (arith, h .1) }
+
+transfer-writable : (o : Object) (items : ℕ) → length (o .formats) ≤ limits .formatWords → items ≤ limits .listItems → (t : Transfer) → TransferInside (RightStart o) items t → WritableTransfer t
+transfer-writable o items f n t h = record { format = omega (arith, h .1 .inside); first = omega (arith, h .0); count = omega (arith, h .0) }
+
 -- ---- the deck's object
 
 module _ {house : House} {deck : List Statement} (accepted : Accepted house deck) where
@@ -180,9 +219,9 @@ module _ {house : House} {deck : List Statement} (accepted : Accepted house deck
         code = each-place (o .code) (λ a w e. let x = coded accepted a w e in word-small w (omega (arith, x .2, operation-few (x .0))));
         lines = each-map (line-writable d n c) (right-lines accepted);
         names = names-writable;
-        formats = each-none;
-        items = each-none;
-        transfers = each-none;
+        formats = each-place (o .formats) (λ i w e. subst IsWord (getD-at (o .formats) i w 0 e) (format-word o i (right-formats accepted i (at-before (o .formats) i e))));
+        items = each-map (item-writable (o .cells) (length (o .elements)) c (fitting accepted .elements)) (right-lists accepted .items);
+        transfers = each-map (transfer-writable o (length (o .items)) (fitting accepted .formats) (fitting accepted .items)) (right-lists accepted .transfers);
         someCode = omega (arith, code-length house deck, below deck (stands accepted) 0 (stands accepted .some));
         small = omega (arith, compiled-most);
       }
@@ -197,12 +236,12 @@ module _ {house : House} {deck : List Statement} (accepted : Accepted house deck
   pub accepted-passes : (table : List ℕ) × (checked (objectBytes (translate house deck)) ≡ passed (translate house deck) table)
   unfolding checked
   accepted-passes =
-      let h = compiled-table house (stands accepted) (fitting accepted) low in
+      let h = compiled-table house (stands accepted) (sound accepted) low in
       (h .0, rw (compiled-reads, passes-41 accepted, passes-42 accepted, passes-43 accepted, h .1))
 
   -- a deck with p levels of parentheses never stands above 2p+3
   pub accepted-height : (a h : ℕ) → Reached (flowOf (translate house deck)) a h → h ≤ 2 * levelsIn deck + 3
-  accepted-height = compiled-height house (stands accepted) (fitting accepted) low
+  accepted-height = compiled-height house (stands accepted) (sound accepted) low
 
 -- ---- everything compiled
 

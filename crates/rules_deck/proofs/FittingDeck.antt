@@ -12,16 +12,17 @@ use borrow.Author.Tests.{leb-true, eqb-true}
 use Rattle.rules_shared.specs.Limits.{limits}
 use Rattle.rules_shared.specs.House.{House}
 use Rattle.rules_object.specs.Operations.{Instr, DOE}
-use Rattle.rules_text.specs.Trees.{Form, Statement, formLast, Range, partsOf}
-use Rattle.rules_deck.specs.Deck.{positionOf, Do, doOf, dosFrom, dosOf, endingWith, endings, dimsOf, doAt}
-use Rattle.rules_deck.specs.Translation.{Held, name, array, hidden, arraySize, cellCount, heldOf, enterCode, addressOf, statementCode, doInstr, codeFrom, codeOf, Tables, noTables, tablesOf, namesFrom}
-use Rattle.rules_deck.specs.Judge.{Taken, nothingTaken, takes, poolAll, formPooled, formReferences, formExitWords, nameCount, right18}
+use Rattle.rules_text.specs.Trees.{Form, Statement, formLast, formUses, Range, partsOf}
+use Rattle.rules_deck.specs.Deck.{positionOf, Do, doOf, dosFrom, dosOf, endingWith, endings, dimsOf, doAt, formatIn}
+use Rattle.rules_deck.specs.Translation.{Held, name, array, hidden, arraySize, cellCount, heldOf, formatSize, formatsFrom, formatPlace, enterCode, addressOf, statementCode, doInstr, codeFrom, codeOf, Tables, noTables, tablesOf, namesFrom}
+use Rattle.rules_deck.specs.Judge.{Taken, nothingTaken, takes, poolAll, formPooled, formReferences, formExitWords, formItems, nameCount, right18}
 use Rattle.rules_deck.specs.Accepted.{Among, here, there, takenFrom, takenBefore, Accepted, Fitting}
 use Rattle.rules_text.proofs.CardsLaws.{cases, and-both}
 use Rattle.rules_deck.proofs.TestLaws.{last-at}
 use Rattle.rules_deck.proofs.TakenLaws.{before-all, held-all}
 use Rattle.rules_deck.proofs.NestedDeck.{number-at, last-number}
-use Rattle.rules_deck.proofs.TableLaws.{tables-append, Brings, statement-brings, form-length}
+use Rattle.rules_deck.proofs.FormatWords.{words-length}
+use Rattle.rules_deck.proofs.TableLaws.{tables-append, Brings, formBrought, statement-brings, form-length}
 
 -- ---- right18 at the end
 
@@ -33,6 +34,9 @@ record Within (t : Taken) : Type 0 where
   exits : t .exits ≤ limits .exits
   code : t .code ≤ limits .code
   cells : cellCount (t .held) ≤ limits .cells
+  formatWords : t .formatWords ≤ limits .formatWords
+  items : t .items ≤ limits .listItems
+  transfers : t .transfers ≤ limits .transfers
 
 within : (t : Taken) → right18 t ≡ true → Within t
 unfolding right18
@@ -43,6 +47,9 @@ within t e =
     let d = and-both (leb (t .elements) (limits .elements)) _ (c .1) in
     let f = and-both (leb (t .exits) (limits .exits)) _ (d .1) in
     let g = and-both (leb (t .code) (limits .code)) _ (f .1) in
+    let h = and-both (leb (cellCount (t .held)) (limits .cells)) _ (g .1) in
+    let i = and-both (leb (t .formatWords) (limits .formatWords)) _ (h .1) in
+    let j = and-both (leb (t .items) (limits .listItems)) (leb (t .transfers) (limits .transfers)) (i .1) in
     record {
       names = leb-true (nameCount (t .held)) (limits .names) (a .0);
       dos = leb-true (t .dos) (limits .dos) (b .0);
@@ -50,7 +57,10 @@ within t e =
       elements = leb-true (t .elements) (limits .elements) (d .0);
       exits = leb-true (t .exits) (limits .exits) (f .0);
       code = leb-true (t .code) (limits .code) (g .0);
-      cells = leb-true (cellCount (t .held)) (limits .cells) (g .1);
+      cells = leb-true (cellCount (t .held)) (limits .cells) (h .0);
+      formatWords = leb-true (t .formatWords) (limits .formatWords) (i .0);
+      items = leb-true (t .items) (limits .listItems) (j .0);
+      transfers = leb-true (t .transfers) (limits .transfers) (j .1);
     }
 
 last-right : {house : House} (deck : List Statement) → Accepted house deck → right18 (takenBefore deck (length deck)) ≡ true
@@ -89,14 +99,18 @@ record Beside (T : Tables) (t : Taken) : Type 0 where
   constants : T .constants ≡ t .constants
   elements : length (T .elements) ≡ t .elements
   exits : length (T .exits) ≡ t .exits
+  items : length (T .items) ≡ t .items
+  transfers : length (T .transfers) ≡ t .transfers
 
-beside-one : {code : List Instr} (q : ℕ) (f : Form) {T : Tables} {t : Taken} → Brings code (formPooled f) (length (formReferences f)) (formExitWords f) → Beside T t → Beside (tablesOf T code) (takes q f t)
+beside-one : {code : List Instr} (q : ℕ) (f : Form) {T : Tables} {t : Taken} → Brings code (formPooled f) (formBrought f) → Beside T t → Beside (tablesOf T code) (takes q f t)
 unfolding takes
 beside-one {code} q f {T} {t} b h =
     record {
       constants = b .constants T ∙ ap (λ (p : List ℕ). poolAll p (formPooled f)) (h .constants);
       elements = b .elements T ∙ ap (λ (n : ℕ). n + length (formReferences f)) (h .elements);
       exits = b .exits T ∙ ap (λ (n : ℕ). n + formExitWords f) (h .exits);
+      items = b .items T ∙ ap (λ (n : ℕ). n + length (formItems f)) (h .items);
+      transfers = b .transfers T ∙ ap (λ (n : ℕ). n + length (formUses f)) (h .transfers);
     }
 
 beside-from : (deck : List Statement) (q : ℕ) (more : List Statement) (T : Tables) (t : Taken) → Beside T t → Beside (tablesOf T (codeFrom deck q more)) (takenFrom q more t)
@@ -109,7 +123,17 @@ beside : (deck : List Statement) → Beside (tablesOf noTables (codeOf deck)) (t
 unfolding codeOf
 beside deck =
     subst (λ (t : Taken). Beside (tablesOf noTables (codeFrom deck 0 deck)) t) (sym (before-all deck))
-    (beside-from deck 0 deck noTables nothingTaken (record { constants = refl; elements = refl; exits = refl }))
+    (beside-from deck 0 deck noTables nothingTaken (record { constants = refl; elements = refl; exits = refl; items = refl; transfers = refl }))
+
+-- ---- FORMATs: their words are those of right18
+
+formats-from : (q first : ℕ) (deck : List Statement) (t : Taken) → takenFrom q deck t .formatWords ≡ t .formatWords + length (formatsFrom first deck)
+unfolding takes
+formats-from q first [] t = omega arith
+formats-from q first (s ∷ deck) t =
+    let h = formats-from (suc q) (first + formatSize (formatIn (s .form))) deck (takes q (s .form) t) in
+    let l = words-length first (formatIn (s .form)) in
+    simp length-append (omega arith)
 
 -- ---- DOEs: a statement's number ends at most as many as there are DOs
 
@@ -183,7 +207,7 @@ unfolding takes endings ended
 code-from deck q [] t = omega arith
 code-from deck q (s ∷ more) t =
     let h = code-from deck (suc q) more (takes q (s .form) t) in
-    let f = form-length (heldOf deck) (dimsOf deck) (addressOf deck) (enterCode deck q (s .form)) (s .form) in
+    let f = form-length (heldOf deck) (dimsOf deck) (addressOf deck) (formatPlace deck) (enterCode deck q (s .form)) (s .form) in
     let d = dos-of q (s .form) in
     let l = length-map (endings deck (s .number)) (doInstr deck DOE) in
     let r = length-reverse (endingWith (s .number) (dosOf deck)) in
@@ -207,6 +231,9 @@ fitting {house} {deck} accepted =
     let d = ap (λ (t : Taken). t .dos) (before-all deck) ∙ dos-from 0 deck nothingTaken in
     let e = b .elements in
     let x = b .exits in
+    let i = b .items in
+    let g = b .transfers in
+    let f = ap (λ (t : Taken). t .formatWords) (before-all deck) ∙ formats-from 0 0 deck nothingTaken in
     record {
       cells = subst (λ (held : List Held). cellCount held ≤ limits .cells) m (w .cells);
       code = omega (arith, w .code);
@@ -215,4 +242,7 @@ fitting {house} {deck} accepted =
       exits = omega (arith, w .exits);
       dos = omega (arith, w .dos);
       names = subst (λ (held : List Held). nameCount held ≤ limits .names) m (w .names);
+      formats = omega (arith, w .formatWords);
+      items = omega (arith, w .items);
+      transfers = omega (arith, w .transfers);
     }

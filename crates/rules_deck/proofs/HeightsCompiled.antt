@@ -11,10 +11,10 @@ use lib.ListN.{length, getElem?, replicate, length-append, length-map}
 use Rattle.rules_object.specs.Operations.{Instr, OP, NEG, DOI, DOE, pops, pushes, successors}
 use Rattle.number.specs.Number.{Op, add, sub, mul, div}
 use Rattle.rules_object.specs.Flow.{heightAt}
-use Rattle.rules_text.specs.Trees.{Name, Digits, valueOf, Expr, con, var, elm, neg, par, bin, Target, cell, element, Form, assign, goTo, computed, ifs, loop, continue, stop, end, dimension, Statement, formExits, formLevels}
+use Rattle.rules_text.specs.Trees.{Name, Digits, valueOf, Expr, con, var, elm, neg, par, bin, Target, cell, element, Form, assign, goTo, computed, ifs, loop, continue, stop, end, dimension, transfer, format, reading, printing, Statement, formExits, formLevels}
 use Rattle.rules_deck.specs.Deck.{Dims, dimsOf, positionOf, Do, endings}
 use Rattle.rules_deck.specs.Meaning.{third}
-use Rattle.rules_deck.specs.Translation.{Held, heldOf, exprCode, storeCode, formCode, words, addressIn, addressAt, addressOf, doInstr, enterCode, statementCode, codeFrom, codeOf}
+use Rattle.rules_deck.specs.Translation.{Held, heldOf, formatPlace, exprCode, storeCode, formCode, words, addressIn, addressAt, addressOf, doInstr, enterCode, statementCode, codeFrom, codeOf}
 use Rattle.rules_deck.specs.Seen.{levelsIn}
 use Rattle.rules_deck.specs.Accepted.{Among, here, there}
 use Rattle.rules_text.specs.Shaped.{IsParameter, OptionalParameter, Shaped}
@@ -135,8 +135,8 @@ third-parameter (some e) h = h
 module _ (deck : List Statement) (good : Stands deck) where
   end-words : (s : Statement) → s .form ≡ end → 1 ≤ words deck s
   end-words s e =
-      let l = words-code deck (addressOf deck) NEG s in
-      let c : 1 ≤ length (formCode (heldOf deck) (dimsOf deck) (addressOf deck) NEG (s .form)) = rw e (omega arith) in
+      let l = words-code deck (addressOf deck) (formatPlace deck) NEG s in
+      let c : 1 ≤ length (formCode (heldOf deck) (dimsOf deck) (addressOf deck) (formatPlace deck) NEG (s .form)) = rw e (omega arith) in
       omega (arith, simp length-append at l)
 
   -- every statement's address is in the code
@@ -156,7 +156,7 @@ module _ (deck : List Statement) (good : Stands deck) where
     Fits a is = Ok top (length (codeOf deck)) (deckHeights deck) a is
 
     abbrev codeFor : ℕ → Form → List Instr
-    codeFor q f = formCode (heldOf deck) (dimsOf deck) (addressOf deck) (enterCode deck q f) f
+    codeFor q f = formCode (heldOf deck) (dimsOf deck) (addressOf deck) (formatPlace deck) (enterCode deck q f) f
 
     exits-lead : (ns : List Digits) → ((n : Digits) → Among n ns → positionOf deck (valueOf n) < length deck)
         → Leads (length (codeOf deck)) (deckHeights deck) 0 (map (λ n. addressOf deck (valueOf n)) ns)
@@ -189,6 +189,13 @@ module _ (deck : List Statement) (good : Stands deck) where
     form-ok q stop a h v x s l z = ok-step 0 (height s) (omega arith) (omega arith) nowhere ok-none
     form-ok q end a h v x s l z = ok-step 0 (height s) (omega arith) (omega arith) nowhere ok-none
     form-ok q (dimension arrays) a h v x s l z = ok-none
+    form-ok q (transfer reading n list) a h v x s l z =
+        let k : a + 1 ≡ suc a = omega arith in
+        ok-step 0 (height s) (omega arith) (omega arith) (next 0 (omega arith) (rw k at z) refl) ok-none
+    form-ok q (transfer printing n list) a h v x s l z =
+        let k : a + 1 ≡ suc a = omega arith in
+        ok-step 0 (height s) (omega arith) (omega arith) (next 0 (omega arith) (rw k at z) refl) ok-none
+    form-ok q (format f) a h v x s l z = ok-none
 
     ends-ok : (es : List Do) (a : ℕ) → ((d : Do) → Among d es → suc (d .position) < length deck) → At (deckHeights deck) a (replicate (length es) 0)
         → a + length es < length (codeOf deck) → heightAt (deckHeights deck) (a + length es) ≡ 0 → Fits a (map (doInstr deck DOE) es)
@@ -206,10 +213,10 @@ module _ (deck : List Statement) (good : Stands deck) where
         go : (suc j < length deck) ⊎ ((s .form ≡ end) × (endings deck (s .number) ≡ [])) → Fits (addressAt deck j) (statementCode deck j s)
         go (inl l) =
             let a : ℕ = addressAt deck j in
-            let w = words-code deck (addressOf deck) (enterCode deck j (s .form)) s in
+            let w = words-code deck (addressOf deck) (formatPlace deck) (enterCode deck j (s .form)) s in
             let w′ = simp (length-append, length-map) at w in
             let t = heights-at deck j s e in
-            let k = length-form (heldOf deck) (dimsOf deck) (addressOf deck) (enterCode deck j (s .form)) (s .form) in
+            let k = length-form (heldOf deck) (dimsOf deck) (addressOf deck) (formatPlace deck) (enterCode deck j (s .form)) (s .form) in
             let q : addressAt deck (suc j) ≡ a + length (codeFor j (s .form)) + length (endings deck (s .number)) = omega (arith, address-suc deck j s e) in
             let t₂ : At (deckHeights deck) (a + length (codeFor j (s .form))) (replicate (length (endings deck (s .number))) 0) = rw k at (at-right (formHeights (s .form)) t) in
             let n : a + length (codeFor j (s .form)) + length (endings deck (s .number)) < length (codeOf deck) = omega (arith, below (suc j) l) in
@@ -222,7 +229,7 @@ module _ (deck : List Statement) (good : Stands deck) where
         → Fits a (codeFrom deck q more)
     from-ok q [] a h = ok-none
     from-ok q (s ∷ more) a h =
-        let w = words-code deck (addressOf deck) (enterCode deck q (s .form)) s in
+        let w = words-code deck (addressOf deck) (formatPlace deck) (enterCode deck q (s .form)) s in
         ok-append (rw (add-zero a, add-zero q) at (h 0 s refl))
         (from-ok (suc q) more (a + length (statementCode deck q s)) (λ j t e.
         let p : a + addressIn deck (s ∷ more) (suc j) ≡ a + length (statementCode deck q s) + addressIn deck more j = omega arith in

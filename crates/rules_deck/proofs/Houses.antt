@@ -11,7 +11,7 @@ use Rattle.number.specs.Number.{digitsRule}
 use Rattle.rules_shared.specs.Limits.{limits}
 use Rattle.rules_shared.specs.House.{House, house1401}
 use Rattle.rules_shared.specs.Lists.{all}
-use Rattle.rules_text.specs.Trees.{Digits, Form, formExits, formLast}
+use Rattle.rules_text.specs.Trees.{Digits, Form, formExits, formLast, formUses}
 use Rattle.rules_text.specs.Cards.{rightDigits}
 use Rattle.rules_deck.specs.Judge.{numberWithin, right13}
 use Rattle.rules_deck.specs.Lawful.{Lawful}
@@ -51,6 +51,9 @@ all-append test (x ∷ xs) ys = ap (λ (b : Bool). test x && b) (all-append test
     and-assoc false b c = refl
 
 -- 13 as one test of every number
-pub right13-all : {house : House} → Lawful house → (f : Form) → right13 house f ≡ all (numberWithin false) (formExits f ++ formLast f)
+pub right13-all : {house : House} → Lawful house → (f : Form) → right13 house f ≡ all (numberWithin false) (formExits f ++ (formLast f ++ formUses f))
 unfolding right13
-right13-all lawful f = rw (lawful .exits) (sym (all-append (numberWithin false) (formExits f) (formLast f)))
+right13-all lawful f =
+    rw (lawful .exits)
+    (ap (λ (b : Bool). all (numberWithin false) (formExits f) && b) (sym (all-append (numberWithin false) (formLast f) (formUses f)))
+    ∙ sym (all-append (numberWithin false) (formExits f) (formLast f ++ formUses f)))

@@ -10,12 +10,14 @@ use Rattle.rules_shared.specs.House.{house1401}
 use Rattle.rules_shared.specs.Refusals.{refusal}
 use Rattle.rules_object.specs.Check.{character}
 use Rattle.rules_text.specs.Punch.{bytes, deck}
-use Rattle.rules_text.specs.Trees.{Form, con, loop, computed, stop, valueOf, formNames, formConstants, formExits, formLast, formLevels}
+use Rattle.rules_formats.specs.Format.{Format, close}
+use Rattle.rules_text.specs.Trees.{cell, printing, Form, con, loop, computed, stop, transfer, format, valueOf, formNames, formConstants, formExits, formLast, formUses, formLevels}
 use Rattle.rules_text.specs.Cards.{cardsOf, comment, firstCard, textOf, numberOf, rightNumber, wrongCard, afterCard, rightDigits, rightLength, carded}
 use Rattle.rules_text.specs.Tokens.{isLetterOrDigit, give, giveIf, ahead, follow, andThen, after, afterWord, choose, starts, startsDigit, allOf, whole, run, digitRun, nameRun, taken as bytesTaken, number, name, listedUpTo, listed}
-use Rattle.rules_text.specs.Grammar.{addend, linearOf, subscript, subscripts, place as targetRead, operandOf as operandRead, operand, sign, signed, sumOp, productOp, joined, more, step as grammarStep, parseIn, enough, parse, expression, assignment, plainGoTo, rightExits, computedGoTo, arithmeticIf, parameter, doLoop, arrayShape, dimensions, readAssignment, readGoTo, readComputed, readIf, readDo, readContinue, readStop, readEnd, readDimension, present, readings, firstOf, formOf}
+use Rattle.rules_text.specs.Grammar.{addend, linearOf, subscript, subscripts, place as targetRead, operandOf as operandRead, operand, sign, signed, sumOp, productOp, joined, more, step as grammarStep, parseIn, enough, parse, expression, assignment, plainGoTo, rightExits, computedGoTo, arithmeticIf, parameter, doLoop, arrayShape, dimensions, listAfter, transferOf, readAssignment, readGoTo, readComputed, readIf, readDo, readContinue, readStop, readEnd, readDimension, readTransfer, present, readings, firstOf, formOf}
+use Rattle.rules_text.specs.Statements.{punchedForm}
 use Rattle.rules_deck.specs.Translation.{formPlain}
-use Rattle.rules_deck.specs.Judge.{Taken, right11, right12, right13, right14, right15, formReferences, right16, formPooled, formWords, formExitWords, takes, right18, judgeForm}
+use Rattle.rules_deck.specs.Judge.{Taken, right11, right12, right13, right14, right15, formReferences, right16, right17, formPooled, formWords, formExitWords, formItems, takes, right18, judgeForm}
 use Rattle.rules_deck.specs.Compile.{notRead, deckOf}
 
 -- ---- decks: all statements before the place pass, the one there is refused
@@ -48,16 +50,25 @@ Refused [] = Unit {0}
 Refused (e ∷ more) = (deckOf (house1401 5) (deck (e .cards)) ≡ notRead (refusal 18 (e .place) 0)) × Refused more
 
 pub examples : Refused table
-unfolding valueOf formNames formConstants formExits formLast formLevels cardsOf comment firstCard character textOf numberOf rightNumber wrongCard afterCard rightDigits rightLength carded isLetterOrDigit give giveIf ahead follow andThen after afterWord choose starts startsDigit allOf whole run digitRun nameRun bytesTaken number name listedUpTo listed addend linearOf subscript subscripts targetRead operandRead operand sign signed sumOp productOp joined more grammarStep parseIn enough parse expression assignment plainGoTo rightExits computedGoTo arithmeticIf parameter doLoop arrayShape dimensions readAssignment readGoTo readComputed readIf readDo readContinue readStop readEnd readDimension present readings firstOf formOf formPlain right11 right12 right13 right14 right15 formReferences right16 formPooled formWords formExitWords takes right18 judgeForm deckOf
+unfolding valueOf formNames formConstants formExits formLast formUses formLevels cardsOf comment firstCard character textOf numberOf rightNumber wrongCard afterCard rightDigits rightLength carded isLetterOrDigit give giveIf ahead follow andThen after afterWord choose starts startsDigit allOf whole run digitRun nameRun bytesTaken number name listedUpTo listed addend linearOf subscript subscripts targetRead operandRead operand sign signed sumOp productOp joined more grammarStep parseIn enough parse expression assignment plainGoTo rightExits computedGoTo arithmeticIf parameter doLoop arrayShape dimensions listAfter transferOf readAssignment readGoTo readComputed readIf readDo readContinue readStop readEnd readDimension readTransfer present readings firstOf formOf punchedForm formPlain right11 right12 right13 right14 right15 formReferences right16 right17 formPooled formWords formExitWords formItems takes right18 judgeForm deckOf
 examples = (refl, (refl, (refl, (refl, (refl, (refl, tt))))))
 
--- ---- exit words and words of code, from what is taken before: decks that take so many are dear to compute
+-- ---- exit words, words of code and what READ, PRINT and FORMAT take, from what is taken before: decks that take so many are dear to compute
 
 abbrev pub exitsTaken : ℕ → Taken
-exitsTaken n = record { held = []; constants = []; elements = 0; exits = n; dos = 0; code = 0 }
+exitsTaken n = record { held = []; constants = []; elements = 0; exits = n; dos = 0; code = 0; formatWords = 0; items = 0; transfers = 0 }
 
 abbrev pub codeTaken : ℕ → Taken
-codeTaken n = record { held = []; constants = []; elements = 0; exits = 0; dos = 0; code = n }
+codeTaken n = record { held = []; constants = []; elements = 0; exits = 0; dos = 0; code = n; formatWords = 0; items = 0; transfers = 0 }
+
+abbrev pub formatsTaken : ℕ → Taken
+formatsTaken n = record { held = []; constants = []; elements = 0; exits = 0; dos = 0; code = 0; formatWords = n; items = 0; transfers = 0 }
+
+abbrev pub itemsTaken : ℕ → Taken
+itemsTaken n = record { held = []; constants = []; elements = 0; exits = 0; dos = 0; code = 0; formatWords = 0; items = n; transfers = 0 }
+
+abbrev pub transfersTaken : ℕ → Taken
+transfersTaken n = record { held = []; constants = []; elements = 0; exits = 0; dos = 0; code = 0; formatWords = 0; items = 0; transfers = n }
 
 abbrev pub twoExits : Form
 twoExits = computed (bytes "7" ∷ bytes "7" ∷ []) (bytes "I")
@@ -65,11 +76,23 @@ twoExits = computed (bytes "7" ∷ bytes "7" ∷ []) (bytes "I")
 abbrev pub aDo : Form
 aDo = loop (bytes "7") (bytes "J") (con (bytes "1")) (con (bytes "2")) none
 
+-- 3I5
+abbrev pub threeNumbers : Form
+threeNumbers = format (some (Format.number 3 5 close))
+
+abbrev pub twoItems : Form
+twoItems = transfer printing (bytes "7") (cell (bytes "I") ∷ cell (bytes "J") ∷ [])
+
 pub record AtLimit (taken : ℕ → Taken) (form : Form) (last : ℕ) : Type 0 where
-  pub right : judgeForm (house1401 5) 0 form (taken last) ≡ none
-  pub wrong : judgeForm (house1401 5) 0 form (taken (last + 1)) ≡ some 18
+  pub right : judgeForm (house1401 5) 0 7 form (taken last) ≡ none
+  pub wrong : judgeForm (house1401 5) 0 7 form (taken (last + 1)) ≡ some 18
 
 -- the count and two exits; STOP's one word; a DO's five, with its DOE
 pub counted : AtLimit exitsTaken twoExits 1021 × (AtLimit codeTaken stop 4095 × AtLimit codeTaken aDo 4091)
-unfolding valueOf formNames formConstants formExits formLast formLevels formPlain right11 right12 right13 right14 right15 formReferences right16 formPooled formWords formExitWords takes right18 judgeForm
+unfolding valueOf formNames formConstants formExits formLast formUses formLevels formPlain right11 right12 right13 right14 right15 formReferences right16 right17 formPooled formWords formExitWords formItems takes right18 judgeForm
 counted = (record { right = refl; wrong = refl }, (record { right = refl; wrong = refl }, record { right = refl; wrong = refl }))
+
+-- three fields and the end of a FORMAT; two items; one transfer
+pub transfers-counted : AtLimit formatsTaken threeNumbers 4092 × (AtLimit itemsTaken twoItems 1022 × AtLimit transfersTaken twoItems 399)
+unfolding valueOf formNames formConstants formExits formLast formUses formLevels formPlain right11 right12 right13 right14 right15 formReferences right16 right17 formPooled formWords formExitWords formItems takes right18 judgeForm
+transfers-counted = (record { right = refl; wrong = refl }, (record { right = refl; wrong = refl }, record { right = refl; wrong = refl }))

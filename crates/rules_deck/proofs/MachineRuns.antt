@@ -20,7 +20,7 @@ use Rattle.rules_shared.proofs.RunLaws.{steps-add, Steps, rest, seq, one, last}
 use Rattle.rules_text.specs.Trees.{Statement}
 use Rattle.rules_deck.specs.Translation.{codeOf, translate}
 use Rattle.rules_deck.specs.Lawful.{Lawful}
-use Rattle.rules_deck.specs.Accepted.{Fitting}
+use Rattle.rules_deck.specs.Sound.{Sound}
 use Rattle.rules_deck.proofs.Emitted.{fetched}
 
 -- the rule that an object with its digits has
@@ -36,7 +36,7 @@ pub own-rule : {house : House} → Lawful house → (deck : List Statement) → 
 unfolding translate
 own-rule {house} lawful deck = sym (rule-is house deck) ∙ lawful .rule (translate house deck) refl
 
-step-at : (house : House) {deck : List Statement} {i : Instr} → Fitting deck → (t : State) → getElem? (codeOf deck) (t .index) ≡ some i → step (translate house deck) t ≡ act (ruled house) i t
+step-at : (house : House) {deck : List Statement} {i : Instr} → Sound deck → (t : State) → getElem? (codeOf deck) (t .index) ≡ some i → step (translate house deck) t ≡ act (ruled house) i t
 unfolding step
 step-at house {deck} {i} f t e = ap (λ i. act (ruleOf (translate house deck)) i t) (fetched house deck f (t .index) i e) ∙ ap (λ r. act r i t) (rule-is house deck)
 
@@ -55,7 +55,7 @@ module _ {house : House} {deck : List Statement} where
       let e : steps f (a + b) s ≡ steps f a s + steps f b t = steps-add f a b s ∙ ap (λ o. steps f a s + stepsFrom o (λ u. steps f b u)) (p .is .eq) in
       record { is = seq (p .is) (q .is); took = omega (arith, p .took, q .took) }
 
-  module _ (f : Fitting deck) {i : Instr} {pc m : ℕ} {s c : List ℤ} {devices : Devices} where
+  module _ (f : Sound deck) {i : Instr} {pc m : ℕ} {s c : List ℤ} {devices : Devices} where
     pub on : {n : ℕ} {t : State} {o : Out State} → getElem? (codeOf deck) pc ≡ some i → act (ruled house) i (state pc s c m devices) ≡ go t → Runs house deck n t o
         → Runs house deck (suc n) (state pc s c m devices) o
     on {n} e a r =

@@ -11,15 +11,16 @@ use lib.ListN.{getElem?, take}
 use borrow.Author.Tests.{leb-true, not-true}
 use Rattle.rules_shared.specs.House.{House}
 use Rattle.rules_shared.specs.Lists.{all}
-use Rattle.rules_text.specs.Trees.{Name, valueOf, Array, Form, assign, goTo, computed, ifs, loop, continue, stop, end, dimension, Statement}
+use Rattle.rules_text.specs.Trees.{Name, valueOf, Array, Form, assign, goTo, computed, ifs, loop, continue, stop, end, dimension, transfer, format, Statement}
 use Rattle.rules_deck.specs.Deck.{sameName, Declared, declare, arraysIn}
 use Rattle.rules_deck.specs.Translation.{Held, name, array, hidden, isName, isArray, holds, appear, formPlain, brings, heldFrom, heldOf}
-use Rattle.rules_deck.specs.Judge.{endsInF, seen, someCells, rightArrays, right15, rightReference, formReferences, right16, Taken, nothingTaken, takes}
-use Rattle.rules_deck.specs.Accepted.{Among, here, there, takenFrom, takenBefore, Accepted}
+use Rattle.rules_deck.specs.Judge.{endsInF, seen, someCells, rightArrays, right15, rightReference, formReferences, right16}
+use Rattle.rules_deck.specs.Accepted.{Among, here, there, Accepted}
 use Rattle.rules_text.proofs.CardsLaws.{cases}
 use Rattle.rules_text.proofs.Readers.{both-true}
 use Rattle.rules_deck.proofs.Names.{same-name}
 use Rattle.rules_deck.proofs.TestLaws.{or-neither, all-among, among-none, among-append}
+use Rattle.rules_deck.proofs.TakenLaws.{before-held}
 use Rattle.rules_deck.specs.Cells.{namesHeld}
 use Rattle.rules_deck.proofs.MapNames.{names-append, among-kind, name-among, array-among, Distinct, none-yet, new, distinct-last, Full}
 
@@ -106,9 +107,9 @@ once-arrays inF (a ∷ arrays) held e o =
 
 once-brings : (house : House) (q : ℕ) (f : Form) (held : List Held) → right15 house held f ≡ true → right16 held f ≡ true → Once held → Once (brings q f held)
 unfolding right15 right16 formPlain
-once-brings house q f held e g o = go f (once-appear (formPlain f) held (λ v a. not-true _ (all-among (λ v. not (holds (isArray v) held)) (both-true (all (rightReference held) (formReferences f)) _ g .1) a)) o) e
+once-brings house q f held e g o = go f (once-appear (formPlain held f) held (λ v a. not-true _ (all-among (λ v. not (holds (isArray v) held)) (both-true (all (rightReference held) (formReferences f)) _ g .1) a)) o) e
   where
-    go : (f : Form) → Once (appear held (formPlain f)) → rightArrays (house .arrayMayEndInF) held (arraysIn f) ≡ true → Once (brings q f held)
+    go : (f : Form) → Once (appear held (formPlain held f)) → rightArrays (house .arrayMayEndInF) held (arraysIn f) ≡ true → Once (brings q f held)
     go (assign t x) p r = once-quiet _ [] refl p
     go (goTo n) p r = once-quiet _ [] refl p
     go (computed ns v) p r = once-quiet _ [] refl p
@@ -118,18 +119,10 @@ once-brings house q f held e g o = go f (once-appear (formPlain f) held (λ v a.
     go stop p r = once-quiet _ [] refl p
     go end p r = once-quiet _ [] refl p
     go (dimension arrays) p r = once-arrays (house .arrayMayEndInF) arrays held r p
+    go (transfer d n list) p r = once-quiet _ [] refl p
+    go (format x) p r = once-quiet _ [] refl p
 
 -- ---- a deck's
-
-taken-held : (q : ℕ) (deck : List Statement) (t : Taken) → takenFrom q deck t .held ≡ heldFrom q deck (t .held)
-unfolding takes
-taken-held q [] t = refl
-taken-held q (s ∷ deck) t = taken-held (suc q) deck (takes q (s .form) t)
-
--- the map before position q
-pub before-held : (deck : List Statement) (q : ℕ) → takenBefore deck q .held ≡ heldFrom 0 (take q deck) []
-unfolding takenBefore
-before-held deck q = taken-held 0 (take q deck) nothingTaken
 
 -- each statement from position q on passes 15 and 16
 record Passing (house : House) (q : ℕ) (deck : List Statement) (held : List Held) : Type 0 where

@@ -9,11 +9,11 @@ use lib.ListN.{length, getElem?, replicate, length-append, length-replicate}
 use lib.Seq.{getD-append-add}
 use Rattle.rules_object.specs.Operations.{Instr, NEG}
 use Rattle.rules_object.specs.Flow.{heightAt}
-use Rattle.rules_text.specs.Trees.{Name, Expr, con, var, elm, neg, par, bin, levels, Form, assign, goTo, computed, ifs, loop, continue, stop, end, dimension, Statement, formLevels}
+use Rattle.rules_text.specs.Trees.{Name, Digits, Expr, con, var, elm, neg, par, bin, levels, Form, assign, goTo, computed, ifs, loop, continue, stop, end, dimension, transfer, format, Statement, formLevels}
 use Rattle.rules_deck.specs.Deck.{Dims, dimsOf, endings}
 use Rattle.rules_deck.specs.Seen.{levelsIn}
 use Rattle.rules_deck.specs.Meaning.{third}
-use Rattle.rules_deck.specs.Translation.{Held, heldOf, exprCode, formCode, words, addressIn, addressAt, addressOf, enterCode, codeFrom, codeOf}
+use Rattle.rules_deck.specs.Translation.{Held, heldOf, FormatPlace, noFormat, formatPlace, exprCode, formCode, words, addressIn, addressAt, addressOf, enterCode, codeFrom, codeOf}
 use Rattle.rules_text.specs.Shaped.{IsSum, first, minus, plus, less, IsProduct, only, times, over, IsFactor, parens, IsParameter}
 use Rattle.rules_deck.proofs.Addresses.{At, at-shift, at-front, words-code}
 
@@ -87,6 +87,8 @@ formHeights continue = []
 formHeights stop = 0 ∷ []
 formHeights end = 0 ∷ []
 formHeights (dimension arrays) = []
+formHeights (transfer d n list) = 0 ∷ []
+formHeights (format f) = []
 
 pub length-expr : (held : List Held) (dims : Name → Dims) (h : ℕ) (e : Expr) → length (exprHeights h e) ≡ length (exprCode held dims e)
 length-expr held dims h (con c) = refl
@@ -96,18 +98,20 @@ length-expr held dims h (neg e) = simp length-append (omega (arith, length-expr 
 length-expr held dims h (par e) = length-expr held dims h e
 length-expr held dims h (bin o a b) = simp length-append (omega (arith, length-expr held dims h a, length-expr held dims (suc h) b))
 
-pub length-form : (held : List Held) (dims : Name → Dims) (address : ℕ → ℕ) (entry : Instr) (f : Form)
-    → length (formHeights f) ≡ length (formCode held dims address entry f)
-length-form held dims address entry (assign t e) = simp length-append (omega (arith, length-expr held dims 0 e))
-length-form held dims address entry (goTo n) = refl
-length-form held dims address entry (computed ns v) = refl
-length-form held dims address entry (ifs e a b c) = simp length-append (omega (arith, length-expr held dims 0 e))
-length-form held dims address entry (loop n v p₁ p₂ p₃) =
+pub length-form : (held : List Held) (dims : Name → Dims) (address : ℕ → ℕ) (formats : Digits → FormatPlace) (entry : Instr) (f : Form)
+    → length (formHeights f) ≡ length (formCode held dims address formats entry f)
+length-form held dims address formats entry (assign t e) = simp length-append (omega (arith, length-expr held dims 0 e))
+length-form held dims address formats entry (goTo n) = refl
+length-form held dims address formats entry (computed ns v) = refl
+length-form held dims address formats entry (ifs e a b c) = simp length-append (omega (arith, length-expr held dims 0 e))
+length-form held dims address formats entry (loop n v p₁ p₂ p₃) =
     simp length-append (omega (arith, length-expr held dims 0 p₁, length-expr held dims 1 p₂, length-expr held dims 2 (third p₃)))
-length-form held dims address entry continue = refl
-length-form held dims address entry stop = refl
-length-form held dims address entry end = refl
-length-form held dims address entry (dimension arrays) = refl
+length-form held dims address formats entry continue = refl
+length-form held dims address formats entry stop = refl
+length-form held dims address formats entry end = refl
+length-form held dims address formats entry (dimension arrays) = refl
+length-form held dims address formats entry (transfer d n list) = refl
+length-form held dims address formats entry (format f) = refl
 
 expr-first : (h : ℕ) (e : Expr) (rest : List ℕ) → heightAt (exprHeights h e ++ rest) 0 ≡ h
 expr-first h (con c) rest = refl
@@ -128,6 +132,8 @@ form-first continue rest z = z
 form-first stop rest z = refl
 form-first end rest z = refl
 form-first (dimension arrays) rest z = z
+form-first (transfer d n list) rest z = refl
+form-first (format f) rest z = z
 
 zeros-first : (n : ℕ) (rest : List ℕ) → heightAt rest 0 ≡ 0 → heightAt (replicate n 0 ++ rest) 0 ≡ 0
 zeros-first zero rest z = z
@@ -147,7 +153,7 @@ module _ (deck : List Statement) where
 
   length-statement : (s : Statement) → length (statementHeights s) ≡ words deck s
   unfolding words
-  length-statement s = simp (length-append, length-replicate, length-form (heldOf deck) (dimsOf deck) (λ n. 0) NEG (s .form))
+  length-statement s = simp (length-append, length-replicate, length-form (heldOf deck) (dimsOf deck) (λ n. 0) (λ n. noFormat) NEG (s .form))
 
   from-first : (more : List Statement) → heightAt (heightsFrom more) 0 ≡ 0
   from-first [] = refl
@@ -168,7 +174,7 @@ module _ (deck : List Statement) where
   from-length : (q : ℕ) (more : List Statement) → length (heightsFrom more) ≡ length (codeFrom deck q more)
   from-length q [] = refl
   from-length q (s ∷ more) =
-      let w = words-code deck (addressOf deck) (enterCode deck q (s .form)) s in
+      let w = words-code deck (addressOf deck) (formatPlace deck) (enterCode deck q (s .form)) s in
       simp length-append (omega (arith, simp length-append at w, simp length-append at (length-statement s), from-length (suc q) more))
 
   pub heights-length : length deckHeights ≡ length (codeOf deck)

@@ -12,10 +12,10 @@ use borrow.Author.Tests.{leb-true, ltb-true, eqb-true, lt-ltb, le-leb, ne-eqb, l
 use Rattle.rules_shared.specs.Limits.{limits}
 use Rattle.rules_shared.specs.House.{House}
 use Rattle.rules_shared.specs.Lists.{all}
-use Rattle.rules_text.specs.Trees.{Name, Digits, valueOf, Statement, formExits, formLast}
+use Rattle.rules_text.specs.Trees.{Name, Digits, valueOf, Statement, formExits, formLast, formNumbers, formUses}
 use Rattle.rules_deck.specs.Deck.{sameName, positionOf, Do, dosOf, endings}
 use Rattle.rules_deck.specs.Judge.{numberWithin}
-use Rattle.rules_deck.specs.Whole.{isEnd, endsWell, isDimension, right21, defined, right22, lastOf, inRange, mayEnd, mayEndAt, crosses, depth, staysOut, right24, formSets, right25}
+use Rattle.rules_deck.specs.Whole.{isEnd, endsWell, isDimension, right21, defined, ofStatement, usable, right22, lastOf, inRange, mayEnd, mayEndAt, crosses, depth, staysOut, right24, formSets, right25}
 use Rattle.rules_deck.specs.Accepted.{Among, Accepted, InRange, Nested}
 use Rattle.rules_text.proofs.CardsLaws.{and-both}
 use Rattle.rules_deck.proofs.Houses.{right13-all}
@@ -60,7 +60,7 @@ module _ {house : House} {deck : List Statement} (accepted : Accepted house deck
   -- ---- numbers
 
   -- 13
-  pub small-number : (j : ℕ) (s : Statement) → getElem? deck j ≡ some s → (n : Digits) → Among n (formExits (s .form) ++ formLast (s .form)) →
+  pub small-number : (j : ℕ) (s : Statement) → getElem? deck j ≡ some s → (n : Digits) → Among n (formExits (s .form) ++ (formLast (s .form) ++ formUses (s .form))) →
       (0 < valueOf n) × (valueOf n ≤ limits .statementNumber)
   small-number j s e n a =
       let passes = sym (right13-all (accepted .lawful) (s .form)) ∙ accepted .judged j s e .passes13 in
@@ -81,10 +81,12 @@ module _ {house : House} {deck : List Statement} (accepted : Accepted house deck
       let h = and-both (not (isDimension (s .form))) (not (isEnd (s .form))) (and-both (eqb (positionOf deck (s .number)) j) _ (defines j s e n) .1) in
       (not-true (isDimension (s .form)) (h .0), not-true (isEnd (s .form)) (h .1))
 
-  -- 22: a number used is defined
-  used : (j : ℕ) (s : Statement) → getElem? deck j ≡ some s → (n : Digits) → Among n (formExits (s .form) ++ formLast (s .form)) → positionOf deck (valueOf n) < length deck
+  -- 22: an exit's or a DO's last number is a statement's
+  used : (j : ℕ) (s : Statement) → getElem? deck j ≡ some s → (n : Digits) → Among n (formNumbers (s .form)) → positionOf deck (valueOf n) < length deck
   unfolding right22
-  used j s e n a = ltb-true (positionOf deck (valueOf n)) (length deck) (all-among (defined deck) (passes22 accepted j s e) a)
+  used j s e n a =
+      let all22 = and-both (all (ofStatement deck) (formNumbers (s .form))) _ (passes22 accepted j s e) .0 in
+      ltb-true (positionOf deck (valueOf n)) (length deck) (and-both (defined deck n) _ (all-among (ofStatement deck) all22 a) .0)
 
   pub targets : (j : ℕ) (s : Statement) → getElem? deck j ≡ some s → (n : Digits) → Among n (formExits (s .form)) → positionOf deck (valueOf n) < length deck
   targets j s e n a = used j s e n (among-left (formLast (s .form)) a)
@@ -92,13 +94,18 @@ module _ {house : House} {deck : List Statement} (accepted : Accepted house deck
   pub lasts : (j : ℕ) (s : Statement) → getElem? deck j ≡ some s → (n : Digits) → Among n (formLast (s .form)) → positionOf deck (valueOf n) < length deck
   lasts j s e n a = used j s e n (among-right (formExits (s .form)) a)
 
+  -- 22: a READ's or PRINT's number is a FORMAT's, with an I where there is a list
+  pub uses-format : (j : ℕ) (s : Statement) → getElem? deck j ≡ some s → (n : Digits) → Among n (formUses (s .form)) → usable deck (s .form) n ≡ true
+  unfolding right22
+  uses-format j s e n a = all-among (usable deck (s .form)) (and-both (all (ofStatement deck) (formNumbers (s .form))) _ (passes22 accepted j s e) .1) a
+
   -- ---- a DO's last statement
 
   pub last-number : (d : Do) → Among d (dosOf deck) → 0 < d .last
   last-number d a =
       let h = do-at deck d a in
       let l = do-last (h .is) in
-      let n = small-number (d .position) (h .statement) (h .at) (l .0) (among-right (formExits (h .statement .form)) (l .2)) .0 in
+      let n = small-number (d .position) (h .statement) (h .at) (l .0) (among-right (formExits (h .statement .form)) (among-left (formUses (h .statement .form)) (l .2))) .0 in
       rw (l .1) n
 
   pub last-defined : (d : Do) → Among d (dosOf deck) → lastOf deck d < length deck

@@ -1,6 +1,6 @@
--- 10 is given exactly where a statement's text spells no form.
+-- 10 is given exactly where a statement's text spells no form and does not begin FORMAT.
 -- Assumes nothing.
-use mathlib.Core.Path.{_≡_, refl, sym, ap, _∙_, subst}
+use mathlib.Core.Path.{_≡_, refl, sym, ap, _∙_}
 use mathlib.Core.Logic.{_↔_}
 use Prim.Native.Nat.{ℕ, suc, _+_}
 use native.Mathlib.Omega.{arith}
@@ -15,17 +15,17 @@ use Rattle.rules_shared.specs.Refusals.{Refusal, refusal, noRoom}
 use Rattle.rules_shared.specs.Output.{writtenIf, write}
 use Rattle.rules_text.specs.Trees.{Form, Statement}
 use Rattle.rules_text.specs.Cards.{Punched, textOf, Carded, cardsRefused, statements, carded}
-use Rattle.rules_text.specs.Grammar.{formOf}
+use Rattle.rules_text.specs.Tokens.{wordFormat}
+use Rattle.rules_text.specs.Statements.{punchedForm, Begins, NoFormOf}
 use Rattle.rules_deck.specs.Judge.{Taken, nothingTaken, takes, judgeForm}
 use Rattle.rules_deck.specs.Translation.{translate}
 use Rattle.rules_deck.specs.Whole.{judgeDeck}
 use Rattle.rules_deck.specs.Compile.{Read, notRead, read, withStatement, afterJudging, afterReading, readText, readFrom, readCarded, orRefuse, judgeRead, deckOf, writeRead, compiling}
-use Rattle.rules_text.specs.Spelling.{Spells}
 use Rattle.rules_deck.specs.Unspelled.{NoForm}
 use Rattle.rules_deck.proofs.RefusedDeck.{NumberOther, RefusalOther, CardedOther, carded-other, judge-other, deck-other}
-use Rattle.rules_text.proofs.Spellings.{none-spelled, none-read}
+use Rattle.rules_text.proofs.Statements.{none-punched, no-statement}
 
--- ---- where 10 is given, the text spells none
+-- ---- where 10 is given, the columns spell no statement
 
 -- of the statements ps, the first at position q with t taken before it, the one whose sequence number is the place
 record NoneAt (house : House) (q : ℕ) (t : Taken) (ps : List Punched) (place : ℕ) : Type 0 where
@@ -37,7 +37,8 @@ record NoneAt (house : House) (q : ℕ) (t : Taken) (ps : List Punched) (place :
   passed : List Statement
   passes : readFrom house q t before ≡ read passed
   written : textOf (statement .raw) ≡ [] → ⊥
-  spelled : (f : Form) → Spells (textOf (statement .raw)) f → ⊥
+  spelled : NoFormOf (textOf (statement .raw))
+  begun : Begins wordFormat (textOf (statement .raw)) → ⊥
 
 abbrev Ten : House → ℕ → Taken → List Punched → Read → Type 0
 Ten house q t ps (notRead r) = r .number ≡ 10 → NoneAt house q t ps (r .place)
@@ -48,11 +49,11 @@ some-text e = let clash : _≡_ {A = ℕ} 0 1 = cc in omega arith
 
 -- a statement that passes leaves 10 to those after it
 module _ (house : House) (q : ℕ) (t : Taken) (p : Punched) (ps : List Punched) (c : ℕ) (text : List ℕ) (is : textOf (p .raw) ≡ c ∷ text) where
-  module _ (f : Form) (reads : formOf (c ∷ text) ≡ some f) where
+  module _ (f : Form) (reads : punchedForm (p .raw) ≡ some f) where
     abbrev s : Statement
     s = record { number = p .number; form = f }
 
-    later : (x : Read) → judgeForm house q f t ≡ none → Ten house (suc q) (takes q f t) ps x → Ten house q t (p ∷ ps) (withStatement s x)
+    later : (x : Read) → judgeForm house q (p .number) f t ≡ none → Ten house (suc q) (takes q f t) ps x → Ten house q t (p ∷ ps) (withStatement s x)
     later (read deck) j h = tt
     later (notRead r) j h = λ e.
         let n = h e in
@@ -65,20 +66,21 @@ module _ (house : House) (q : ℕ) (t : Taken) (p : Punched) (ps : List Punched)
           are = ap (λ (l : List Punched). p ∷ l) (n .are);
           there = omega arith;
           passed = s ∷ n .passed;
-          passes = ap (readText house q (p .number) t rest) is
+          passes = ap (readText house q (p .number) t rest (p .raw)) is
               ∙ ap (afterReading house q (p .number) t rest) reads
               ∙ ap (afterJudging q s (rest (takes q f t))) j
               ∙ ap (withStatement s) (n .passes);
           written = n .written;
           spelled = n .spelled;
+          begun = n .begun;
         }
 
-    judging-ten : (o : Option ℕ) → judgeForm house q f t ≡ o → NumberOther o → Ten house (suc q) (takes q f t) ps (readFrom house (suc q) (takes q f t) ps)
+    judging-ten : (o : Option ℕ) → judgeForm house q (p .number) f t ≡ o → NumberOther o → Ten house (suc q) (takes q f t) ps (readFrom house (suc q) (takes q f t) ps)
         → Ten house q t (p ∷ ps) (afterJudging q s (readFrom house (suc q) (takes q f t) ps) o)
     judging-ten none j n h = later (readFrom house (suc q) (takes q f t) ps) j h
     judging-ten (some number) j n h = λ e. absurd (n .2 e)
 
-  reading-ten : (o : Option Form) → formOf (c ∷ text) ≡ o → ((u : Taken) → Ten house (suc q) u ps (readFrom house (suc q) u ps))
+  reading-ten : (o : Option Form) → punchedForm (p .raw) ≡ o → ((u : Taken) → Ten house (suc q) u ps (readFrom house (suc q) u ps))
       → Ten house q t (p ∷ ps) (afterReading house q (p .number) t (λ u. readFrom house (suc q) u ps) o)
   reading-ten none e h = λ x.
       record {
@@ -90,18 +92,19 @@ module _ (house : House) (q : ℕ) (t : Taken) (p : Punched) (ps : List Punched)
         passed = [];
         passes = refl;
         written = λ w. some-text (sym is ∙ w);
-        spelled = λ f s. none-spelled (c ∷ text) e f (subst (λ (w : List ℕ). Spells w f) is s);
+        spelled = none-punched (p .raw) e .0;
+        begun = none-punched (p .raw) e .1;
       }
-  reading-ten (some f) e h = judging-ten f e (judgeForm house q f t) refl (judge-other house q f t) (h (takes q f t))
+  reading-ten (some f) e h = judging-ten f e (judgeForm house q (p .number) f t) refl (judge-other house q (p .number) f t) (h (takes q f t))
 
 from-ten : (house : House) (q : ℕ) (t : Taken) (ps : List Punched) → Ten house q t ps (readFrom house q t ps)
 from-ten house q t [] = tt
 from-ten house q t (p ∷ ps) = by (textOf (p .raw)) refl (λ u. from-ten house (suc q) u ps)
   where
     by : (text : List ℕ) → textOf (p .raw) ≡ text → ((u : Taken) → Ten house (suc q) u ps (readFrom house (suc q) u ps))
-        → Ten house q t (p ∷ ps) (readText house q (p .number) t (λ u. readFrom house (suc q) u ps) text)
+        → Ten house q t (p ∷ ps) (readText house q (p .number) t (λ u. readFrom house (suc q) u ps) (p .raw) text)
     by [] e h = λ x. absurd (omega arith)
-    by (c ∷ text) e h = reading-ten house q t p ps c text e (formOf (c ∷ text)) refl h
+    by (c ∷ text) e h = reading-ten house q t p ps c text e (punchedForm (p .raw)) refl h
 
 refused-ten : (house : House) (deck : List ℕ) (q : ℕ) → deckOf house deck ≡ notRead (refusal 10 (suc q) 0) → NoForm house deck q
 unfolding deckOf
@@ -128,6 +131,7 @@ refused-ten house deck q e = by-cards (carded house deck) refl (carded-other hou
           passes = n .passes;
           written = n .written;
           spelled = n .spelled;
+          begun = n .begun;
         }
     by-read ps is (read ss) h f = absurd (by-deck ss (judgeDeck ss) (deck-other ss) f)
 
@@ -137,7 +141,7 @@ refused-ten house deck q e = by-cards (carded house deck) refl (carded-other hou
         absurd (h .2 (ap (λ (y : Refusal). y .number) same))
     by-cards (statements ps) is h f = by-read ps is (readFrom house 0 nothingTaken ps) (from-ten house 0 nothingTaken ps) f
 
--- ---- where the text spells none, 10 is given
+-- ---- where the columns spell no statement, 10 is given
 
 not-both : {r : Refusal} {deck : List Statement} → notRead r ≡ read deck → ⊥
 not-both e =
@@ -156,20 +160,20 @@ module _ (house : House) (q number : ℕ) (t : Taken) (rest rest′ : Taken → 
 
   formed : (o : Option Form) (deck : List Statement) → afterReading house q number t rest o ≡ read deck → afterReading house q number t rest′ o ≡ notRead r
   formed none deck e = absurd (not-both e)
-  formed (some f) deck e = judged _ (takes q f t) (judgeForm house q f t) deck e
+  formed (some f) deck e = judged _ (takes q f t) (judgeForm house q number f t) deck e
 
-  texted : (text : List ℕ) (deck : List Statement) → readText house q number t rest text ≡ read deck → readText house q number t rest′ text ≡ notRead r
-  texted [] deck e = absurd (not-both e)
-  texted (c ∷ text) deck e = formed (formOf (c ∷ text)) deck e
+  texted : (columns text : List ℕ) (deck : List Statement) → readText house q number t rest columns text ≡ read deck → readText house q number t rest′ columns text ≡ notRead r
+  texted columns [] deck e = absurd (not-both e)
+  texted columns (c ∷ text) deck e = formed (punchedForm columns) deck e
 
-module _ (house : House) (p : Punched) (after : List Punched) (written : textOf (p .raw) ≡ [] → ⊥) (spelled : (f : Form) → Spells (textOf (p .raw)) f → ⊥) where
-  -- a text that spells no form is refused 10, whatever stands before and after it
-  text-refused : (q number : ℕ) (t : Taken) (rest : Taken → Read) → readText house q number t rest (textOf (p .raw)) ≡ notRead (refusal 10 (suc q) 0)
-  text-refused q number t rest = by (textOf (p .raw)) written spelled
+module _ (house : House) (p : Punched) (after : List Punched) (written : textOf (p .raw) ≡ [] → ⊥) (spelled : NoFormOf (textOf (p .raw))) (begun : Begins wordFormat (textOf (p .raw)) → ⊥) where
+  -- columns that spell no statement are refused 10, whatever stands before and after them
+  text-refused : (q number : ℕ) (t : Taken) (rest : Taken → Read) → readText house q number t rest (p .raw) (textOf (p .raw)) ≡ notRead (refusal 10 (suc q) 0)
+  text-refused q number t rest = by (textOf (p .raw)) written
     where
-      by : (text : List ℕ) → (text ≡ [] → ⊥) → ((f : Form) → Spells text f → ⊥) → readText house q number t rest text ≡ notRead (refusal 10 (suc q) 0)
-      by [] w s = absurd (w refl)
-      by (c ∷ text) w s = ap (afterReading house q number t rest) (none-read (c ∷ text) s)
+      by : (text : List ℕ) → (text ≡ [] → ⊥) → readText house q number t rest (p .raw) text ≡ notRead (refusal 10 (suc q) 0)
+      by [] w = absurd (w refl)
+      by (c ∷ text) w = ap (afterReading house q number t rest) (no-statement (p .raw) spelled begun)
 
   given-ten : (q : ℕ) (t : Taken) (before : List Punched) (deck : List Statement) → readFrom house q t before ≡ read deck
       → readFrom house q t (before ++ p ∷ after) ≡ notRead (refusal 10 (suc (q + length before)) 0)
@@ -179,7 +183,7 @@ module _ (house : House) (p : Punched) (after : List Punched) (written : textOf 
   given-ten q t (b ∷ before) deck e =
       let here : suc q + length before ≡ q + suc (length before) = omega arith in
       texted house q (b .number) t (λ u. readFrom house (suc q) u before) (λ u. readFrom house (suc q) u (before ++ p ∷ after)) _
-      (λ u d f. given-ten (suc q) u before d f) (textOf (b .raw)) deck e
+      (λ u d f. given-ten (suc q) u before d f) (b .raw) (textOf (b .raw)) deck e
       ∙ ap (λ (n : ℕ). notRead (refusal 10 (suc n) 0)) here
 
 gives-ten : (house : House) (deck : List ℕ) (q : ℕ) → NoForm house deck q → deckOf house deck ≡ notRead (refusal 10 (suc q) 0)
@@ -187,12 +191,12 @@ unfolding deckOf
 gives-ten house deck q n =
     let here : 0 + length (n .before) ≡ q = omega (arith, n .position) in
     ap (λ (x : Carded). judgeRead (readCarded house x)) (n .cards)
-    ∙ ap judgeRead (given-ten house (n .statement) (n .after) (n .written) (n .spelled) 0 nothingTaken (n .before) (n .passed) (n .passes))
+    ∙ ap judgeRead (given-ten house (n .statement) (n .after) (n .written) (n .spelled) (n .begun) 0 nothingTaken (n .before) (n .passed) (n .passes))
     ∙ ap (λ (m : ℕ). notRead (refusal 10 (suc m) 0)) here
 
 -- ---- the call
 
--- A DECK IS REFUSED 10 EXACTLY AT A STATEMENT WHOSE TEXT SPELLS NO FORM
+-- A DECK IS REFUSED 10 EXACTLY AT A STATEMENT WHOSE TEXT SPELLS NO FORM AND DOES NOT BEGIN FORMAT
 pub ten-exactly : (house : House) (deck output : List ℕ) (q : ℕ) → (compiling house deck output .refusal ≡ refusal 10 (suc q) 0) ↔ NoForm house deck q
 unfolding compiling write
 ten-exactly house deck output q = (λ e. refused-ten house deck q (unread (deckOf house deck) refl e), λ n. ap (λ (x : Read). writeRead house output x .refusal) (gives-ten house deck q n))

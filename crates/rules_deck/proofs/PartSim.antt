@@ -87,7 +87,7 @@ stated n f = record { number = n; form = f }
 
 module _ (house : House) {deck : List Statement} (sound : Sound deck) {j lost m : ℕ} {env : Values} {inside : ℕ → Bounds} {c : List ℤ} (st : Stands deck j env inside lost c m)
     {number : ℕ} {f : Form} (at : getElem? deck j ≡ some (stated number f)) where
-  pub known : Known (heldOf deck) (formPlain f)
+  pub known : Known (heldOf deck) (formPlain (heldOf deck) f)
   known = record { has = λ v a. plain-has deck j (stated number f) v at a }
 
   pub ending : (d : Do) → Among d (endings deck number) → Ending deck j d
@@ -121,9 +121,9 @@ module _ (house : House) {deck : List Statement} (sound : Sound deck) {j lost m 
     pub assign-cell : (v : Name) {p n : ℕ} {r : Evaluated} → isEnd f ≡ false → doOf j f ≡ [] → Has (heldOf deck) (key (plain v)) → Gives house deck devices (addressAt deck j) p [] c m n r
         → getElem? (codeOf deck) p ≡ some (STO (cellOf (heldOf deck) v)) → At (codeOf deck) (suc p) (map (doInstr deck DOE) (endings deck number))
         → suc p + length (endings deck number) ≡ addressAt deck (suc j)
-        → Sim house deck j (state (addressAt deck j) [] c m devices) (assignedSteps deck (endings deck number) j env inside (cell v) r n) (assigned deck (endings deck number) (standing j env inside lost) (cell v) r)
+        → Sim house deck j (state (addressAt deck j) [] c m devices) (assignedSteps deck (endings deck number) j env inside (cell v) r n) (assigned deck (endings deck number) (standing j env inside lost devices) (cell v) r)
     assign-cell v e z h (gives {v = x} r y q) a b l =
-        first (and-then r (on (sound .fitting) a refl stay)) (omega arith)
+        first (and-then r (on sound a refl stay)) (omega arith)
         (ends-sim house sound
         (ready e z (holds-put (st .holds) (plain v) x h) (same-mark j (omega arith) (omega arith) q (st .mark)) (inside-put (st .around) (plain v) x h))
         (endings deck number) ending b l)
@@ -135,13 +135,13 @@ module _ (house : House) {deck : List Statement} (sound : Sound deck) {j lost m 
         → placeOf c (elementEntry (heldOf deck) (dimsOf deck) v ss) ≡ o → placeIn env (dimsOf deck v) ss ≡ o
         → getElem? (codeOf deck) p ≡ some (STE (elementEntry (heldOf deck) (dimsOf deck) v ss)) → At (codeOf deck) (suc p) (map (doInstr deck DOE) (endings deck number))
         → suc p + length (endings deck number) ≡ addressAt deck (suc j)
-        → Sim house deck j (state (addressAt deck j) [] c m devices) (storedSteps deck (endings deck number) j env inside v x o n) (stored deck (endings deck number) (standing j env inside lost) v x d o)
+        → Sim house deck j (state (addressAt deck j) [] c m devices) (storedSteps deck (endings deck number) j env inside v x o n) (stored deck (endings deck number) (standing j env inside lost devices) v x d o)
     stored-sim v ss none {x} {p = p} {m′ = m′} e z r y q u w a b l =
-        halts {p = p} (and-then r (out (sound .fitting) a (ap (λ o. elementStored o (elementEntry (heldOf deck) (dimsOf deck) v ss) (state p (x ∷ []) c m′ devices)) u))) (omega arith) (omega arith) (st .holds)
+        halts {p = p} (and-then r (out sound a (ap (λ o. elementStored o (elementEntry (heldOf deck) (dimsOf deck) v ss) (state p (x ∷ []) c m′ devices)) u))) (omega arith) (omega arith) (st .holds)
         (same-mark j (omega arith) (omega arith) q (st .mark))
     stored-sim v ss (some i) {x} {p = p} {m′ = m′} e z r y q u w a b l =
         let h = element-has deck env v ss i w in
-        first (and-then r (on (sound .fitting) a (ap (λ o. elementStored o (elementEntry (heldOf deck) (dimsOf deck) v ss) (state p (x ∷ []) c m′ devices)) u) stay)) (omega arith)
+        first (and-then r (on sound a (ap (λ o. elementStored o (elementEntry (heldOf deck) (dimsOf deck) v ss) (state p (x ∷ []) c m′ devices)) u) stay)) (omega arith)
         (ends-sim house sound
         (ready e z (holds-put (st .holds) (elementAt v i) x h) (same-mark j (omega arith) (omega arith) q (st .mark)) (inside-put (st .around) (elementAt v i) x h))
         (endings deck number) ending b l)
@@ -149,7 +149,7 @@ module _ (house : House) {deck : List Statement} (sound : Sound deck) {j lost m 
     pub assign-element : (v : Name) (ss : Subscripts) {p n : ℕ} {r : Evaluated} → isEnd f ≡ false → doOf j f ≡ [] → Known (heldOf deck) (subscriptsNames ss) → Gives house deck devices (addressAt deck j) p [] c m n r
         → getElem? (codeOf deck) p ≡ some (STE (elementEntry (heldOf deck) (dimsOf deck) v ss)) → At (codeOf deck) (suc p) (map (doInstr deck DOE) (endings deck number))
         → suc p + length (endings deck number) ≡ addressAt deck (suc j)
-        → Sim house deck j (state (addressAt deck j) [] c m devices) (assignedSteps deck (endings deck number) j env inside (element v ss) r n) (assigned deck (endings deck number) (standing j env inside lost) (element v ss) r)
+        → Sim house deck j (state (addressAt deck j) [] c m devices) (assignedSteps deck (endings deck number) j env inside (element v ss) r n) (assigned deck (endings deck number) (standing j env inside lost devices) (element v ss) r)
     assign-element v ss e z h (gives r y q) a b l = stored-sim v ss (placeIn env (dimsOf deck v) ss) e z r y q (place-value deck (st .holds) v ss h) refl a b l
     assign-element v ss e z h (stops r y x q) a b l = halts r (omega arith) x (st .holds) (same-mark j (omega arith) (omega arith) q (st .mark))
 
@@ -157,21 +157,21 @@ module _ (house : House) {deck : List Statement} (sound : Sound deck) {j lost m 
 
     pub tested-sim : (n₁ n₂ n₃ : Digits) {p n : ℕ} {r : Evaluated} → ((n : Digits) → Among n (n₁ ∷ n₂ ∷ n₃ ∷ []) → Among n (formExits f)) → Gives house deck devices (addressAt deck j) p [] c m n r
         → getElem? (codeOf deck) p ≡ some (BR3 (addressOf deck (valueOf n₁)) (addressOf deck (valueOf n₂)) (addressOf deck (valueOf n₃))) → suc p ≤ addressAt deck (suc j)
-        → Sim house deck j (state (addressAt deck j) [] c m devices) (andOne r n) (tested deck (endings deck number) (standing j env inside lost) n₁ n₂ n₃ r)
+        → Sim house deck j (state (addressAt deck j) [] c m devices) (andOne r n) (tested deck (endings deck number) (standing j env inside lost devices) n₁ n₂ n₃ r)
     tested-sim n₁ n₂ n₃ x (gives {v = v} {m′ = m′} r y q) a l =
-        goes (and-then r (on (sound .fitting) a (ap (λ t. go (state t [] c m′ devices)) (sign3-map (λ n. addressOf deck (valueOf n)) v n₁ n₂ n₃)) stay)) (omega arith)
+        goes (and-then r (on sound a (ap (λ t. go (state t [] c m′ devices)) (sign3-map (λ n. addressOf deck (valueOf n)) v n₁ n₂ n₃)) stay)) (omega arith)
         (jumped (sign3 v n₁ n₂ n₃) (x _ (sign3-among v n₁ n₂ n₃)) (same-mark j (omega arith) (omega arith) q (st .mark))) (inl (omega arith))
     tested-sim n₁ n₂ n₃ x (stops r y z q) a l = halts r (omega arith) z (st .holds) (same-mark j (omega arith) (omega arith) q (st .mark))
 
     pub chosen-sim : (ns : List Digits) (v : ℤ) (o : Option Digits) → ((n : Digits) → Among n ns → Among n (formExits f)) → exit ns v ≡ o
         → Runs house deck 1 (state (addressAt deck j) [] c m devices) (go (state (suc (addressAt deck j)) (v ∷ []) c m devices))
         → getElem? (codeOf deck) (suc (addressAt deck j)) ≡ some (BRC (map (λ n. addressOf deck (valueOf n)) ns)) → addressAt deck j + 2 ≤ addressAt deck (suc j)
-        → Sim house deck j (state (addressAt deck j) [] c m devices) 2 (chosen deck (endings deck number) (standing j env inside lost) o)
+        → Sim house deck j (state (addressAt deck j) [] c m devices) 2 (chosen deck (endings deck number) (standing j env inside lost devices) o)
     chosen-sim ns v none x e r a l =
-        halts {p = suc (addressAt deck j)} (and-then r (out (sound .fitting) a (ap (λ o. branched o (state (suc (addressAt deck j)) (v ∷ []) c m devices)) (exit-map (λ n. addressOf deck (valueOf n)) ns v ∙ ap (Option·map (λ n. addressOf deck (valueOf n))) e)))) (omega arith) (omega arith)
+        halts {p = suc (addressAt deck j)} (and-then r (out sound a (ap (λ o. branched o (state (suc (addressAt deck j)) (v ∷ []) c m devices)) (exit-map (λ n. addressOf deck (valueOf n)) ns v ∙ ap (Option·map (λ n. addressOf deck (valueOf n))) e)))) (omega arith) (omega arith)
         (st .holds) (st .mark)
     chosen-sim ns v (some n) x e r a l =
-        goes (and-then r (on (sound .fitting) a (ap (λ o. branched o (state (suc (addressAt deck j)) (v ∷ []) c m devices)) (exit-map (λ n. addressOf deck (valueOf n)) ns v ∙ ap (Option·map (λ n. addressOf deck (valueOf n))) e)) stay)) (omega arith)
+        goes (and-then r (on sound a (ap (λ o. branched o (state (suc (addressAt deck j)) (v ∷ []) c m devices)) (exit-map (λ n. addressOf deck (valueOf n)) ns v ∙ ap (Option·map (λ n. addressOf deck (valueOf n))) e)) stay)) (omega arith)
         (jumped n (x n (exit-among ns v n e)) (st .mark)) (inl (omega arith))
 
     -- ---- DO
@@ -180,9 +180,9 @@ module _ (house : House) {deck : List Statement} (sound : Sound deck) {j lost m 
         → allPositive m₁ m₂ m₃ ≡ b → Runs house deck n (state (addressAt deck j) [] c m devices) (go (state p (m₃ ∷ m₂ ∷ m₁ ∷ []) c m′ devices)) → addressAt deck j + n ≡ p
         → Marked (addressAt deck j) p m m′ d → getElem? (codeOf deck) p ≡ some (doInstr deck DOI (record { position = j; last = g; variable = v }))
         → At (codeOf deck) (suc p) (map (doInstr deck DOE) (endings deck number)) → suc p + length (endings deck number) ≡ addressAt deck (suc j)
-        → Sim house deck j (state (addressAt deck j) [] c m devices) (begunSteps deck (endings deck number) j env inside v b m₁ m₂ m₃ n) (begun deck (endings deck number) (standing j env inside lost) v b m₁ m₂ m₃ d)
+        → Sim house deck j (state (addressAt deck j) [] c m devices) (begunSteps deck (endings deck number) j env inside v b m₁ m₂ m₃ n) (begun deck (endings deck number) (standing j env inside lost devices) v b m₁ m₂ m₃ d)
     begun-sim g v false {m₁} {m₂} {m₃} {p = p} {m′ = m′} i e s r y q a b l =
-        halts {p = p} (and-then r (out (sound .fitting) a (ap (λ t. Machine.begun t (loopEntry deck (record { position = j; last = g; variable = v })) m₁ m₂ m₃ (state p (m₃ ∷ m₂ ∷ m₁ ∷ []) c m′ devices)) s))) (omega arith) (omega arith)
+        halts {p = p} (and-then r (out sound a (ap (λ t. Machine.begun t (loopEntry deck (record { position = j; last = g; variable = v })) m₁ m₂ m₃ (state p (m₃ ∷ m₂ ∷ m₁ ∷ []) c m′ devices)) s))) (omega arith) (omega arith)
         (st .holds) (same-mark j (omega arith) (omega arith) q (st .mark))
     begun-sim g v true {m₁} {m₂} {m₃} {p = p} {m′ = m′} i e s r y q a b l =
         let D : Do = record { position = j; last = g; variable = v } in
@@ -191,7 +191,7 @@ module _ (house : House) {deck : List Statement} (sound : Sound deck) {j lost m 
         let h₁ = holds-put (st .holds) (plain v) m₁ hv in
         let i₁ = inside-put (st .around) (plain v) m₁ hv in
         let above = and-both (positive m₂) (positive m₃) (and-both (positive m₁) (positive m₂ && positive m₃) s .1) .1 in
-        first (and-then r (on (sound .fitting) a (ap (λ t. Machine.begun t (loopEntry deck D) m₁ m₂ m₃ (state p (m₃ ∷ m₂ ∷ m₁ ∷ []) c m′ devices)) s) stay)) (omega arith)
+        first (and-then r (on sound a (ap (λ t. Machine.begun t (loopEntry deck D) m₁ m₂ m₃ (state p (m₃ ∷ m₂ ∷ m₁ ∷ []) c m′ devices)) s) stay)) (omega arith)
         (ends-sim house sound
         (record {
           holds = holds-step (holds-hidden h₁ j m₂ hh) j m₃ hh;
@@ -208,7 +208,7 @@ module _ (house : House) {deck : List Statement} (sound : Sound deck) {j lost m 
         (b : At (codeOf deck) (suc p₃) (map (doInstr deck DOE) (endings deck number))) (l : suc p₃ + length (endings deck number) ≡ addressAt deck (suc j)) where
       third-sim : (x w : ℤ) (d₁ d₂ : Loss) (n₁ n₂ : ℕ) {n₃ m′ : ℕ} {r : Evaluated} → Runs house deck (n₁ + n₂) (state (addressAt deck j) [] c m devices) (go (state p₂ (w ∷ x ∷ []) c m′ devices)) → addressAt deck j + (n₁ + n₂) ≡ p₂
           → Marked (addressAt deck j) p₂ m m′ (numbers.first d₁ d₂) → Gives house deck devices p₂ p₃ (w ∷ x ∷ []) c m′ n₃ r
-          → Sim house deck j (state (addressAt deck j) [] c m devices) (readSteps deck (endings deck number) j env inside v (val x d₁) (val w d₂) r n₁ n₂ n₃) (read deck (endings deck number) (standing j env inside lost) v (val x d₁) (val w d₂) r)
+          → Sim house deck j (state (addressAt deck j) [] c m devices) (readSteps deck (endings deck number) j env inside v (val x d₁) (val w d₂) r n₁ n₂ n₃) (read deck (endings deck number) (standing j env inside lost devices) v (val x d₁) (val w d₂) r)
       third-sim x w d₁ d₂ n₁ n₂ r y q (gives {v = z} r′ y′ q′) =
           begun-sim g v (allPositive x w z) i e refl (and-then r r′) (omega arith) (marked-then (widen (omega arith) l₃ q) (widen (omega arith) (omega arith) q′)) a b l
       third-sim x w d₁ d₂ n₁ n₂ r y q (stops {p = o} r′ y′ x′ q′) =
@@ -217,7 +217,7 @@ module _ (house : House) {deck : List Statement} (sound : Sound deck) {j lost m 
 
       second-sim : (x : ℤ) (d₁ : Loss) {n₁ n₂ n₃ m′ : ℕ} {r r₃ : Evaluated} → Runs house deck n₁ (state (addressAt deck j) [] c m devices) (go (state p₁ (x ∷ []) c m′ devices)) → addressAt deck j + n₁ ≡ p₁
           → Marked (addressAt deck j) p₁ m m′ d₁ → Gives house deck devices p₁ p₂ (x ∷ []) c m′ n₂ r → ((w : ℤ) (m′ : ℕ) → Gives house deck devices p₂ p₃ (w ∷ x ∷ []) c m′ n₃ r₃)
-          → Sim house deck j (state (addressAt deck j) [] c m devices) (readSteps deck (endings deck number) j env inside v (val x d₁) r r₃ n₁ n₂ n₃) (read deck (endings deck number) (standing j env inside lost) v (val x d₁) r r₃)
+          → Sim house deck j (state (addressAt deck j) [] c m devices) (readSteps deck (endings deck number) j env inside v (val x d₁) r r₃ n₁ n₂ n₃) (read deck (endings deck number) (standing j env inside lost devices) v (val x d₁) r r₃)
       second-sim x d₁ {n₁} {n₂} r y q (gives {v = w} {b = d₂} r′ y′ q′) g₃ =
           third-sim x w d₁ d₂ n₁ n₂ (and-then r r′) (omega arith) (marked-then (widen (omega arith) l₂ q) (widen (omega arith) (omega arith) q′)) (g₃ w _)
       second-sim x d₁ r y q (stops {p = o} r′ y′ x′ q′) g₃ =
@@ -226,6 +226,6 @@ module _ (house : House) {deck : List Statement} (sound : Sound deck) {j lost m 
 
       pub read-sim : {n₁ n₂ n₃ : ℕ} {r₁ r₂ r₃ : Evaluated} → Gives house deck devices (addressAt deck j) p₁ [] c m n₁ r₁ → ((x : ℤ) (m′ : ℕ) → Gives house deck devices p₁ p₂ (x ∷ []) c m′ n₂ r₂)
           → ((x w : ℤ) (m′ : ℕ) → Gives house deck devices p₂ p₃ (w ∷ x ∷ []) c m′ n₃ r₃)
-          → Sim house deck j (state (addressAt deck j) [] c m devices) (readSteps deck (endings deck number) j env inside v r₁ r₂ r₃ n₁ n₂ n₃) (read deck (endings deck number) (standing j env inside lost) v r₁ r₂ r₃)
+          → Sim house deck j (state (addressAt deck j) [] c m devices) (readSteps deck (endings deck number) j env inside v r₁ r₂ r₃ n₁ n₂ n₃) (read deck (endings deck number) (standing j env inside lost devices) v r₁ r₂ r₃)
       read-sim (gives {v = x} {b = d₁} r y q) g₂ g₃ = second-sim x d₁ r y q (g₂ x _) (g₃ x)
       read-sim (stops r y x q) g₂ g₃ = halts r (omega arith) x (st .holds) (same-mark j (omega arith) (omega arith) q (st .mark))

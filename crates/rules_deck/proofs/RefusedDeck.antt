@@ -15,8 +15,8 @@ use Rattle.rules_object.specs.Check.{blanks}
 use Rattle.rules_shared.specs.Refusals.{Refusal, orElse}
 use Rattle.rules_text.specs.Trees.{Form, Statement}
 use Rattle.rules_text.specs.Cards.{Punched, textOf, comment, firstCard, characters, columnsRead, numberColumns, rightNumber, Reading, nothingRead, wrongFirst, wrongContinuation, wrongCharacters, wrongCard, afterCard, Carded, cardsRefused, statements, cardByCard, rightDigits, rightLength, cardsOf, counted, carded}
-use Rattle.rules_text.specs.Grammar.{formOf}
-use Rattle.rules_deck.specs.Judge.{Taken, nothingTaken, takes, wrong, right11, right12, right13, right14, right15, right16, right18, judgeForm}
+use Rattle.rules_text.specs.Statements.{punchedForm}
+use Rattle.rules_deck.specs.Judge.{Taken, nothingTaken, takes, wrong, right11, right12, right13, right14, right15, right16, right17, right18, judgeForm}
 use Rattle.rules_deck.specs.Whole.{firstWrong, firstWrongDo, refused20, right21, right22, right24, right25, refusedAt, judgeDeck}
 use Rattle.rules_deck.specs.Deck.{dosOf}
 use Rattle.rules_deck.specs.Compile.{Read, notRead, read, withStatement, afterJudging, afterReading, readText, readFrom, readCarded, orRefuse, judgeRead, deckOf}
@@ -92,15 +92,16 @@ or-other : (a b : Option ℕ) → NumberOther a → NumberOther b → NumberOthe
 or-other none b p q = q
 or-other (some n) b p q = p
 
-pub judge-other : (house : House) (q : ℕ) (f : Form) (t : Taken) → NumberOther (judgeForm house q f t)
+pub judge-other : (house : House) (q number : ℕ) (f : Form) (t : Taken) → NumberOther (judgeForm house q number f t)
 unfolding judgeForm
-judge-other house q f t =
+judge-other house q number f t =
     or-other (wrong (right11 house f) 11) _ (wrong-other (right11 house f) 11 (omega arith))
     (or-other (wrong (right12 house f) 12) _ (wrong-other (right12 house f) 12 (omega arith))
     (or-other (wrong (right13 house f) 13) _ (wrong-other (right13 house f) 13 (omega arith))
     (or-other (wrong (right14 f) 14) _ (wrong-other (right14 f) 14 (omega arith))
     (or-other (wrong (right15 house (t .held) f) 15) _ (wrong-other (right15 house (t .held) f) 15 (omega arith))
-    (or-other (wrong (right16 (t .held) f) 16) _ (wrong-other (right16 (t .held) f) 16 (omega arith)) (wrong-other (right18 (takes q f t)) 18 (omega arith)))))))
+    (or-other (wrong (right16 (t .held) f) 16) _ (wrong-other (right16 (t .held) f) 16 (omega arith))
+    (or-other (wrong (right17 number f) 17) _ (wrong-other (right17 number f) 17 (omega arith)) (wrong-other (right18 (takes q f t)) 18 (omega arith))))))))
 
 with-numbered : (s : Statement) (r : Read) → ReadNumbered r → ReadNumbered (withStatement s r)
 with-numbered s (notRead r) h = h
@@ -112,15 +113,16 @@ judging-numbered q s rest (some n) h r = (h .0, h .1)
 
 reading-numbered : (house : House) (q number : ℕ) (t : Taken) (rest : Taken → Read) (o : Option Form) → ((u : Taken) → ReadNumbered (rest u)) → ReadNumbered (afterReading house q number t rest o)
 reading-numbered house q number t rest none r = omega arith
-reading-numbered house q number t rest (some f) r = judging-numbered q _ _ (judgeForm house q f t) (judge-other house q f t) (r (takes q f t))
+reading-numbered house q number t rest (some f) r = judging-numbered q _ _ (judgeForm house q number f t) (judge-other house q number f t) (r (takes q f t))
 
-text-numbered : (house : House) (q number : ℕ) (t : Taken) (rest : Taken → Read) (text : List ℕ) → ((u : Taken) → ReadNumbered (rest u)) → ReadNumbered (readText house q number t rest text)
-text-numbered house q number t rest [] r = omega arith
-text-numbered house q number t rest (c ∷ text) r = reading-numbered house q number t rest (formOf (c ∷ text)) r
+text-numbered : (house : House) (q number : ℕ) (t : Taken) (rest : Taken → Read) (columns text : List ℕ) → ((u : Taken) → ReadNumbered (rest u))
+    → ReadNumbered (readText house q number t rest columns text)
+text-numbered house q number t rest columns [] r = omega arith
+text-numbered house q number t rest columns (c ∷ text) r = reading-numbered house q number t rest (punchedForm columns) r
 
 from-numbered : (house : House) (q : ℕ) (t : Taken) (ps : List Punched) → ReadNumbered (readFrom house q t ps)
 from-numbered house q t [] = tt
-from-numbered house q t (p ∷ more) = text-numbered house q (p .number) t (λ u. readFrom house (suc q) u more) (textOf (p .raw)) (λ u. from-numbered house (suc q) u more)
+from-numbered house q t (p ∷ more) = text-numbered house q (p .number) t (λ u. readFrom house (suc q) u more) (p .raw) (textOf (p .raw)) (λ u. from-numbered house (suc q) u more)
 
 read-numbered : (house : House) (c : Carded) → CardedOther c → ReadNumbered (readCarded house c)
 read-numbered house (cardsRefused number place) h = (h .0, h .1)

@@ -1,7 +1,7 @@
 -- What stands in each of the seven lists of an accepted deck's object.
 -- Assumes nothing.
 use mathlib.Core.Path.{_≡_, refl}
-use Prim.Native.Nat.{ℕ, suc, _+_, _-_, _*_, _≤_, _<_}
+use Prim.Native.Nat.{ℕ, suc, _+_, _-_, _≤_, _<_}
 use native.Mathlib.Nat.{zero-add}
 use native.Mathlib.Omega.{arith}
 use mathlib.Core.Bool.{Bool, true, false, _&&_, cond}
@@ -20,15 +20,16 @@ use Rattle.rules_text.specs.Trees.{Name, Digits, valueOf, Statement, formConsta
 use Rattle.rules_deck.specs.Deck.{positionOf, dosOf, dimsOf, width}
 use Rattle.rules_deck.specs.Meaning.{plain, elementAt}
 use Rattle.rules_deck.specs.Judge.{startsInteger, right11, right12, Reference, formReferences}
-use Rattle.rules_deck.specs.Translation.{heldOf, cellCount, formPlain, addressAt, loopEntry, codeOf, Tables, noTables, pool, addElement, addExits, listElements, addTransfer, tablesAfter, tablesOf, executable, linesFrom, filled, namesFrom}
+use Rattle.rules_deck.specs.Translation.{arraySize, baseOf, heldOf, cellCount, formPlain, addressAt, loopEntry, codeOf, Tables, noTables, pool, addElement, addExits, listElements, addTransfer, tablesAfter, tablesOf, executable, linesFrom, filled, namesFrom}
 use Rattle.rules_deck.specs.Cells.{key, limit, step}
 use Rattle.rules_deck.specs.Accepted.{Among, here, there, Accepted}
 use Rattle.rules_text.specs.Spelling.{IsName}
 use Rattle.rules_text.proofs.CardsLaws.{and-both}
-use Rattle.rules_text.proofs.ReadForms.{read-names, read-constants}
+use Rattle.rules_text.proofs.Statements.{punched-right}
 use Rattle.rules_deck.proofs.TestLaws.{all-among, at-before}
 use Rattle.rules_deck.proofs.NestedDeck.{targets, last-defined, last-after}
-use Rattle.rules_deck.proofs.DeclaredDeck.{element-rows}
+use Rattle.rules_deck.proofs.ArrayRows.{array-has-rows}
+use Rattle.rules_deck.proofs.DeclaredDeck.{array-rows, element-rows}
 use Rattle.rules_deck.proofs.CellLaws.{slot-below}
 use Rattle.rules_deck.proofs.DeckCells.{plain-has, hidden-has, variable-has, size-dims}
 use Rattle.rules_deck.proofs.MapNames.{Inside}
@@ -173,30 +174,31 @@ module _ {house : House} {deck : List Statement} (accepted : Accepted house deck
   small j s e c a =
       let h = accepted .judged j s e in
       let short = leb-true (length c) (house .digits) (all-among (λ c. leb (length c) (house .digits)) (h .passes12) a) in
-      let below = value-within (house .digits) c (each-here (read-constants (h .text) (s .form) (h .form)) a) short in
+      let below = value-within (house .digits) c (each-here (punched-right (h .columns) (s .form) (h .form) .constants) a) short in
       omega (arith, accepted .lawful .constants (accepted .digits) .0)
 
-  spanned : (j : ℕ) (s : Statement) → getElem? deck j ≡ some s → (r : Reference) → Among r (formReferences (s .form)) → Spanned (heldOf deck) (dimsOf deck) m n cells r
-  spanned j s e r a =
-      let rows = element-rows accepted j s e r a in
-      let v : Name = r .name in
-      let size : ℕ = dimsOf deck v .rows * width (dimsOf deck v .columns) in
+  -- the cells of an array
+  array-inside : (v : Name) → 1 ≤ dimsOf deck v .rows → baseOf (heldOf deck) v + arraySize (dimsOf deck v) ≤ cells
+  array-inside v rows =
+      let size : ℕ = arraySize (dimsOf deck v) in
       let some : 1 ≤ size = product-some (dimsOf deck v .rows) (width (dimsOf deck v .columns)) rows (width-some (dimsOf deck v .columns)) in
-      let b = slot-below (heldOf deck) (key (elementAt v (size - 1))) (omega (arith, size-dims deck v)) in
-      (rows, omega arith)
+      omega (arith, slot-below (heldOf deck) (key (elementAt v (size - 1))) (omega (arith, size-dims deck v)))
+
+  spanned : (j : ℕ) (s : Statement) → getElem? deck j ≡ some s → (r : Reference) → Among r (formReferences (s .form)) → Spanned (heldOf deck) (dimsOf deck) m n cells r
+  spanned j s e r a = let rows = element-rows accepted j s e r a in (rows, array-inside (r .name) rows)
 
   fine : (j : ℕ) (s : Statement) → getElem? deck j ≡ some s → Fine m n cells deck (s .form)
   fine j s e =
       record {
         small = each-among (formConstants (s .form)) (small j s e);
-        celled = each-among (formPlain (s .form)) (λ v a. slot-below (heldOf deck) (key (plain v)) (plain-has deck j s v e a));
+        celled = each-among (formPlain (heldOf deck) (s .form)) (λ v a. slot-below (heldOf deck) (key (plain v)) (plain-has deck j s v e a));
         spanned = each-among (formReferences (s .form)) (spanned j s e);
         exits = λ x a. below deck (stands accepted) (positionOf deck (valueOf x)) (targets accepted j s e x a);
         shaped = stands accepted .shaped j s e;
       }
 
   pub right-code : Each (Right m n cells) (codeOf deck)
-  right-code = code-right m n cells deck (omega (arith, ten-some (house .digits) (digits-right .0), accepted .lawful .constants (accepted .digits) .0)) fine
+  right-code = code-right m n cells deck (omega (arith, ten-some (house .digits) (digits-right .0), accepted .lawful .constants (accepted .digits) .0)) (record { rows = array-has-rows deck (array-rows accepted); inside = array-inside }) fine
 
   pub right-tables : RightTables m n cells (tablesOf noTables (codeOf deck))
   right-tables = tables-right m n cells noTables (codeOf deck) (record { constants = each-none; elements = each-none; exits = each-none }) right-code
@@ -222,7 +224,7 @@ module _ {house : House} {deck : List Statement} (accepted : Accepted house deck
   proper v i =
       let h = accepted .judged (i .position) (i .statement) (i .at) in
       let t = and-both (leb (length v) (house .nameLength)) (startsInteger v) (all-among (λ v. leb (length v) (house .nameLength) && startsInteger v) (h .passes11) (i .among)) in
-      record { name = each-here (read-names (h .text) (i .statement .form) (h .form)) (i .among); short = leb-true (length v) (house .nameLength) (t .0); integer = t .1 }
+      record { name = each-here (punched-right (h .columns) (i .statement .form) (h .form) .names) (i .among); short = leb-true (length v) (house .nameLength) (t .0); integer = t .1 }
 
   pub right-names : Each (NameWithin house cells) (namesFrom house 0 (heldOf deck))
   right-names =

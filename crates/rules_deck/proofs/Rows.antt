@@ -7,7 +7,7 @@ use mathlib.Core.List.{List, [], _∷_, _++_, map}
 use mathlib.Core.Option.{some}
 use lib.ListN.{getElem?}
 use borrow.Author.Tests.{lt-ltb, le-ltb}
-use Rattle.rules_text.specs.Trees.{Form, assign, goTo, computed, ifs, loop, continue, stop, end, dimension, Statement}
+use Rattle.rules_text.specs.Trees.{Form, assign, goTo, computed, ifs, loop, continue, stop, end, dimension, transfer, format, Statement}
 use Rattle.rules_deck.specs.Deck.{Do, doOf, dosFrom, dosOf}
 use Rattle.rules_deck.specs.Translation.{doNumber, loopEntry}
 use Rattle.rules_deck.specs.Accepted.{Among, here, there}
@@ -34,6 +34,8 @@ rising-form q continue ds h = rising-less ds (omega arith) h
 rising-form q stop ds h = rising-less ds (omega arith) h
 rising-form q end ds h = rising-less ds (omega arith) h
 rising-form q (dimension arrays) ds h = rising-less ds (omega arith) h
+rising-form q (transfer d n list) ds h = rising-less ds (omega arith) h
+rising-form q (format f) ds h = rising-less ds (omega arith) h
 
 rising-from : (q : ℕ) (more : List Statement) → Rising q (dosFrom q more)
 rising-from q [] = no-more

@@ -1,6 +1,7 @@
 -- The drop mark's sequence number, read from body 6, is the meaning's.
 -- Assumes nothing.
 use mathlib.Core.Path.{_≡_, refl, sym, ap, _∙_}
+use mathlib.Core.Logic.{_⊎_, inl, inr}
 use Prim.Native.Nat.{ℕ, zero, suc, _+_, _≤_, _<_}
 use native.Mathlib.Nat.{zero-add}
 use native.Mathlib.Omega.{arith}
@@ -14,14 +15,14 @@ use Rattle.rules_shared.specs.House.{House}
 use Rattle.rules_object.specs.Object.{Line}
 use Rattle.rules_object.specs.Operations.{Instr, NEG}
 use Rattle.rules_object.specs.Calls.{lastAt, sequenceOf}
-use Rattle.rules_text.specs.Trees.{Name, Form, assign, goTo, computed, ifs, loop, continue, stop, end, dimension, Statement}
+use Rattle.rules_text.specs.Trees.{Name, Digits, Form, assign, goTo, computed, ifs, loop, continue, stop, end, dimension, transfer, format, Statement}
 use Rattle.rules_deck.specs.Deck.{Dims, dimsOf, endings}
-use Rattle.rules_deck.specs.Translation.{Held, heldOf, formCode, words, addressAt, executable, linesFrom}
-use Rattle.rules_deck.specs.Whole.{isDimension}
+use Rattle.rules_deck.specs.Translation.{Held, heldOf, FormatPlace, noFormat, formCode, words, addressAt, executable, linesFrom}
+use Rattle.rules_deck.specs.Whole.{isDimension, lastOf, mayEnd}
 use Rattle.rules_deck.specs.Accepted.{Among, here, Accepted}
 use Rattle.rules_deck.specs.Cells.{SameMark, unmarked, marked}
 use Rattle.rules_deck.proofs.DoLaws.{among-endings}
-use Rattle.rules_deck.proofs.NestedDeck.{number-on, last-number}
+use Rattle.rules_deck.proofs.NestedDeck.{number-on, last-number, last-may, nested}
 use Rattle.rules_deck.proofs.Addresses.{address-suc, address-end, address-grows}
 
 -- ---- the last entry at or before an address
@@ -88,18 +89,21 @@ module _ (deck : List Statement) where
       before true p = let n = leb-true (length deck) j p in absurd (omega (arith, address-end deck j n, address-end deck (suc j) (omega arith)))
       before false p = leb-false (length deck) j p
 
--- ---- an accepted deck's DIMENSION has no code
+-- ---- an accepted deck's DIMENSION or FORMAT has no code
 
-only-dimension : (f : Form) → executable f ≡ false → (isDimension f ≡ true) × ((held : List Held) (dims : Name → Dims) (address : ℕ → ℕ) (entry : Instr) → formCode held dims address entry f ≡ [])
-only-dimension (assign t e) h = absurd (false≢true (sym h))
-only-dimension (goTo n) h = absurd (false≢true (sym h))
-only-dimension (computed ns v) h = absurd (false≢true (sym h))
-only-dimension (ifs e a b c) h = absurd (false≢true (sym h))
-only-dimension (loop n v p₁ p₂ p₃) h = absurd (false≢true (sym h))
-only-dimension continue h = absurd (false≢true (sym h))
-only-dimension stop h = absurd (false≢true (sym h))
-only-dimension end h = absurd (false≢true (sym h))
-only-dimension (dimension arrays) h = (refl, λ held dims address entry. refl)
+not-run : (f : Form) → executable f ≡ false
+    → ((isDimension f ≡ true) ⊎ (mayEnd f ≡ false)) × ((held : List Held) (dims : Name → Dims) (address : ℕ → ℕ) (formats : Digits → FormatPlace) (entry : Instr) → formCode held dims address formats entry f ≡ [])
+not-run (assign t e) h = absurd (false≢true (sym h))
+not-run (goTo n) h = absurd (false≢true (sym h))
+not-run (computed ns v) h = absurd (false≢true (sym h))
+not-run (ifs e a b c) h = absurd (false≢true (sym h))
+not-run (loop n v p₁ p₂ p₃) h = absurd (false≢true (sym h))
+not-run continue h = absurd (false≢true (sym h))
+not-run stop h = absurd (false≢true (sym h))
+not-run end h = absurd (false≢true (sym h))
+not-run (dimension arrays) h = (inl refl, λ held dims address formats entry. refl)
+not-run (transfer d n list) h = absurd (false≢true (sym h))
+not-run (format f) h = (inr refl, λ held dims address formats entry. refl)
 
 none-among : {A : Type 0} (l : List A) → ((x : A) → Among x l → ⊥) → length l ≡ 0
 none-among [] f = refl
@@ -118,8 +122,14 @@ module _ (house : House) (deck : List Statement) (accepted : Accepted house deck
       go zero p = p
       go (suc n) p = let f = number-on accepted j s e (omega arith) .0 in absurd (false≢true (sym f ∙ h))
 
-  pub dimension-empty : Empty deck
+  -- nor with a FORMAT
+  bare : (j : ℕ) (s : Statement) → getElem? deck j ≡ some s → (isDimension (s .form) ≡ true) ⊎ (mayEnd (s .form) ≡ false) → length (endings deck (s .number)) ≡ 0
+  bare j s e (inl h) = rw (unnumbered j s e h) no-endings
+  bare j s e (inr h) =
+      none-among (endings deck (s .number)) (λ d a.
+      let l : lastOf deck d ≡ j = nested accepted .last j s e d a in
+      false≢true (sym h ∙ last-may accepted d (among-endings deck (s .number) d a .0) s (ap (getElem? deck) l ∙ e)))
+
+  pub not-run-empty : Empty deck
   unfolding words
-  dimension-empty j s e x =
-      let o = only-dimension (s .form) x in
-      rw (o .1 (heldOf deck) (dimsOf deck) (λ n. 0) NEG, unnumbered j s e (o .0)) (omega (arith, no-endings))
+  not-run-empty j s e x = let o = not-run (s .form) x in rw (o .1 (heldOf deck) (dimsOf deck) (λ n. 0) (λ n. noFormat) NEG) (omega (arith, bare j s e (o .0)))

@@ -7,7 +7,18 @@ use Rattle.rules_deck.specs.Accepted.{Accepted}
 use Rattle.rules_deck.specs.Sound.{Sound}
 use Rattle.rules_deck.proofs.PassedDeck.{ends-well}
 use Rattle.rules_deck.proofs.NestedDeck.{targets, nested}
+use Rattle.rules_deck.proofs.DeclaredDeck.{array-rows}
 use Rattle.rules_deck.proofs.FittingDeck.{fitting}
+use Rattle.rules_deck.proofs.UsedFormats.{has-format}
 
 pub sound : {house : House} {deck : List Statement} → Accepted house deck → Sound deck
-sound a = record { fitting = fitting a; nested = nested a; targets = targets a; ends = ends-well a }
+sound a =
+    record {
+      fitting = fitting a;
+      nested = nested a;
+      targets = targets a;
+      readable = λ j s e. a .judged j s e .readable;
+      formats = has-format a;
+      arrays = array-rows a;
+      ends = ends-well a;
+    }

@@ -10,6 +10,7 @@ use lib.ListN.{length, set, length-set}
 use lib.IntN.{ℤ}
 use borrow.Author.Tests.{eq-eqb, ne-eqb}
 use Rattle.rules_shared.specs.Choose.{positive}
+use Rattle.rules_formats.specs.Walk.{Devices}
 use Rattle.rules_object.specs.Machine.{cell}
 use Rattle.rules_text.specs.Trees.{Statement}
 use Rattle.rules_deck.specs.Deck.{Do, dosOf}
@@ -23,8 +24,8 @@ use Rattle.rules_deck.proofs.DeckCells.{hidden-has}
 use Rattle.rules_deck.proofs.Ranges.{range-next, range-body}
 
 -- a standing written by its parts
-abbrev pub standing : ℕ → Values → (ℕ → Bounds) → ℕ → Standing
-standing j env inside lost = record { at = j; values = env; entered = inside; lost = lost }
+abbrev pub standing : ℕ → Values → (ℕ → Bounds) → ℕ → Devices → Standing
+standing j env inside lost devices = record { at = j; values = env; entered = inside; lost = lost; devices = devices }
 
 -- The DO at position q was entered, with a step above 0; its hidden cells hold its limit and step.
 pub record Bound (held : List Held) (inside : ℕ → Bounds) (c : List ℤ) (q : ℕ) : Type 0 where

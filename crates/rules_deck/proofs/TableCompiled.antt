@@ -17,15 +17,16 @@ use Rattle.rules_object.specs.Flow.{Flow, heightAt, Fine, Valid, Reached}
 use Rattle.rules_object.specs.Heights.{heights}
 use Rattle.rules_object.proofs.Fills.{reached}
 use Rattle.rules_object.proofs.HeightsExact.{heights-none}
-use Rattle.rules_text.specs.Trees.{Form, assign, goTo, computed, ifs, loop, continue, stop, end, dimension, Statement, formLevels}
+use Rattle.rules_text.specs.Trees.{Form, assign, goTo, computed, ifs, loop, continue, stop, end, dimension, transfer, format, Statement, formLevels}
 use Rattle.rules_deck.specs.Deck.{Do, endings}
 use Rattle.rules_deck.specs.Judge.{right14}
 use Rattle.rules_deck.specs.Whole.{isEnd}
 use Rattle.rules_deck.specs.Translation.{codeOf, translate}
 use Rattle.rules_deck.specs.Seen.{levelsIn}
-use Rattle.rules_deck.specs.Accepted.{Among, here, Accepted, Fitting}
+use Rattle.rules_deck.specs.Accepted.{Among, here, Accepted}
+use Rattle.rules_deck.specs.Sound.{Sound}
 use Rattle.rules_deck.proofs.Addresses.{at-some, address-zero}
-use Rattle.rules_text.proofs.Shapes.{shaped}
+use Rattle.rules_text.proofs.Statements.{punched-shaped}
 use Rattle.rules_deck.proofs.TestLaws.{at-before}
 use Rattle.rules_deck.proofs.DoLaws.{among-endings}
 use Rattle.rules_deck.proofs.NestedDeck.{not-empty, last-end, number-on, targets, last-number, last-defined, last-after}
@@ -45,6 +46,8 @@ is-end continue h = absurd (false≢true h)
 is-end stop h = absurd (false≢true h)
 is-end end h = refl
 is-end (dimension arrays) h = absurd (false≢true h)
+is-end (transfer d n list) h = absurd (false≢true h)
+is-end (format f) h = absurd (false≢true h)
 
 none-among : {A : Type 0} (l : List A) → ((x : A) → Among x l → ⊥) → l ≡ []
 none-among [] h = refl
@@ -71,7 +74,7 @@ module _ {house : House} {deck : List Statement} (accepted : Accepted house deck
   pub stands : Stands deck
   stands =
       record {
-        shaped = λ j s e. let h = accepted .judged j s e in shaped (h .text) (s .form) (h .form);
+        shaped = λ j s e. let h = accepted .judged j s e in punched-shaped (h .columns) (s .form) (h .form);
         exits = targets accepted;
         bodies = λ n d a. let r = among-endings deck n d a .0 in omega (arith, last-after accepted d r, last-defined accepted d r);
         follows = λ j s e. follows j s e (less-or-same (suc j) (length deck) (at-before deck j e));
@@ -111,14 +114,14 @@ leads-to nowhere m h = absurd (omega arith)
 leads-to (to l e r) zero h = (l, e)
 leads-to (to l e r) (suc m) h = leads-to r m (omega arith)
 
-module _ (house : House) {deck : List Statement} (good : Stands deck) (fitting : Fitting deck) where
+module _ (house : House) {deck : List Statement} (good : Stands deck) (sound : Sound deck) where
   abbrev flow : Flow
   flow = flowOf (translate house deck)
 
   standing : (a : ℕ) → a < length (codeOf deck) → (i : Instr) × (instruction (translate house deck) a ≡ i) × Standing (2 * levelsIn deck + 3) (length (codeOf deck)) (deckHeights deck) a i
   standing a h =
       let x = at-some (codeOf deck) a h in
-      (x .0, fetched house deck fitting a (x .0) (x .1), rw (zero-add a) at (ok-at 0 (code-ok deck good (2 * levelsIn deck + 3) (omega arith)) a (x .0) (x .1)))
+      (x .0, fetched house deck sound a (x .0) (x .1), rw (zero-add a) at (ok-at 0 (code-ok deck good (2 * levelsIn deck + 3) (omega arith)) a (x .0) (x .1)))
 
   pub table-low : (a : ℕ) → a < length (codeOf deck) → heightAt (deckHeights deck) a ≤ 2 * levelsIn deck + 3
   table-low a h = standing a h .2 .low

@@ -54,16 +54,23 @@ module _ (deck : List Statement) (P : Taken → Type 0)
       let e : (j - i) + i ≡ j = omega arith in
       subst (λ (m : ℕ). P (takenBefore deck m)) e (kept-on i (j - i) h)
 
--- ---- all of them
-
-pub before-all : (deck : List Statement) → takenBefore deck (length deck) ≡ takenFrom 0 deck nothingTaken
-unfolding takenBefore
-before-all deck = ap (λ (l : List Statement). takenFrom 0 l nothingTaken) (take-length deck)
+-- ---- the map
 
 held-from : (q : ℕ) (deck : List Statement) (t : Taken) → takenFrom q deck t .held ≡ heldFrom q deck (t .held)
 unfolding takes
 held-from q [] t = refl
 held-from q (s ∷ deck) t = held-from (suc q) deck (takes q (s .form) t)
+
+-- the map before position q
+pub before-held : (deck : List Statement) (q : ℕ) → takenBefore deck q .held ≡ heldFrom 0 (take q deck) []
+unfolding takenBefore
+before-held deck q = held-from 0 (take q deck) nothingTaken
+
+-- ---- all of them
+
+pub before-all : (deck : List Statement) → takenBefore deck (length deck) ≡ takenFrom 0 deck nothingTaken
+unfolding takenBefore
+before-all deck = ap (λ (l : List Statement). takenFrom 0 l nothingTaken) (take-length deck)
 
 -- the map is what they have taken of it
 pub held-all : (deck : List Statement) → takenBefore deck (length deck) .held ≡ heldOf deck

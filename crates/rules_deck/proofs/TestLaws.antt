@@ -6,7 +6,7 @@ use native.Mathlib.Nat.{zero-add, add-zero}
 use native.Mathlib.Omega.{arith}
 use mathlib.Core.Logic.{_⊎_, inl, inr}
 use mathlib.Core.Bool.{Bool, true, false, _&&_, _||_, not, cond, false≢true}
-use mathlib.Core.List.{List, [], _∷_, _++_, map, reverse, reverseAux}
+use mathlib.Core.List.{List, [], _∷_, _++_, reverse, reverseAux}
 use mathlib.Core.Option.{Option, none, some}
 use lib.Dec.{eqb}
 use lib.ListN.{length, getElem?}
@@ -118,10 +118,6 @@ among-append {x = x} (y ∷ xs) ys (there a) = go (among-append xs ys a)
     go : Among x xs ⊎ Among x ys → Among x (y ∷ xs) ⊎ Among x ys
     go (inl b) = inl (there b)
     go (inr b) = inr b
-
-pub among-map : {A B : Type 0} (f : A → B) (xs : List A) {y : B} → Among y (map f xs) → (x : A) × Among x xs × (y ≡ f x)
-among-map f (x ∷ xs) here = (x, here, refl)
-among-map f (x ∷ xs) (there a) = let h = among-map f xs a in (h .0, there (h .1), h .2)
 
 turn : {A : Type 0} {x y : A} {xs ys : List A} → Among x xs ⊎ Among x (y ∷ ys) → Among x (y ∷ xs) ⊎ Among x ys
 turn (inl b) = inl (there b)

@@ -10,11 +10,12 @@ use Rattle.rules_shared.specs.Limits.{limits}
 use Rattle.rules_shared.specs.House.{House}
 use Rattle.rules_text.specs.Trees.{Digits, valueOf, Statement, formExits}
 use Rattle.rules_text.specs.Cards.{textLength, characters, rightDigits}
-use Rattle.rules_text.specs.Grammar.{formOf}
-use Rattle.rules_deck.specs.Deck.{positionOf, Do, dosOf, endings}
-use Rattle.rules_deck.specs.Translation.{cellCount, heldOf, codeOf, noTables, tablesOf}
+use Rattle.rules_text.specs.Statements.{punchedForm}
+use Rattle.rules_deck.specs.Deck.{positionOf, Do, dosOf, endings, formatIn}
+use Rattle.rules_deck.specs.Readable.{Readable}
+use Rattle.rules_deck.specs.Translation.{cellCount, heldOf, codeOf, noTables, tablesOf, formatsFrom}
 use Rattle.rules_deck.specs.Lawful.{Lawful}
-use Rattle.rules_deck.specs.Judge.{Taken, nothingTaken, takes, right11, right12, right13, right14, right15, right16, nameCount, right18}
+use Rattle.rules_deck.specs.Judge.{Taken, nothingTaken, takes, right11, right12, right13, right14, right15, right16, right17, nameCount, right18}
 use Rattle.rules_deck.specs.Whole.{lastOf, judgeDeck}
 
 pub data Among {A : Type 0} (x : A) : List A → Type 0 where
@@ -33,17 +34,20 @@ takenBefore deck q = takenFrom 0 (take q deck) nothingTaken
 
 -- the statement at position q passed 10 to 18
 pub record JudgedAt (house : House) (deck : List Statement) (q : ℕ) (s : Statement) : Type 0 where
-  pub text : List ℕ
+  pub columns : List ℕ
   -- of at most a first card and its continuations
-  pub short : length text ≤ (1 + house .continuations) * textLength
-  pub written : characters text ≡ true
-  pub form : formOf text ≡ some (s .form)
+  pub short : length columns ≤ (1 + house .continuations) * textLength
+  pub written : characters columns ≡ true
+  pub form : punchedForm columns ≡ some (s .form)
+  -- a FORMAT is as its columns spell it
+  pub readable : Readable (formatIn (s .form))
   pub passes11 : right11 house (s .form) ≡ true
   pub passes12 : right12 house (s .form) ≡ true
   pub passes13 : right13 house (s .form) ≡ true
   pub passes14 : right14 (s .form) ≡ true
   pub passes15 : right15 house (takenBefore deck q .held) (s .form) ≡ true
   pub passes16 : right16 (takenBefore deck q .held) (s .form) ≡ true
+  pub passes17 : right17 (s .number) (s .form) ≡ true
   pub passes18 : right18 (takenBefore deck (suc q)) ≡ true
   pub number : s .number ≤ limits .statementNumber
 
@@ -65,6 +69,9 @@ pub record Fitting (deck : List Statement) : Type 0 where
   pub exits : length (tablesOf noTables (codeOf deck) .exits) ≤ limits .exits
   pub dos : length (dosOf deck) ≤ limits .dos
   pub names : nameCount (heldOf deck) ≤ limits .names
+  pub formats : length (formatsFrom 0 deck) ≤ limits .formatWords
+  pub items : length (tablesOf noTables (codeOf deck) .items) ≤ limits .listItems
+  pub transfers : length (tablesOf noTables (codeOf deck) .transfers) ≤ limits .transfers
 
 -- position j is in the range of the DO d: after the DO through its last statement
 pub record InRange (deck : List Statement) (d : Do) (j : ℕ) : Type 0 where

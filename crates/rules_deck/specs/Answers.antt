@@ -9,7 +9,7 @@ use lib.ListN.{replicate}
 use lib.IntN.{ℤ, pos}
 use Rattle.rules_shared.specs.House.{House}
 use Rattle.rules_shared.specs.Runs.{Outcome, go, halt}
-use Rattle.rules_formats.specs.Walk.{noTrays}
+use Rattle.rules_formats.specs.Walk.{noTrays, devicesOf}
 use Rattle.rules_object.specs.Halts.{haltNumber}
 use Rattle.rules_object.specs.Object.{Object}
 use Rattle.rules_object.specs.Bytes.{readObject}
@@ -51,4 +51,4 @@ toldMeaning keys r (some (go m)) = ran 2 0 (m .lost) (map (m .values) keys)
 toldMeaning keys r (some (halt h m)) = ran (haltNumber (haltOf h)) 0 (m .lost) (map (m .values) keys)
 
 unfoldable pub meant : House → List ℕ → List Key → Answer
-meant house deck keys = toldMeaning keys (compiling house deck [] .refusal) (meaningOf house deck (λ x. pos 0) 1000)
+meant house deck keys = toldMeaning keys (compiling house deck [] .refusal) (meaningOf house deck (λ x. pos 0) (devicesOf noTrays) 1000)

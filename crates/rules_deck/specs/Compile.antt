@@ -9,7 +9,7 @@ use Rattle.rules_shared.specs.Refusals.{Refusal, refusal, noRoom}
 use Rattle.rules_shared.specs.Output.{Written, notWritten, write}
 use Rattle.rules_text.specs.Trees.{Form, Statement}
 use Rattle.rules_text.specs.Cards.{Punched, textOf, Carded, cardsRefused, statements, carded}
-use Rattle.rules_text.specs.Grammar.{formOf}
+use Rattle.rules_text.specs.Statements.{punchedForm}
 use Rattle.rules_deck.specs.Judge.{Taken, nothingTaken, takes, judgeForm}
 use Rattle.rules_deck.specs.Whole.{judgeDeck}
 use Rattle.rules_deck.specs.Translation.{translate}
@@ -32,15 +32,16 @@ afterJudging q s rest none = withStatement s rest
 
 abbrev pub afterReading : House → ℕ → ℕ → Taken → (Taken → Read) → Option Form → Read
 afterReading house q number t rest none = notRead (refusal 10 (suc q) 0)
-afterReading house q number t rest (some f) = afterJudging q (record { number = number; form = f }) (rest (takes q f t)) (judgeForm house q f t)
+afterReading house q number t rest (some f) = afterJudging q (record { number = number; form = f }) (rest (takes q f t)) (judgeForm house q number f t)
 
-abbrev pub readText : House → ℕ → ℕ → Taken → (Taken → Read) → List ℕ → Read
-readText house q number t rest [] = notRead (refusal 6 (suc q) 0)
-readText house q number t rest (c ∷ text) = afterReading house q number t rest (formOf (c ∷ text))
+-- the statement's columns, and their text
+abbrev pub readText : House → ℕ → ℕ → Taken → (Taken → Read) → List ℕ → List ℕ → Read
+readText house q number t rest columns [] = notRead (refusal 6 (suc q) 0)
+readText house q number t rest columns (c ∷ text) = afterReading house q number t rest (punchedForm columns)
 
 abbrev pub readFrom : House → ℕ → Taken → List Punched → Read
 readFrom house q t [] = read []
-readFrom house q t (p ∷ more) = readText house q (p .number) t (λ u. readFrom house (suc q) u more) (textOf (p .raw))
+readFrom house q t (p ∷ more) = readText house q (p .number) t (λ u. readFrom house (suc q) u more) (p .raw) (textOf (p .raw))
 
 -- ---- the stages
 

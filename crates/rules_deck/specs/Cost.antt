@@ -9,9 +9,12 @@ use lib.IntN.{ℤ}
 use Rattle.number.specs.Number.{Rule}
 use Rattle.rules_shared.specs.Runs.{stepsFrom}
 use Rattle.rules_shared.specs.Choose.{allPositive, Turn, again, over, turn}
-use Rattle.rules_text.specs.Trees.{Name, Expr, con, var, elm, neg, par, bin, Target, cell, element, Form, assign, goTo, computed, ifs, loop, continue, stop, end, dimension, Statement}
-use Rattle.rules_deck.specs.Deck.{Do, endings, dimsOf}
-use Rattle.rules_deck.specs.Meaning.{plain, elementAt, Values, put, Evaluated, val, bad, placeIn, eval, Bounds, notEntered, bounds, Standing, enter, third, meaningStep}
+use Rattle.rules_formats.specs.Format.{flat}
+use Rattle.rules_formats.specs.Walk.{Devices, Paper, Taken, prints, reads, fine}
+use Rattle.rules_formats.specs.Walk as walk
+use Rattle.rules_text.specs.Trees.{Name, Digits, Expr, con, var, elm, neg, par, bin, Target, cell, element, Direction, reading, printing, Form, assign, goTo, computed, ifs, loop, continue, stop, end, dimension, transfer, format, Statement}
+use Rattle.rules_deck.specs.Deck.{Do, endings, dimsOf, formatOf}
+use Rattle.rules_deck.specs.Meaning.{plain, elementAt, Values, put, Evaluated, val, bad, placeIn, eval, Bounds, notEntered, bounds, Standing, enter, wantedIn, wantedGet, wantedSet, third, meaningStep}
 
 -- ---- expressions
 
@@ -70,22 +73,37 @@ module _ (deck : List Statement) (ends : List Do) (j : ℕ) (env : Values) (insi
   readSteps v (val m₁ x) (val m₂ y) (bad h more) a b c = a + b + c
   readSteps v (val m₁ x) (val m₂ y) (val m₃ z) a b c = begunSteps v (allPositive m₁ m₂ m₃) m₁ m₂ m₃ (a + b + c)
 
-abbrev pub formSteps : Rule → List Statement → List Do → ℕ → Values → (ℕ → Bounds) → Form → ℕ
-formSteps r deck ends j env inside (assign t e) = assignedSteps deck ends j env inside t (eval r deck env e) (exprSteps r deck env e)
-formSteps r deck ends j env inside (goTo n) = 1
-formSteps r deck ends j env inside (computed ns v) = 2
-formSteps r deck ends j env inside (ifs e a b c) = andOne (eval r deck env e) (exprSteps r deck env e)
-formSteps r deck ends j env inside (loop n v p₁ p₂ p₃) =
+  -- one step, and the ends of DOs where it did not halt
+  abbrev pub wasPrintedSteps : walk.Outcome Paper → ℕ
+  wasPrintedSteps (fine p) = 1 + finishSteps ends env inside
+  wasPrintedSteps (walk.trouble w) = 1
+
+  abbrev pub wasReadSteps : walk.Outcome (Taken Values) → ℕ
+  wasReadSteps (fine t) = 1 + finishSteps ends (t .store) inside
+  wasReadSteps (walk.trouble w) = 1
+
+  abbrev pub transferSteps : Rule → Devices → Direction → Digits → List Target → ℕ
+  transferSteps r d printing n list = wasPrintedSteps (prints (wantedGet deck) (flat (formatOf deck n)) (wantedIn deck list) env (d .paper))
+  transferSteps r d reading n list = wasReadSteps (reads (r .ceiling) (wantedGet deck) (wantedSet deck) (flat (formatOf deck n)) (wantedIn deck list) env (d .cards))
+
+abbrev pub formSteps : Rule → List Statement → List Do → ℕ → Values → (ℕ → Bounds) → Devices → Form → ℕ
+formSteps r deck ends j env inside devices (assign t e) = assignedSteps deck ends j env inside t (eval r deck env e) (exprSteps r deck env e)
+formSteps r deck ends j env inside devices (goTo n) = 1
+formSteps r deck ends j env inside devices (computed ns v) = 2
+formSteps r deck ends j env inside devices (ifs e a b c) = andOne (eval r deck env e) (exprSteps r deck env e)
+formSteps r deck ends j env inside devices (loop n v p₁ p₂ p₃) =
     readSteps deck ends j env inside v (eval r deck env p₁) (eval r deck env p₂) (eval r deck env (third p₃)) (exprSteps r deck env p₁) (exprSteps r deck env p₂)
     (exprSteps r deck env (third p₃))
-formSteps r deck ends j env inside continue = finishSteps ends env inside
-formSteps r deck ends j env inside stop = 1
-formSteps r deck ends j env inside end = 1
-formSteps r deck ends j env inside (dimension arrays) = finishSteps ends env inside
+formSteps r deck ends j env inside devices continue = finishSteps ends env inside
+formSteps r deck ends j env inside devices stop = 1
+formSteps r deck ends j env inside devices end = 1
+formSteps r deck ends j env inside devices (dimension arrays) = finishSteps ends env inside
+formSteps r deck ends j env inside devices (transfer d n list) = transferSteps deck ends j env inside r devices d n list
+formSteps r deck ends j env inside devices (format f) = finishSteps ends env inside
 
 abbrev pub stepsAt : Rule → List Statement → Option Statement → Standing → ℕ
 stepsAt r deck none m = 0
-stepsAt r deck (some s) m = formSteps r deck (endings deck (s .number)) (m .at) (m .values) (m .entered) (s .form)
+stepsAt r deck (some s) m = formSteps r deck (endings deck (s .number)) (m .at) (m .values) (m .entered) (m .devices) (s .form)
 
 -- one statement
 unfoldable pub statementSteps : Rule → List Statement → Standing → ℕ

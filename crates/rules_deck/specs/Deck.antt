@@ -5,7 +5,9 @@ use mathlib.Core.Bool.{Bool, true, false, _&&_, cond}
 use mathlib.Core.List.{List, [], _∷_, _++_, map, reverse}
 use mathlib.Core.Option.{Option, none, some}
 use lib.Dec.{eqb}
-use Rattle.rules_text.specs.Trees.{Name, Digits, valueOf, Array, array, Form, Statement, Phrase, sets, chooses, computes, steps, declares, Range, partsOf, gathered}
+use lib.ListN.{getElem?}
+use Rattle.rules_formats.specs.Format.{Format, close}
+use Rattle.rules_text.specs.Trees.{Name, Digits, valueOf, Array, array, Form, assign, goTo, computed, ifs, loop, continue, stop, end, dimension, transfer, format, Statement, Phrase, sets, chooses, computes, steps, declares, lists, Range, partsOf, gathered}
 
 abbrev pub sameName : Name → Name → Bool
 sameName [] [] = true
@@ -73,6 +75,7 @@ phraseArrays (chooses v) = []
 phraseArrays (computes e) = []
 phraseArrays (steps r) = []
 phraseArrays (declares arrays) = arrays
+phraseArrays (lists d list) = []
 
 abbrev pub arraysIn : Form → List Array
 arraysIn f = gathered phraseArrays (partsOf f .text)
@@ -92,3 +95,32 @@ dimsOf deck v = dimsIn (arraysOf deck) v
 abbrev pub width : ℕ → ℕ
 width zero = 1
 width (suc c) = suc c
+
+-- ---- FORMATs
+
+-- what a statement spells after FORMAT
+abbrev pub formatIn : Form → Option Format
+formatIn (assign t e) = none
+formatIn (goTo n) = none
+formatIn (computed ns v) = none
+formatIn (ifs e a b c) = none
+formatIn (loop n v p q r) = none
+formatIn continue = none
+formatIn stop = none
+formatIn end = none
+formatIn (dimension arrays) = none
+formatIn (transfer d n list) = none
+formatIn (format f) = f
+
+-- a FORMAT of nothing stands in where there is none
+abbrev pub formatOr : Option Format → Format
+formatOr none = close
+formatOr (some f) = f
+
+abbrev pub formatThere : Option Statement → Format
+formatThere none = close
+formatThere (some s) = formatOr (formatIn (s .form))
+
+-- the FORMAT with a number
+unfoldable pub formatOf : List Statement → Digits → Format
+formatOf deck n = formatThere (getElem? deck (positionOf deck (valueOf n)))

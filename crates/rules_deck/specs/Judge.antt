@@ -1,4 +1,4 @@
--- Refusals of one statement, 11 to 18: tests on what was read, and the tables that it takes room in. 01 "Refusal numbers".
+-- Refusals of one statement, 11 to 18: tests on what was read, and the tables that it takes room in. 01 "Refusal numbers", 2026-01.
 -- Assumes nothing.
 use Prim.Native.Nat.{ℕ, suc, _+_}
 use mathlib.Core.Bool.{Bool, true, false, _&&_, _||_, not, cond}
@@ -10,10 +10,11 @@ use Rattle.rules_shared.specs.Limits.{limits}
 use Rattle.rules_shared.specs.House.{House}
 use Rattle.rules_shared.specs.Refusals.{orElse}
 use Rattle.rules_shared.specs.Lists.{all}
-use Rattle.rules_text.specs.Trees.{Name, Digits, valueOf, Subscripts, one, two, Array, array, Expr, con, var, elm, neg, par, bin, Target, cell, element, written, Form, assign, goTo, computed, ifs, loop, continue, stop, end, dimension, formNames, formConstants, formExits, formLast, formLevels, Phrase, sets, chooses, computes, steps, declares, partsOf, gathered}
-use Rattle.rules_deck.specs.Deck.{sameName, Dims, declare, arraysIn}
+use Rattle.rules_formats.specs.Format.{Format}
+use Rattle.rules_text.specs.Trees.{Name, Digits, valueOf, Subscripts, one, two, Array, array, Expr, con, var, elm, neg, par, bin, Target, cell, element, written, Form, assign, goTo, computed, ifs, loop, continue, stop, end, dimension, transfer, format, formNames, formConstants, formExits, formLast, formUses, formLevels, Phrase, sets, chooses, computes, steps, declares, lists, partsOf, gathered}
+use Rattle.rules_deck.specs.Deck.{sameName, Dims, declare, arraysIn, formatIn}
 use Rattle.rules_deck.specs.Meaning.{third}
-use Rattle.rules_deck.specs.Translation.{Held, name, hidden, cellCount, isName, isArray, holds, brings, formPlain, pool}
+use Rattle.rules_deck.specs.Translation.{Held, name, hidden, cellCount, isName, isArray, holds, brings, formPlain, formatSize, pool}
 
 -- ---- 11 to 14
 
@@ -34,7 +35,7 @@ abbrev pub numberWithin : Bool → Digits → Bool
 numberWithin zero n = (zero || leb 1 (valueOf n)) && leb (valueOf n) (limits .statementNumber)
 
 unfoldable pub right13 : House → Form → Bool
-right13 house f = all (numberWithin (house .zeroExit)) (formExits f) && all (numberWithin false) (formLast f)
+right13 house f = all (numberWithin (house .zeroExit)) (formExits f) && (all (numberWithin false) (formLast f) && all (numberWithin false) (formUses f))
 
 unfoldable pub right14 : Form → Bool
 right14 f = leb (formLevels f) (limits .parentheses)
@@ -80,12 +81,17 @@ abbrev pub targetReferences : Target → List Reference
 targetReferences (cell v) = []
 targetReferences (element v s) = record { name = v; subscripts = s } ∷ []
 
+abbrev pub listReferences : List Target → List Reference
+listReferences [] = []
+listReferences (t ∷ list) = targetReferences t ++ listReferences list
+
 abbrev pub phraseReferences : Phrase → List Reference
 phraseReferences (sets t) = targetReferences t
 phraseReferences (chooses v) = []
 phraseReferences (computes e) = exprReferences e
 phraseReferences (steps r) = written exprReferences r
 phraseReferences (declares arrays) = []
+phraseReferences (lists d list) = listReferences list
 
 unfoldable pub formReferences : Form → List Reference
 formReferences f = gathered phraseReferences (partsOf f .text)
@@ -102,7 +108,16 @@ rightReference (Held.array a ∷ held) e = cond (sameName (a .name) (e .name)) (
 rightReference (hidden q ∷ held) e = rightReference held e
 
 unfoldable pub right16 : List Held → Form → Bool
-right16 held f = all (rightReference held) (formReferences f) && all (λ v. not (holds (isArray v) held)) (formPlain f)
+right16 held f = all (rightReference held) (formReferences f) && all (λ v. not (holds (isArray v) held)) (formPlain held f)
+
+-- ---- 17: FORMAT not of the forms, or unnumbered
+
+abbrev pub numbered : ℕ → Option Format → Bool
+numbered number none = false
+numbered number (some f) = leb 1 number
+
+unfoldable pub right17 : ℕ → Form → Bool
+right17 number f = cond (partsOf f .isFormat) (numbered number (formatIn f)) true
 
 -- ---- 18: this statement takes a table over its limit
 
@@ -114,9 +129,12 @@ pub record Taken : Type 0 where
   pub exits : ℕ
   pub dos : ℕ
   pub code : ℕ
+  pub formatWords : ℕ
+  pub items : ℕ
+  pub transfers : ℕ
 
 abbrev pub nothingTaken : Taken
-nothingTaken = record { held = []; constants = []; elements = 0; exits = 0; dos = 0; code = 0 }
+nothingTaken = record { held = []; constants = []; elements = 0; exits = 0; dos = 0; code = 0; formatWords = 0; items = 0; transfers = 0 }
 
 -- constants in the order of emission; those in subscripts and dimensions are not pooled
 abbrev pub exprPooled : Expr → List ℕ
@@ -133,6 +151,7 @@ phrasePooled (chooses v) = []
 phrasePooled (computes e) = exprPooled e
 phrasePooled (steps r) = exprPooled (third r)
 phrasePooled (declares arrays) = []
+phrasePooled (lists d list) = []
 
 unfoldable pub formPooled : Form → List ℕ
 formPooled f = gathered phrasePooled (partsOf f .text)
@@ -160,6 +179,8 @@ formWords continue = 0
 formWords stop = 1
 formWords end = 1
 formWords (dimension arrays) = 0
+formWords (transfer d n list) = 1
+formWords (format f) = 0
 
 unfoldable pub formExitWords : Form → ℕ
 formExitWords (assign t e) = 0
@@ -171,6 +192,20 @@ formExitWords continue = 0
 formExitWords stop = 0
 formExitWords end = 0
 formExitWords (dimension arrays) = 0
+formExitWords (transfer d n list) = 0
+formExitWords (format f) = 0
+
+abbrev pub phraseItems : Phrase → List Target
+phraseItems (sets t) = []
+phraseItems (chooses v) = []
+phraseItems (computes e) = []
+phraseItems (steps r) = []
+phraseItems (declares arrays) = []
+phraseItems (lists d list) = list
+
+-- a READ's or PRINT's list
+unfoldable pub formItems : Form → List Target
+formItems f = gathered phraseItems (partsOf f .text)
 
 -- with the statement at position q
 unfoldable pub takes : ℕ → Form → Taken → Taken
@@ -182,6 +217,9 @@ takes q f t =
       exits = t .exits + formExitWords f;
       dos = t .dos + length (formLast f);
       code = t .code + formWords f;
+      formatWords = t .formatWords + formatSize (formatIn f);
+      items = t .items + length (formItems f);
+      transfers = t .transfers + length (formUses f);
     }
 
 -- names are those of body 7: hidden cells have none
@@ -194,15 +232,17 @@ nameCount (hidden q ∷ held) = nameCount held
 unfoldable pub right18 : Taken → Bool
 right18 t =
     leb (nameCount (t .held)) (limits .names) && (leb (t .dos) (limits .dos) && (leb (length (t .constants)) (limits .constants) &&
-    (leb (t .elements) (limits .elements) && (leb (t .exits) (limits .exits) && (leb (t .code) (limits .code) && leb (cellCount (t .held)) (limits .cells))))))
+    (leb (t .elements) (limits .elements) && (leb (t .exits) (limits .exits) && (leb (t .code) (limits .code) && (leb (cellCount (t .held)) (limits .cells) &&
+    (leb (t .formatWords) (limits .formatWords) && (leb (t .items) (limits .listItems) && leb (t .transfers) (limits .transfers)))))))))
 
--- ---- the lowest number of what is wrong anywhere in the statement at position q
+-- ---- the lowest number of what is wrong anywhere in the statement at position q, with its number
 
 abbrev pub wrong : Bool → ℕ → Option ℕ
 wrong true number = none
 wrong false number = some number
 
-unfoldable pub judgeForm : House → ℕ → Form → Taken → Option ℕ
-judgeForm house q f t =
+unfoldable pub judgeForm : House → ℕ → ℕ → Form → Taken → Option ℕ
+judgeForm house q number f t =
     orElse (wrong (right11 house f) 11) (orElse (wrong (right12 house f) 12) (orElse (wrong (right13 house f) 13) (orElse (wrong (right14 f) 14)
-    (orElse (wrong (right15 house (t .held) f) 15) (orElse (wrong (right16 (t .held) f) 16) (wrong (right18 (takes q f t)) 18))))))
+    (orElse (wrong (right15 house (t .held) f) 15) (orElse (wrong (right16 (t .held) f) 16)
+    (orElse (wrong (right17 number f) 17) (wrong (right18 (takes q f t)) 18)))))))

@@ -5,6 +5,7 @@ pub mod Translation
 pub mod Judge
 pub mod Whole
 pub mod Compile
+pub mod Readable
 pub mod Accepted
 pub mod Unspelled
 pub mod Cells

@@ -9,8 +9,9 @@ use lib.ListN.{take}
 use lib.IntN.{ℤ, pos}
 use Rattle.rules_shared.specs.House.{House}
 use Rattle.rules_shared.specs.Runs.{Outcome}
-use Rattle.rules_formats.specs.Walk.{Trays}
+use Rattle.rules_formats.specs.Walk.{Devices, Trays}
 use Rattle.rules_object.specs.Halts.{Halt, atStop, atEnd, divideByZero, badSubscript, badExit, badParameter}
+use Rattle.rules_object.specs.Halts as machine
 use Rattle.rules_object.specs.Object.{Named, Object}
 use Rattle.rules_object.specs.Check.{span}
 use Rattle.rules_object.specs.Machine.{cell}
@@ -21,7 +22,7 @@ use Rattle.rules_object.specs.Safe.{rest, afterRun}
 use Rattle.rules_text.specs.Trees.{Name, Statement, formNames, formLevels}
 use Rattle.rules_text.specs.Cards.{withoutBlanks}
 use Rattle.rules_deck.specs.Deck.{sameName, Dims, dimsOf}
-use Rattle.rules_deck.specs.Meaning.{Cause, stopReached, endReached, zeroDivisor, wrongSubscript, wrongExit, wrongParameter, Key, plain, elementAt, Values, Standing, begin, meaning}
+use Rattle.rules_deck.specs.Meaning.{Cause, stopReached, endReached, zeroDivisor, wrongSubscript, wrongExit, wrongParameter, ranOut, wrongField, Key, plain, elementAt, Values, Standing, begin, meaning}
 use Rattle.rules_deck.specs.Cost.{meaningSteps}
 use Rattle.rules_deck.specs.Translation.{addressAt}
 use Rattle.rules_deck.specs.Compile.{Read, notRead, read, deckOf}
@@ -34,13 +35,13 @@ statementsOf (notRead r) = []
 statementsOf (read deck) = deck
 
 -- what was read means; what was refused means nothing
-abbrev pub meaningRead : House → Read → Values → ℕ → Option (Outcome Cause Standing)
-meaningRead house (notRead r) env n = none
-meaningRead house (read deck) env n = some (meaning (house .rule) deck env n)
+abbrev pub meaningRead : House → Read → Values → Devices → ℕ → Option (Outcome Cause Standing)
+meaningRead house (notRead r) env devices n = none
+meaningRead house (read deck) env devices n = some (meaning (house .rule) deck env devices n)
 
 -- the meaning of a deck's bytes for at most n statements
-unfoldable pub meaningOf : House → List ℕ → Values → ℕ → Option (Outcome Cause Standing)
-meaningOf house bytes env n = meaningRead house (deckOf house bytes) env n
+unfoldable pub meaningOf : House → List ℕ → Values → Devices → ℕ → Option (Outcome Cause Standing)
+meaningOf house bytes env devices n = meaningRead house (deckOf house bytes) env devices n
 
 -- the halt by which a run tells a cause
 abbrev pub haltOf : Cause → Halt
@@ -50,10 +51,12 @@ haltOf zeroDivisor = divideByZero
 haltOf wrongSubscript = badSubscript
 haltOf wrongExit = badExit
 haltOf wrongParameter = badParameter
+haltOf ranOut = machine.ranOut
+haltOf wrongField = machine.badField
 
 -- how many steps of a run the statements that the meaning goes through take
-unfoldable pub deckSteps : House → List ℕ → Values → ℕ → ℕ
-deckSteps house bytes env n = meaningSteps (house .rule) (statementsOf (deckOf house bytes)) n (begin env)
+unfoldable pub deckSteps : House → List ℕ → Values → Devices → ℕ → ℕ
+deckSteps house bytes env devices n = meaningSteps (house .rule) (statementsOf (deckOf house bytes)) n (begin env devices)
 
 -- the index is that of a word of the statement at position j: of its own code, or of the ends of the DOs whose last statement it is
 abbrev pub InStatement : List Statement → ℕ → ℕ → Type 0

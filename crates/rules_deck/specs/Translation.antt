@@ -3,14 +3,17 @@
 use Prim.Native.Nat.{ℕ, zero, suc, _+_, _*_, _^_}
 use mathlib.Core.Bool.{Bool, false, _||_, cond}
 use mathlib.Core.List.{List, [], _∷_, _++_, map}
+use mathlib.Core.Option.{Option, none, some}
 use lib.Dec.{eqb, ltb}
 use lib.ListN.{length, take, replicate}
 use lib.IntN.{pos}
 use Rattle.rules_shared.specs.House.{House}
+use Rattle.rules_formats.specs.Format.{Format, close, Flat, flat, writtenOut}
+use Rattle.rules_formats.specs.Words.{formatWords}
 use Rattle.rules_object.specs.Object.{SubscriptEntry, Element, Loop, Line, Named, ListItem, Transfer, Object}
 use Rattle.rules_object.specs.Operations.{Listed, aSpan, oneElement, Instr, HLT, CON, LOD, STO, LDE, STE, OP, NEG, JMP, BR3, BRC, DOI, DOE, READ, PRINT, operationNumber}
-use Rattle.rules_text.specs.Trees.{Name, valueOf, Subscript, constant, linear, Subscripts, one, two, subscriptsNames, Expr, con, var, elm, neg, par, bin, Target, cell, element, written, Form, assign, goTo, computed, ifs, loop, continue, stop, end, dimension, Statement, Phrase, sets, chooses, computes, steps, declares, Range, partsOf, gathered}
-use Rattle.rules_deck.specs.Deck.{sameName, positionOf, Do, doAt, dosOf, endings, Dims, Declared, declare, arraysIn, dimsOf, width}
+use Rattle.rules_text.specs.Trees.{Name, Digits, valueOf, Subscript, constant, linear, Subscripts, one, two, subscriptsNames, Expr, con, var, elm, neg, par, bin, Target, cell, element, written, Direction, reading, printing, Form, assign, goTo, computed, ifs, loop, continue, stop, end, dimension, transfer, format, Statement, Phrase, sets, chooses, computes, steps, declares, lists, Range, partsOf, gathered}
+use Rattle.rules_deck.specs.Deck.{sameName, positionOf, Do, doAt, dosOf, endings, Dims, Declared, declare, arraysIn, dimsOf, width, formatIn, formatOf}
 use Rattle.rules_deck.specs.Meaning.{times, addend, third}
 
 -- ---- cells go in order of first appearance in the text
@@ -86,22 +89,32 @@ abbrev pub targetPlain : Target → List Name
 targetPlain (cell v) = v ∷ []
 targetPlain (element v s) = subscriptsNames s
 
-abbrev pub phrasePlain : Phrase → List Name
-phrasePlain (sets t) = targetPlain t
-phrasePlain (chooses v) = v ∷ []
-phrasePlain (computes e) = exprPlain e
-phrasePlain (steps r) = written exprPlain r
-phrasePlain (declares arrays) = []
+-- in a list an array's bare name is all of it, and no plain name
+abbrev pub itemPlain : List Held → Target → List Name
+itemPlain held (cell v) = cond (holds (isArray v) held) [] (v ∷ [])
+itemPlain held (element v s) = subscriptsNames s
 
-unfoldable pub formPlain : Form → List Name
-formPlain f = gathered phrasePlain (partsOf f .text)
+abbrev pub listPlain : List Held → List Target → List Name
+listPlain held [] = []
+listPlain held (t ∷ list) = itemPlain held t ++ listPlain held list
+
+abbrev pub phrasePlain : List Held → Phrase → List Name
+phrasePlain held (sets t) = targetPlain t
+phrasePlain held (chooses v) = v ∷ []
+phrasePlain held (computes e) = exprPlain e
+phrasePlain held (steps r) = written exprPlain r
+phrasePlain held (declares arrays) = []
+phrasePlain held (lists d list) = listPlain held list
+
+unfoldable pub formPlain : List Held → Form → List Name
+formPlain held f = gathered (phrasePlain held) (partsOf f .text)
 
 -- a DO's hidden cells come after its names, an array's cells at its DIMENSION
 abbrev pub hiddenIn : ℕ → Form → List Held
 hiddenIn q f = map (λ (d : Range). hidden q) (partsOf f .opens)
 
 abbrev pub brings : ℕ → Form → List Held → List Held
-brings q f held = appear held (formPlain f) ++ (hiddenIn q f ++ map (λ a. array (declare a)) (arraysIn f))
+brings q f held = appear held (formPlain held f) ++ (hiddenIn q f ++ map (λ a. array (declare a)) (arraysIn f))
 
 abbrev pub heldFrom : ℕ → List Statement → List Held → List Held
 heldFrom q [] held = held
@@ -109,6 +122,42 @@ heldFrom q (s ∷ deck) held = heldFrom (suc q) deck (brings q (s .form) held)
 
 unfoldable pub heldOf : List Statement → List Held
 heldOf deck = heldFrom 0 deck []
+
+-- ---- FORMATs in the order of the text, used or not
+
+abbrev pub formatSize : Option Format → ℕ
+formatSize none = 0
+formatSize (some f) = suc (length (writtenOut f))
+
+-- the words of a FORMAT, the first at an index of body 8
+abbrev pub wordsAt : ℕ → Option Format → List ℕ
+wordsAt first none = []
+wordsAt first (some f) = formatWords first (flat f)
+
+abbrev pub formatsFrom : ℕ → List Statement → List ℕ
+formatsFrom first [] = []
+formatsFrom first (s ∷ more) = wordsAt first (formatIn (s .form)) ++ formatsFrom (first + formatSize (formatIn (s .form))) more
+
+-- how many words the FORMATs before position j have
+abbrev pub formatsBefore : List Statement → ℕ → ℕ
+formatsBefore [] j = 0
+formatsBefore (s ∷ more) zero = 0
+formatsBefore (s ∷ more) (suc j) = formatSize (formatIn (s .form)) + formatsBefore more j
+
+-- a FORMAT by the index of its first word, and what it is
+pub record FormatPlace : Type 0 where
+  pub first : ℕ
+  pub flat : Flat
+
+abbrev pub noFormat : FormatPlace
+noFormat = record { first = 0; flat = flat close }
+
+unfoldable pub formatPlace : List Statement → Digits → FormatPlace
+formatPlace deck n = record { first = formatsBefore deck (positionOf deck (valueOf n)); flat = flat (formatOf deck n) }
+
+abbrev pub transferInstr : Direction → FormatPlace → List Listed → Instr
+transferInstr reading f list = READ (f .first) (f .flat) list
+transferInstr printing f list = PRINT (f .first) (f .flat) list
 
 -- ---- code is postfix
 
@@ -144,17 +193,28 @@ module _ (held : List Held) (dims : Name → Dims) where
   storeCode (cell v) = STO (cellOf held v)
   storeCode (element v s) = STE (elementEntry v s)
 
-  -- `address` gives a statement number's address; `entry` the DO's number in body 4 and its entry
-  abbrev pub formCode : (ℕ → ℕ) → Instr → Form → List Instr
-  formCode address entry (assign t e) = exprCode e ++ (storeCode t ∷ [])
-  formCode address entry (goTo n) = JMP (address (valueOf n)) ∷ []
-  formCode address entry (computed ns v) = LOD (cellOf held v) ∷ BRC (map (λ n. address (valueOf n)) ns) ∷ []
-  formCode address entry (ifs e a b c) = exprCode e ++ (BR3 (address (valueOf a)) (address (valueOf b)) (address (valueOf c)) ∷ [])
-  formCode address entry (loop n v p₁ p₂ p₃) = exprCode p₁ ++ (exprCode p₂ ++ (exprCode (third p₃) ++ (entry ∷ [])))
-  formCode address entry continue = []
-  formCode address entry stop = HLT 0 ∷ []
-  formCode address entry end = HLT 1 ∷ []
-  formCode address entry (dimension arrays) = []
+  -- an item of a list: a plain name's cell, all cells of an array, or an element
+  abbrev pub spanOf : Name → ℕ → Listed
+  spanOf v zero = aSpan (cellOf held v) 1
+  spanOf v (suc r) = aSpan (baseOf held v) (arraySize (dims v))
+
+  abbrev pub itemOf : Target → Listed
+  itemOf (cell v) = spanOf v (dims v .rows)
+  itemOf (element v s) = oneElement (elementEntry v s)
+
+  -- `address` gives a statement number's address, `formats` a FORMAT's place; `entry` the DO's number in body 4 and its entry
+  abbrev pub formCode : (ℕ → ℕ) → (Digits → FormatPlace) → Instr → Form → List Instr
+  formCode address formats entry (assign t e) = exprCode e ++ (storeCode t ∷ [])
+  formCode address formats entry (goTo n) = JMP (address (valueOf n)) ∷ []
+  formCode address formats entry (computed ns v) = LOD (cellOf held v) ∷ BRC (map (λ n. address (valueOf n)) ns) ∷ []
+  formCode address formats entry (ifs e a b c) = exprCode e ++ (BR3 (address (valueOf a)) (address (valueOf b)) (address (valueOf c)) ∷ [])
+  formCode address formats entry (loop n v p₁ p₂ p₃) = exprCode p₁ ++ (exprCode p₂ ++ (exprCode (third p₃) ++ (entry ∷ [])))
+  formCode address formats entry continue = []
+  formCode address formats entry stop = HLT 0 ∷ []
+  formCode address formats entry end = HLT 1 ∷ []
+  formCode address formats entry (dimension arrays) = []
+  formCode address formats entry (transfer d n list) = transferInstr d (formats n) (map itemOf list) ∷ []
+  formCode address formats entry (format f) = []
 
 -- ---- addresses
 
@@ -166,7 +226,7 @@ doNumber (d ∷ ds) q = cond (ltb (d .position) q) (suc (doNumber ds q)) (doNumb
 module _ (deck : List Statement) where
   -- words of a statement's code, with the ends of the DOs whose last statement it is; no address is needed for that
   unfoldable pub words : Statement → ℕ
-  words s = length (formCode (heldOf deck) (dimsOf deck) (λ n. 0) NEG (s .form)) + length (endings deck (s .number))
+  words s = length (formCode (heldOf deck) (dimsOf deck) (λ n. 0) (λ n. noFormat) NEG (s .form)) + length (endings deck (s .number))
 
   abbrev pub addressIn : List Statement → ℕ → ℕ
   addressIn [] j = 0
@@ -204,7 +264,7 @@ module _ (deck : List Statement) where
   -- a statement's code; after a last statement, its DOEs, innermost first
   abbrev pub statementCode : ℕ → Statement → List Instr
   statementCode q s =
-      formCode (heldOf deck) (dimsOf deck) addressOf (enterCode q (s .form)) (s .form) ++ map (doInstr DOE) (endings deck (s .number))
+      formCode (heldOf deck) (dimsOf deck) addressOf (formatPlace deck) (enterCode q (s .form)) (s .form) ++ map (doInstr DOE) (endings deck (s .number))
 
   abbrev pub codeFrom : ℕ → List Statement → List Instr
   codeFrom q [] = []
@@ -256,13 +316,13 @@ listItems at (aSpan first count ∷ list) = record { first = first; count = coun
 listItems at (oneElement e ∷ list) = record { first = at; count = 0 } ∷ listItems (suc at) list
 
 abbrev pub addTransfer : Tables → ℕ → List Listed → Tables
-addTransfer T format list =
+addTransfer T first list =
     record {
       constants = T .constants;
       elements = T .elements ++ listElements list;
       exits = T .exits;
       items = T .items ++ listItems (length (T .elements)) list;
-      transfers = T .transfers ++ (record { format = format; first = length (T .items); count = length list } ∷ []);
+      transfers = T .transfers ++ (record { format = first; first = length (T .items); count = length list } ∷ []);
     }
 
 abbrev pub tablesAfter : Tables → Instr → Tables
@@ -333,7 +393,7 @@ namesFrom house at (array a ∷ held) =
     record { name = filled (house .nameBytes) (a .name); first = at; rows = a .dims .rows; columns = a .dims .columns } ∷ namesFrom house (at + arraySize (a .dims)) held
 namesFrom house at (hidden q ∷ held) = namesFrom house (at + 2) held
 
--- ---- the object; no statement is a FORMAT, READ or PRINT yet
+-- ---- the object
 
 unfoldable pub translate : House → List Statement → Object
 translate house deck =
@@ -348,7 +408,7 @@ translate house deck =
       code = emit noTables (codeOf deck);
       lines = linesFrom deck 0 deck;
       names = namesFrom house 0 (heldOf deck);
-      formats = [];
-      items = [];
-      transfers = [];
+      formats = formatsFrom 0 deck;
+      items = tablesOf noTables (codeOf deck) .items;
+      transfers = tablesOf noTables (codeOf deck) .transfers;
     }

@@ -1,17 +1,18 @@
--- A statement that no form spells.
+-- A statement that spells no form and is no FORMAT.
 -- Assumes nothing.
 use mathlib.Core.Path.{_≡_}
 use Prim.Native.Nat.{ℕ}
 use mathlib.Core.List.{List, [], _∷_, _++_}
 use lib.ListN.{length}
 use Rattle.rules_shared.specs.House.{House}
-use Rattle.rules_text.specs.Trees.{nothing, Form, Statement}
+use Rattle.rules_text.specs.Trees.{Statement}
 use Rattle.rules_text.specs.Cards.{Punched, textOf, statements, carded}
 use Rattle.rules_deck.specs.Judge.{nothingTaken}
-use Rattle.rules_text.specs.Spelling.{Spells}
+use Rattle.rules_text.specs.Tokens.{wordFormat}
+use Rattle.rules_text.specs.Statements.{Begins, NoFormOf}
 use Rattle.rules_deck.specs.Compile.{read, readFrom}
 
--- of a deck whose cards are right in the house, the statement at position q: those before it pass, it has a text, and the text spells no form
+-- of a deck whose cards are right in the house, the statement at position q: those before it pass, it has a text, and the text spells no form and does not begin FORMAT
 pub record NoForm (house : House) (deck : List ℕ) (q : ℕ) : Type 0 where
   pub before : List Punched
   pub statement : Punched
@@ -21,4 +22,5 @@ pub record NoForm (house : House) (deck : List ℕ) (q : ℕ) : Type 0 where
   pub passed : List Statement
   pub passes : readFrom house 0 nothingTaken before ≡ read passed
   pub written : textOf (statement .raw) ≡ [] → ⊥
-  pub spelled : (f : Form) → Spells (textOf (statement .raw)) f → ⊥
+  pub spelled : NoFormOf (textOf (statement .raw))
+  pub begun : Begins wordFormat (textOf (statement .raw)) → ⊥

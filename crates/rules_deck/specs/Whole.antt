@@ -1,16 +1,18 @@
--- Refusals of a deck as a whole, 20 to 25, each with its place: a sequence number, the lowest first. 01 "Refusal numbers".
+-- Refusals of a deck as a whole, 20 to 25, each with its place: a sequence number, the lowest first. 01 "Refusal numbers", 2026-01.
 -- Assumes nothing.
 use Prim.Native.Nat.{ℕ, suc}
 use mathlib.Core.Bool.{Bool, true, false, _&&_, _||_, not, cond}
-use mathlib.Core.List.{List, [], _∷_}
+use mathlib.Core.List.{List, [], _∷_, _++_}
 use mathlib.Core.Option.{Option, none, some}
 use lib.Dec.{leb, ltb, eqb}
 use lib.ListN.{length, getElem?}
 use Rattle.rules_shared.specs.Limits.{limits}
 use Rattle.rules_shared.specs.Refusals.{Refusal, refusal, orElse}
 use Rattle.rules_shared.specs.Lists.{all}
-use Rattle.rules_text.specs.Trees.{Name, Digits, valueOf, Target, cell, element, Form, Statement, formExits, formNumbers, Phrase, sets, chooses, computes, steps, declares, partsOf, gathered}
-use Rattle.rules_deck.specs.Deck.{sameName, positionOf, Do, dosOf}
+use Rattle.rules_formats.specs.Format.{hasNumber}
+use Rattle.rules_text.specs.Trees.{Name, Digits, valueOf, Target, cell, element, reading, printing, Form, Statement, formExits, formNumbers, formUses, Phrase, sets, chooses, computes, steps, declares, lists, partsOf, gathered}
+use Rattle.rules_deck.specs.Deck.{sameName, positionOf, Do, dosOf, formatOf}
+use Rattle.rules_deck.specs.Judge.{formItems}
 
 -- the first position, counted from q, whose statement fails the test; its sequence number
 abbrev pub firstWrong : (ℕ → Statement → Bool) → ℕ → List Statement → Option ℕ
@@ -41,13 +43,33 @@ isDimension f = partsOf f .isDimension
 unfoldable pub right21 : List Statement → ℕ → Statement → Bool
 right21 deck q s = eqb (s .number) 0 || (eqb (positionOf deck (s .number)) q && (not (isDimension (s .form)) && not (isEnd (s .form))))
 
--- ---- 22: number used, never defined
+-- ---- 22: number used, never defined; a FORMAT's as an exit or a DO's last, another's as a FORMAT's; a list whose FORMAT has no I
 
 abbrev pub defined : List Statement → Digits → Bool
 defined deck n = ltb (positionOf deck (valueOf n)) (length deck)
 
+abbrev pub isFormat : Form → Bool
+isFormat f = partsOf f .isFormat
+
+abbrev pub isFormatAt : Option Statement → Bool
+isFormatAt none = false
+isFormatAt (some s) = isFormat (s .form)
+
+abbrev pub ofFormat : List Statement → Digits → Bool
+ofFormat deck n = isFormatAt (getElem? deck (positionOf deck (valueOf n)))
+
+abbrev pub ofStatement : List Statement → Digits → Bool
+ofStatement deck n = defined deck n && not (ofFormat deck n)
+
+abbrev pub noList : List Target → Bool
+noList [] = true
+noList (t ∷ list) = false
+
+abbrev pub usable : List Statement → Form → Digits → Bool
+usable deck f n = ofFormat deck n && (noList (formItems f) || hasNumber (formatOf deck n))
+
 unfoldable pub right22 : List Statement → ℕ → Statement → Bool
-right22 deck q s = all (defined deck) (formNumbers (s .form))
+right22 deck q s = all (ofStatement deck) (formNumbers (s .form)) && all (usable deck (s .form)) (formUses (s .form))
 
 -- ---- ranges: after the DO through its last statement
 
@@ -93,11 +115,15 @@ staysOut deck j n d = not (inRange deck d (positionOf deck (valueOf n))) || inRa
 unfoldable pub right24 : List Statement → ℕ → Statement → Bool
 right24 deck j s = all (λ n. all (staysOut deck j n) (dosOf deck)) (formExits (s .form))
 
--- ---- 25: DO's variable set, or taken by another DO, in its range
+-- ---- 25: DO's variable set or read, or taken by another DO, in its range
 
 abbrev pub targetSets : Target → List Name
 targetSets (cell v) = v ∷ []
 targetSets (element v s) = []
+
+abbrev pub listSets : List Target → List Name
+listSets [] = []
+listSets (t ∷ list) = targetSets t ++ listSets list
 
 abbrev pub phraseSets : Phrase → List Name
 phraseSets (sets t) = targetSets t
@@ -105,6 +131,8 @@ phraseSets (chooses v) = []
 phraseSets (computes e) = []
 phraseSets (steps r) = []
 phraseSets (declares arrays) = []
+phraseSets (lists reading list) = listSets list
+phraseSets (lists printing list) = []
 
 unfoldable pub formSets : Form → List Name
 formSets f = gathered phraseSets (partsOf f .text)

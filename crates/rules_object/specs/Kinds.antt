@@ -13,7 +13,7 @@ pub record Kind : Type 0 where
 
 -- the edition that is written
 abbrev pub edition : ℕ
-edition = 1
+edition = 2
 
 -- by kind from 1 on: constants, elements, exits, DOs, code, statements, names
 abbrev pub firstKinds : List Kind

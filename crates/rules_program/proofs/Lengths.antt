@@ -1,18 +1,22 @@
 -- How long the lines are that are printed.
 -- Assumes nothing.
-use Prim.Native.Nat.{ℕ, zero, suc, _+_, _/_, _%_, _^_, _≤_, _<_}
+use Prim.Native.Nat.{ℕ, zero, suc, _+_, _*_, _/_, _%_, _^_, _≤_, _<_}
 use mathlib.Core.Bool.{Bool, true, false, cond}
 use mathlib.Core.List.{List, [], _∷_, _++_}
 use native.Mathlib.Omega.{arith}
 use native.Mathlib.Nat.{mod-le, div-le-self}
 use lib.Dec.{eqb}
-use lib.ListN.{length, length-append}
+use lib.ListN.{length, take, drop, length-append, length-take, length-replicate}
 use lib.IntN.{ℤ, pos, negsuc, natAbs}
+use Rattle.rules_formats.specs.Walk.{lineWidth}
 use Rattle.rules_object.specs.Object.{Named}
 use Rattle.rules_object.specs.Machine.{cell}
+use Rattle.rules_object.specs.Calls.{Lent, running}
+use Rattle.rules_object.proofs.LentTrays.{run-trays}
 use Rattle.rules_text.specs.Cards.{withoutBlanks}
 use Rattle.rules_text.specs.Punch.{bytes}
-use Rattle.rules_program.specs.Text.{numeral, signed, lineEnd, stated, haltLine, refusedLine, subscripts, valueLine}
+use Rattle.rules_program.specs.Text.{numeral, signed, lineEnd, beforeLeft, cutLine, paperLines, stated, haltLine, refusedLine, subscripts, valueLine}
+use Rattle.rules_program.specs.Program.{mostLines, thousandLines}
 use Rattle.rules_program.proofs.Numerals.{numeral-length}
 
 stated-length : (w : List ℕ) (d n : ℕ) → n < 10 ^ suc d → length (stated w n) ≤ length w + suc d
@@ -93,3 +97,35 @@ line-length n store i short low h =
       subscripts-length (n .rows) (n .columns) i h,
       signed-length (cell store (n .first + i)) low,
     )
+
+-- ---- the lines that a run wrote
+
+cut-length : (line : List ℕ) → length (cutLine line) ≤ length line
+cut-length [] = omega arith
+cut-length (c ∷ line) = by (cutLine line) (cut-length line)
+  where
+    alone : (b : Bool) → length (cond b [] (c ∷ [])) ≤ 1
+    alone true = omega arith
+    alone false = omega arith
+
+    by : (left : List ℕ) → length left ≤ length line → length (beforeLeft c left) ≤ suc (length line)
+    by [] h = omega (arith, alone (eqb c 32))
+    by (d ∷ left) h = omega arith
+
+-- each with its end
+pub paper-length : (n : ℕ) (written : List ℕ) → length (paperLines n written) ≤ 133 * n
+paper-length zero written = omega arith
+paper-length (suc n) written =
+    let a : List ℕ = cutLine (take lineWidth written) in
+    omega (
+      arith,
+      length-append (a ++ lineEnd) (paperLines n (drop lineWidth written)),
+      length-append a lineEnd,
+      cut-length (take lineWidth written),
+      length-take lineWidth written,
+      paper-length n (drop lineWidth written),
+    )
+
+-- no more than there is room for
+pub few-lines : (object : List ℕ) (store : List ℤ) (l : Lent) (a : ℕ) → running object store l thousandLines a .linesWritten ≤ mostLines
+few-lines object store l a = omega (arith, run-trays object store l thousandLines a .lines, length-replicate {A = ℕ} (mostLines * lineWidth) 0)

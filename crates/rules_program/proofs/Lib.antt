@@ -5,3 +5,4 @@ pub mod LongInput
 pub mod Enough
 pub mod Prints
 pub mod ProgramExamples
+pub mod PaperExamples

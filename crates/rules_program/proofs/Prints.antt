@@ -15,7 +15,7 @@ use Rattle.number.specs.Number.{fits}
 use Rattle.number.proofs.Laws.{digits-some, yes-fits}
 use Rattle.rules_shared.specs.Limits.{limits}
 use Rattle.rules_shared.specs.House.{House, house1401}
-use Rattle.rules_formats.specs.Walk.{noTrays, devicesOf}
+use Rattle.rules_formats.specs.Walk.{devicesOf}
 use Rattle.rules_object.specs.Object.{Object, ruleOf}
 use Rattle.rules_object.specs.Check.{right41}
 use Rattle.rules_object.specs.Machine.{fresh, step}
@@ -42,8 +42,8 @@ use Rattle.rules_deck.proofs.AcceptedDeck.{accepted as accepted-deck}
 use Rattle.rules_deck.proofs.CompiledRight.{compiled-edition, passes-41}
 use Rattle.rules_deck.proofs.CompiledWritable.{compiled-reads, compiled-checked}
 use Rattle.rules_deck.proofs.RefusedDeck.{ReadNumbered, refused-numbered}
-use Rattle.rules_program.specs.Text.{haltLine, refusedLine, nameLines}
-use Rattle.rules_program.specs.Program.{controlDigits, allowance, zeroStore, namesOf, ranLines, runLines, printedObject, mostBytes, writtenLines, compiledLines, deckLines, printed}
+use Rattle.rules_program.specs.Text.{paperLines, haltLine, refusedLine, nameLines}
+use Rattle.rules_program.specs.Program.{controlDigits, allowance, zeroStore, thousandLines, namesOf, ranLines, runLines, printedObject, mostBytes, writtenLines, compiledLines, deckLines, printed}
 use Rattle.rules_program.proofs.Enough.{room-enough}
 
 -- ---- a zero store of as many cells as an object may have passes 50 and 51 for every object that passes 41
@@ -64,9 +64,9 @@ module _ (o : Object) (edition : Edition o) (right : right41 o ≡ true) where
 
 -- ---- a deck that is read: its object is written, and its run is not refused
 
--- the halt line, and every name with its values
+-- the lines written, the halt line, and every name with its values
 abbrev pub linesOf : Object → Ran → List ℕ
-linesOf o r = haltLine (r .halt) (r .steps) (r .sequence) ++ nameLines (o .names) (r .store)
+linesOf o r = paperLines (r .linesWritten) (r .lines) ++ (haltLine (r .halt) (r .steps) (r .sequence) ++ nameLines (o .names) (r .store))
 
 module _ (house : House) (lawful : Lawful house) (bytes : List ℕ) (deck : List Statement) (reads : deckOf house bytes ≡ read deck) where
   abbrev o : Object
@@ -89,17 +89,17 @@ module _ (house : House) (lawful : Lawful house) (bytes : List ℕ) (deck : List
         passes = p;
         right50 = zero-50 o edition right;
         right51 = zero-51 o edition right;
-        right52 = stands-52 (fresh zeroStore (devicesOf noTrays)) (fresh-stands p zeroStore (devicesOf noTrays) (zero-50 o edition right) (zero-51 o edition right));
+        right52 = stands-52 (fresh zeroStore (devicesOf thousandLines)) (fresh-stands p zeroStore (devicesOf thousandLines) (zero-50 o edition right) (zero-51 o edition right));
       }
 
-  pub run-accepted : running object zeroStore freshLent noTrays allowance .refusal ≡ accepted
-  run-accepted = ap (λ (r : Ran). r .refusal) (accepts-run runs noTrays allowance) ∙ from-accepts (runs .object) noTrays (step (runs .object)) allowance (taken freshLent zeroStore (devicesOf noTrays))
+  pub run-accepted : running object zeroStore freshLent thousandLines allowance .refusal ≡ accepted
+  run-accepted = ap (λ (r : Ran). r .refusal) (accepts-run runs thousandLines allowance) ∙ from-accepts (runs .object) thousandLines (step (runs .object)) allowance (taken freshLent zeroStore (devicesOf thousandLines))
 
-  printed-object : printedObject object ≡ linesOf o (running object zeroStore freshLent noTrays allowance)
+  printed-object : printedObject object ≡ linesOf o (running object zeroStore freshLent thousandLines allowance)
   unfolding printedObject
   printed-object =
-      ap (λ (p : Option Object). runLines (namesOf p) (running object zeroStore freshLent noTrays allowance)) (compiled-reads (accepted-deck house lawful bytes deck reads))
-      ∙ ap (ranLines (o .names) (running object zeroStore freshLent noTrays allowance)) (ap (λ (r : Refusal). r .number) run-accepted)
+      ap (λ (p : Option Object). runLines (namesOf p) (running object zeroStore freshLent thousandLines allowance)) (compiled-reads (accepted-deck house lawful bytes deck reads))
+      ∙ ap (ranLines (o .names) (running object zeroStore freshLent thousandLines allowance)) (ap (λ (r : Refusal). r .number) run-accepted)
 
   -- wherever there is room for it
   pub object-written : (output : List ℕ) → compiling house bytes output .refusal ≡ accepted → objectIn (compiling house bytes output) ≡ object
@@ -136,7 +136,7 @@ no-deck input k r c e =
     by (suc n) l = refl
 
 pub run-printed : (input : List ℕ) (k : ℕ) (deck : List Statement) → controlDigits input ≡ some k → deckOf (house1401 k) (drop cardLength input) ≡ read deck
-    → printed input ≡ linesOf (translate (house1401 k) deck) (running (objectBytes (translate (house1401 k) deck)) zeroStore freshLent noTrays allowance)
+    → printed input ≡ linesOf (translate (house1401 k) deck) (running (objectBytes (translate (house1401 k) deck)) zeroStore freshLent thousandLines allowance)
 unfolding printed
 run-printed input k deck c e =
     ap (deckLines (drop cardLength input)) c ∙ deck-printed (house1401 k) (lawful1401 k) (drop cardLength input) deck e ∙ printed-object (house1401 k) (lawful1401 k) (drop cardLength input) deck e

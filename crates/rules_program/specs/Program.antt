@@ -9,7 +9,7 @@ use lib.ListN.{length, take, drop, replicate}
 use lib.IntN.{ℤ, pos}
 use Rattle.rules_shared.specs.Limits.{limits}
 use Rattle.rules_shared.specs.House.{house1401}
-use Rattle.rules_formats.specs.Walk.{noTrays}
+use Rattle.rules_formats.specs.Walk.{lineWidth, Trays}
 use Rattle.rules_object.specs.Object.{Named, Object}
 use Rattle.rules_object.specs.Kinds.{edition, kindsOf, mostWords, contentsLength}
 use Rattle.rules_object.specs.Bytes.{readObject}
@@ -20,7 +20,7 @@ use Rattle.rules_object.specs.Safe.{freshLent}
 use Rattle.rules_text.specs.Cards.{cardLength}
 use Rattle.rules_deck.specs.Compile.{compiling}
 use Rattle.rules_deck.specs.Seen.{objectIn}
-use Rattle.rules_program.specs.Text.{haltLine, refusedLine, nameLines}
+use Rattle.rules_program.specs.Text.{paperLines, haltLine, refusedLine, nameLines}
 
 -- ---- the control card: k in column 1, blank for 5, then blanks
 
@@ -41,7 +41,7 @@ controlOf (c ∷ rest) = cond (eqb (length (c ∷ rest)) cardLength && all isBla
 unfoldable pub controlDigits : List ℕ → Option ℕ
 controlDigits input = controlOf (take cardLength input)
 
--- ---- the run, with a zero store, no cards, no lines and 1,000,000 steps
+-- ---- the run, with a zero store, no cards, 1,000 lines and 1,000,000 steps
 
 abbrev pub allowance : ℕ
 allowance = 1000000
@@ -50,13 +50,20 @@ allowance = 1000000
 abbrev pub zeroStore : List ℤ
 zeroStore = replicate (limits .cells) (pos 0)
 
+abbrev pub mostLines : ℕ
+mostLines = 1000
+
+-- no cards, and room for 1,000 lines
+abbrev pub thousandLines : Trays
+thousandLines = record { cards = []; lines = replicate (mostLines * lineWidth) 0 }
+
 abbrev pub namesOf : Option Object → List Named
 namesOf none = []
 namesOf (some o) = o .names
 
--- the run's number of refusal beside it: 0 where it ran
+-- the lines written, the halt, and every name with its values; the run's number of refusal is beside it: 0 where it ran
 abbrev pub ranLines : List Named → Ran → ℕ → List ℕ
-ranLines names r zero = haltLine (r .halt) (r .steps) (r .sequence) ++ nameLines names (r .store)
+ranLines names r zero = paperLines (r .linesWritten) (r .lines) ++ (haltLine (r .halt) (r .steps) (r .sequence) ++ nameLines names (r .store))
 ranLines names r (suc number) = refusedLine (suc number) (r .refusal .place)
 
 -- an object is run, and what it leaves is printed
@@ -64,7 +71,7 @@ abbrev pub runLines : List Named → Ran → List ℕ
 runLines names r = ranLines names r (r .refusal .number)
 
 unfoldable pub printedObject : List ℕ → List ℕ
-printedObject object = runLines (namesOf (readObject object)) (running object zeroStore freshLent noTrays allowance)
+printedObject object = runLines (namesOf (readObject object)) (running object zeroStore freshLent thousandLines allowance)
 
 -- ---- the whole
 

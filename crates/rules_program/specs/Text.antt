@@ -1,8 +1,13 @@
 -- What the program prints of a run or a refusal: numerals, names and lines, in bytes. 01 "Worked examples".
 -- Assumes nothing.
 use Prim.Native.Nat.{ℕ, zero, suc, _+_, _/_, _%_}
+use mathlib.Core.Bool.{cond}
 use mathlib.Core.List.{List, [], _∷_, _++_}
+use lib.Dec.{eqb}
+use lib.ListN.{take, drop}
 use lib.IntN.{ℤ, pos, negsuc}
+use Rattle.rules_formats.specs.Fields.{blank}
+use Rattle.rules_formats.specs.Walk.{lineWidth}
 use Rattle.rules_object.specs.Object.{Named}
 use Rattle.rules_object.specs.Check.{span}
 use Rattle.rules_object.specs.Machine.{cell}
@@ -32,6 +37,21 @@ signed (negsuc n) = 45 ∷ numeral (suc n)
 
 abbrev pub lineEnd : List ℕ
 lineEnd = 10 ∷ []
+
+-- a column before what is left of those after it: a blank goes if none is left
+abbrev pub beforeLeft : ℕ → List ℕ → List ℕ
+beforeLeft c [] = cond (eqb c blank) [] (c ∷ [])
+beforeLeft c (d ∷ left) = c ∷ d ∷ left
+
+-- without the blanks at its end
+abbrev pub cutLine : List ℕ → List ℕ
+cutLine [] = []
+cutLine (c ∷ line) = beforeLeft c (cutLine line)
+
+-- so many lines as a run wrote them, of 132 bytes each
+abbrev pub paperLines : ℕ → List ℕ → List ℕ
+paperLines zero written = []
+paperLines (suc more) written = (cutLine (take lineWidth written) ++ lineEnd) ++ paperLines more (drop lineWidth written)
 
 -- a word or two, and a number
 unfoldable pub stated : List ℕ → ℕ → List ℕ

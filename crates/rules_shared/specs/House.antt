@@ -28,7 +28,7 @@ pub record House : Type 0 where
 abbrev pub house1401 : ℕ → House
 house1401 k =
     record {
-      edition = 1;
+      edition = 2;
       digits = k;
       fewestDigits = 1;
       mostDigits = limits .digits;

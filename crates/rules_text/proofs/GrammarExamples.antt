@@ -1,4 +1,4 @@
--- What statement texts read as: a table of examples, computed. None is refused 10.
+-- What statement texts read as: a table of examples, computed. A text of none is refused 10, but for a FORMAT.
 -- Assumes nothing.
 use mathlib.Core.Path.{_≡_, refl}
 use Prim.Native.Nat.{ℕ}
@@ -8,9 +8,9 @@ use Prim.Native.String
 use mathlib.Core.List.{List, [], _∷_}
 use mathlib.Core.Option.{Option, none, some}
 use Rattle.number.specs.Number.{sub, mul, div}
-use Rattle.rules_text.specs.Trees.{nothing, plus, minus, constant, linear, one, two, con, var, elm, neg, par, bin, cell, element, array, Form, assign, goTo, computed, ifs, loop, continue, stop, end, dimension}
-use Rattle.rules_text.specs.Tokens.{wordGoTo, wordIf, wordDo, wordContinue, wordStop, wordEnd, wordDimension, isLetterOrDigit, give, giveIf, ahead, follow, andThen, after, afterWord, choose, starts, startsDigit, allOf, whole, run, digitRun, nameRun, taken, number, name, listedUpTo, listed}
-use Rattle.rules_text.specs.Grammar.{addend, linearOf, subscript, subscripts, place, operandOf, operand, sign, signed, sumOp, productOp, joined, more, step, parseIn, enough, parse, expression, assignment, plainGoTo, rightExits, computedGoTo, arithmeticIf, parameter, doLoop, arrayShape, dimensions, readAssignment, readGoTo, readComputed, readIf, readDo, readContinue, readStop, readEnd, readDimension, present, readings, firstOf, formOf}
+use Rattle.rules_text.specs.Trees.{nothing, plus, minus, constant, linear, one, two, con, var, elm, neg, par, bin, cell, element, array, reading, printing, Form, assign, goTo, computed, ifs, loop, continue, stop, end, dimension, transfer}
+use Rattle.rules_text.specs.Tokens.{wordGoTo, wordIf, wordDo, wordContinue, wordStop, wordEnd, wordDimension, wordRead, wordPrint, isLetterOrDigit, give, giveIf, ahead, follow, andThen, after, afterWord, choose, starts, startsDigit, allOf, whole, run, digitRun, nameRun, taken, number, name, listedUpTo, listed}
+use Rattle.rules_text.specs.Grammar.{addend, linearOf, subscript, subscripts, place, operandOf, operand, sign, signed, sumOp, productOp, joined, more, step, parseIn, enough, parse, expression, assignment, plainGoTo, rightExits, computedGoTo, arithmeticIf, parameter, doLoop, arrayShape, dimensions, listAfter, transferOf, readAssignment, readGoTo, readComputed, readIf, readDo, readContinue, readStop, readEnd, readDimension, readTransfer, present, readings, firstOf, formOf}
 
 abbrev ascii : String → List ℕ
 ascii String.[] = []
@@ -18,10 +18,10 @@ ascii (String._∷_ c s) = code c ∷ ascii s
 
 -- the words of Tokens are these
 pub words : (wordGoTo ≡ ascii "GOTO") × (wordIf ≡ ascii "IF") × (wordDo ≡ ascii "DO") × (wordContinue ≡ ascii "CONTINUE")
-    × (wordStop ≡ ascii "STOP") × (wordEnd ≡ ascii "END") × (wordDimension ≡ ascii "DIMENSION")
-words = (refl, refl, refl, refl, refl, refl, refl)
+    × (wordStop ≡ ascii "STOP") × (wordEnd ≡ ascii "END") × (wordDimension ≡ ascii "DIMENSION") × (wordRead ≡ ascii "READ") × (wordPrint ≡ ascii "PRINT")
+words = (refl, refl, refl, refl, refl, refl, refl, refl, refl)
 
--- a text, and its form; none is refused 10
+-- a text, and its form
 pub record Example : Type 0 where
   pub text : String
   pub form : Option Form
@@ -97,6 +97,16 @@ table =
     ∷ record { text = "DIMENSIONL(3),M12(4,5)"; form = some (dimension (array (ascii "L") (ascii "3") none ∷ array (ascii "M12") (ascii "4") (some (ascii "5")) ∷ [])) }
     ∷ record { text = "DIMENSIONL(I)"; form = none }
     ∷ record { text = "DIMENSION"; form = none }
+    -- READ and PRINT: without a list and with one; no comma without a list, and no constant, sum or parenthesis for an item
+    ∷ record { text = "PRINT13"; form = some (transfer printing (ascii "13") []) }
+    ∷ record { text = "READ7,I"; form = some (transfer reading (ascii "7") (cell (ascii "I") ∷ [])) }
+    ∷ record { text = "READ7,L(2),M,N(I,2*J-1)"; form = some (transfer reading (ascii "7") (element (ascii "L") (one (constant (ascii "2"))) ∷ cell (ascii "M") ∷ element (ascii "N") (two (linear none (ascii "I") nothing) (linear (some (ascii "2")) (ascii "J") (minus (ascii "1")))) ∷ [])) }
+    ∷ record { text = "PRINT1,"; form = none }
+    ∷ record { text = "PRINT1,5"; form = none }
+    ∷ record { text = "PRINT1,I+J"; form = none }
+    ∷ record { text = "PRINT1,(L(I),I=1,3)"; form = none }
+    ∷ record { text = "READI"; form = none }
+    ∷ record { text = "READ1=3"; form = some (assign (cell (ascii "READ1")) (con (ascii "3"))) }
     ∷ record { text = ""; form = none }
     ∷ []
 
@@ -105,5 +115,5 @@ Holds [] = Unit {0}
 Holds (x ∷ xs) = (formOf (ascii (x .text)) ≡ x .form) × Holds xs
 
 pub examples : Holds table
-unfolding isLetterOrDigit give giveIf ahead follow andThen after afterWord choose starts startsDigit allOf whole run digitRun nameRun taken number name listedUpTo listed addend linearOf subscript subscripts place operandOf operand sign signed sumOp productOp joined more step parseIn enough parse expression assignment plainGoTo rightExits computedGoTo arithmeticIf parameter doLoop arrayShape dimensions readAssignment readGoTo readComputed readIf readDo readContinue readStop readEnd readDimension present readings firstOf formOf
-examples = (refl, (refl, (refl, (refl, (refl, (refl, (refl, (refl, (refl, (refl, (refl, (refl, (refl, (refl, (refl, (refl, (refl, (refl, (refl, (refl, (refl, (refl, (refl, (refl, (refl, (refl, (refl, (refl, (refl, (refl, (refl, (refl, (refl, (refl, (refl, (refl, (refl, (refl, (refl, (refl, (refl, (refl, (refl, (refl, (refl, (refl, (refl, (refl, (refl, (refl, (refl, (refl, (refl, (refl, (refl, (refl, (refl, (refl, (refl, (refl, (refl, tt)))))))))))))))))))))))))))))))))))))))))))))))))))))))))))))
+unfolding isLetterOrDigit give giveIf ahead follow andThen after afterWord choose starts startsDigit allOf whole run digitRun nameRun taken number name listedUpTo listed addend linearOf subscript subscripts place operandOf operand sign signed sumOp productOp joined more step parseIn enough parse expression assignment plainGoTo rightExits computedGoTo arithmeticIf parameter doLoop arrayShape dimensions listAfter transferOf readAssignment readGoTo readComputed readIf readDo readContinue readStop readEnd readDimension readTransfer present readings firstOf formOf
+examples = (refl, (refl, (refl, (refl, (refl, (refl, (refl, (refl, (refl, (refl, (refl, (refl, (refl, (refl, (refl, (refl, (refl, (refl, (refl, (refl, (refl, (refl, (refl, (refl, (refl, (refl, (refl, (refl, (refl, (refl, (refl, (refl, (refl, (refl, (refl, (refl, (refl, (refl, (refl, (refl, (refl, (refl, (refl, (refl, (refl, (refl, (refl, (refl, (refl, (refl, (refl, (refl, (refl, (refl, (refl, (refl, (refl, (refl, (refl, (refl, (refl, (refl, (refl, (refl, (refl, (refl, (refl, (refl, (refl, (refl, tt))))))))))))))))))))))))))))))))))))))))))))))))))))))))))))))))))))))

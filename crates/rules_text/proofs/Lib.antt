@@ -1,4 +1,5 @@
 pub mod GrammarExamples
+pub mod StatementExamples
 pub mod CardsExamples
 pub mod CardsGroups
 pub mod CardsLaws
@@ -15,4 +16,6 @@ pub mod Tells
 pub mod SpelledText
 pub mod Pluses
 pub mod Spellings
+pub mod OwnColumns
+pub mod Statements
 pub mod Values

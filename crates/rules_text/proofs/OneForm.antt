@@ -12,12 +12,12 @@ use lib.Seq.{drop-length}
 use lib.Dec.{eqb}
 use borrow.Author.Tests.{ne-eqb}
 use Rattle.rules_shared.specs.Lists.{Each, each-more}
-use Rattle.rules_text.specs.Trees.{Name, Expr, Form, goTo, continue, stop, end}
-use Rattle.rules_text.specs.Tokens.{leftParen, plusSign, comma, equals, wordGoTo, wordIf, wordDo, wordContinue, wordStop, wordEnd, wordDimension, found, bad, Reader, give, giveIf, andThen, after, afterWord, choose, starts, whole, number, name}
-use Rattle.rules_text.specs.Grammar.{place, more, expression, assignment, plainGoTo, computedGoTo, arithmeticIf, isParameter, parameter, doLoop, dimensions, readAssignment, readGoTo, readComputed, readIf, readDo, readContinue, readStop, readEnd, readDimension, present, readings, firstOf, formOf}
+use Rattle.rules_text.specs.Trees.{Name, Expr, Direction, reading, printing, Form, goTo, continue, stop, end}
+use Rattle.rules_text.specs.Tokens.{leftParen, plusSign, comma, equals, wordGoTo, wordIf, wordDo, wordContinue, wordStop, wordEnd, wordDimension, wordRead, wordPrint, found, bad, Reader, give, giveIf, andThen, after, afterWord, choose, starts, whole, number, name}
+use Rattle.rules_text.specs.Grammar.{place, more, expression, assignment, plainGoTo, computedGoTo, arithmeticIf, isParameter, parameter, doLoop, dimensions, transferOf, readAssignment, readGoTo, readComputed, readIf, readDo, readContinue, readStop, readEnd, readDimension, readTransfer, present, readings, firstOf, formOf}
 use Rattle.rules_text.proofs.Readers.{NotEquals, digit-bounds, Good, good-number, good-name}
 use Rattle.rules_text.proofs.ReadTrees.{good-place}
-use Rattle.rules_text.proofs.ReadForms.{whole-found, whole-good, sound-is, good-go-to, good-computed, good-if, good-continue, good-stop, good-end, good-dimension}
+use Rattle.rules_text.proofs.ReadForms.{whole-found, whole-good, sound-is, good-go-to, good-computed, good-if, good-continue, good-stop, good-end, good-dimension, good-transfer}
 use Rattle.rules_text.proofs.Found.{not-found, then-found, after-found, word-found, number-starts}
 
 -- ---- what follows the first =
@@ -144,12 +144,12 @@ not-both s a l =
     let after-it = ap length (o .ends) in
     omega (arith, length-drop (o .took) (l .right))
 
--- ---- which form it can be, by number in 01's order: from what follows the first =, else from the first bytes
+-- ---- which form it can be, by number in 01's order, READ and PRINT after them: from what follows the first =, else from the first bytes
 
 wordPlace : ℕ → ℕ → ℕ
 wordPlace first fifth =
     cond (eqb first 71) (cond (eqb fifth leftParen) 2 1)
-    (cond (eqb first 73) 3 (cond (eqb first 67) 5 (cond (eqb first 83) 6 (cond (eqb first 69) 7 8))))
+    (cond (eqb first 73) 3 (cond (eqb first 67) 5 (cond (eqb first 83) 6 (cond (eqb first 69) 7 (cond (eqb first 68) 8 (cond (eqb first 82) 9 10))))))
 
 placeBy : Option (List ℕ) → Option Form → ℕ → ℕ
 placeBy (some right) none word = 0
@@ -224,6 +224,15 @@ at-dimension : (s : List ℕ) (f : Form) → readDimension s ≡ some f → form
 unfolding readDimension dimensions wordPlace
 at-dimension s f e = at-word wordDimension _ s f 8 good-dimension e (λ rest k q. refl)
 
+abbrev transferPlace : Direction → ℕ
+transferPlace reading = 9
+transferPlace printing = 10
+
+at-transfer : (d : Direction) (s : List ℕ) (f : Form) → readTransfer d s ≡ some f → formPlace s ≡ transferPlace d
+unfolding readTransfer transferOf wordPlace
+at-transfer reading s f e = at-word wordRead _ s f 9 (good-transfer reading) e (λ rest k q. refl)
+at-transfer printing s f e = at-word wordPrint _ s f 10 (good-transfer printing) e (λ rest k q. refl)
+
 -- ---- at most one
 
 -- of options numbered from i, only the one at place n can be there
@@ -259,15 +268,17 @@ first-is n i (suc j) (some g ∷ os) f (only-more p ps) e =
     nothing-there (none ∷ os) (suc j) l q = nothing-there os j l q
     nothing-there (some g ∷ os) j l q = omega arith
 
--- the readers of the forms, in 01's order
+-- the readers of the forms, in the order of `readings`
 abbrev pub candidates : List ℕ → List (Option Form)
 candidates s =
-    readAssignment s ∷ readGoTo s ∷ readComputed s ∷ readIf s ∷ readDo s ∷ readContinue s ∷ readStop s ∷ readEnd s ∷ readDimension s ∷ []
+    readAssignment s ∷ readGoTo s ∷ readComputed s ∷ readIf s ∷ readDo s ∷ readContinue s ∷ readStop s ∷ readEnd s ∷ readDimension s
+    ∷ readTransfer reading s ∷ readTransfer printing s ∷ []
 
 only-one : (s : List ℕ) → OnlyAt (formPlace s) 0 (candidates s)
 only-one s =
     only-more (at-assignment s) (only-more (at-go-to s) (only-more (at-computed s) (only-more (at-if s) (only-more (at-do s)
-    (only-more (at-continue s) (only-more (at-stop s) (only-more (at-end s) (only-more (at-dimension s) only-none))))))))
+    (only-more (at-continue s) (only-more (at-stop s) (only-more (at-end s) (only-more (at-dimension s)
+    (only-more (at-transfer reading s) (only-more (at-transfer printing s) only-none))))))))))
 
 -- WHICHEVER READER FINDS A FORM, THAT IS THE TEXT'S FORM
 pub form-is : (s : List ℕ) (j : ℕ) (f : Form) → getElem? (candidates s) j ≡ some (some f) → formOf s ≡ some f

@@ -13,9 +13,9 @@ use Rattle.rules_shared.specs.Limits.{limits}
 use Rattle.rules_object.specs.Check.{isLetter, isDigit}
 use Rattle.rules_shared.specs.Lists.{Each, each-none, each-more}
 use Rattle.rules_shared.proofs.EachLaws.{each-head, each-tail, each-left, each-right}
-use Rattle.rules_text.specs.Trees.{Name, Digits, Addend, nothing, plus, minus, Subscript, constant, linear, Subscripts, one, two, addendConstants, subscriptNames, subscriptConstants, subscriptsNames, subscriptsConstants, Expr, con, var, elm, neg, par, bin, Target, cell, element, Array, array, Form}
-use Rattle.rules_text.specs.Tokens.{leftParen, rightParen, star, plusSign, comma, minusSign, slash, equals, wordGoTo, wordIf, wordDo, wordContinue, wordStop, wordEnd, wordDimension, isLetterOrDigit}
-use Rattle.rules_text.specs.Spelling.{spellAddend, spellSubscript, spellSubscripts, spellTarget, spellExpr, spellMore, spellList, spellNumber, spellArray, spellBy, spellForm, Passes, IsDigits, is-digits, IsName, is-name, Words, IsTarget, IsArray, IsNumberOrName, IsBy, Part, aSum, aProduct, aFactor, SpellsPart, first, after-plus, after-minus, added, less, only, times, over, a-number, a-name, an-element, parens, Spells, an-assignment, a-go-to, a-computed, an-if, a-loop, a-continue, a-stop, an-end, a-dimension, opens, withoutAfter, withoutPluses}
+use Rattle.rules_text.specs.Trees.{Name, Digits, Addend, nothing, plus, minus, Subscript, constant, linear, Subscripts, one, two, addendConstants, subscriptNames, subscriptConstants, subscriptsNames, subscriptsConstants, Expr, con, var, elm, neg, par, bin, Target, cell, element, Array, array, Direction, reading, printing, Form}
+use Rattle.rules_text.specs.Tokens.{leftParen, rightParen, star, plusSign, comma, minusSign, slash, equals, wordGoTo, wordIf, wordDo, wordContinue, wordStop, wordEnd, wordDimension, wordOf, isLetterOrDigit}
+use Rattle.rules_text.specs.Spelling.{spellAddend, spellSubscript, spellSubscripts, spellTarget, spellExpr, spellMore, spellList, spellNumber, spellArray, spellBy, spellForm, Passes, IsDigits, is-digits, IsName, is-name, Words, IsTarget, IsArray, IsNumberOrName, IsBy, Part, aSum, aProduct, aFactor, SpellsPart, first, after-plus, after-minus, added, less, only, times, over, a-number, a-name, an-element, parens, Spells, an-assignment, a-go-to, a-computed, an-if, a-loop, a-continue, a-stop, an-end, a-dimension, a-transfer, opens, withoutAfter, withoutPluses}
 use Rattle.rules_text.proofs.Readers.{digit-bounds, letter-bounds}
 
 -- after b, the text t comes to u, and what follows t starts after no = or (
@@ -239,6 +239,11 @@ unfolding isLetterOrDigit
 word-dimension =
     is-name refl (each-more refl (each-more refl (each-more refl (each-more refl (each-more refl (each-more refl (each-more refl (each-more refl each-none))))))))
 
+word-transfer : (d : Direction) → IsName (wordOf d)
+unfolding isLetterOrDigit
+word-transfer reading = is-name refl (each-more refl (each-more refl (each-more refl each-none)))
+word-transfer printing = is-name refl (each-more refl (each-more refl (each-more refl (each-more refl each-none))))
+
 comes-form : {s : List ℕ} {f : Form} → Spells s f → Comes 0 s (spellForm f)
 comes-form (an-assignment {u} {e} t q p) =
     comes-join 0 (spellTarget t) (spellTarget t) (equals ∷ u) (equals ∷ spellExpr e) (target-stays t q 0)
@@ -263,6 +268,9 @@ comes-form a-continue = name-stays wordContinue word-continue 0
 comes-form a-stop = name-stays wordStop word-stop 0
 comes-form an-end = name-stays wordEnd word-end 0
 comes-form (a-dimension a others q qs) = after-word wordDimension _ _ word-dimension (λ b o. list-stays spellArray array-stays a others q qs b)
+comes-form (a-transfer d n list q qs) =
+    after-word (wordOf d) _ _ (word-transfer d) (λ b o.
+    stays-join n (spellMore spellTarget list) (number-stays n q) (more-stay spellTarget target-stays list qs) b)
 
 -- A FORM'S TEXTS ARE ITS OWN TEXT BUT FOR PLUS SIGNS AT THE START OF EXPRESSIONS
 pub only-pluses : {s : List ℕ} {f : Form} → Spells s f → withoutPluses s ≡ spellForm f

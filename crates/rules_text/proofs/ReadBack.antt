@@ -14,10 +14,10 @@ use Rattle.rules_shared.specs.Limits.{limits}
 use Rattle.rules_object.specs.Check.{isDigit}
 use Rattle.rules_shared.specs.Lists.{Each, each-none, each-more}
 use Rattle.rules_shared.proofs.EachLaws.{each-head, each-tail, each-left, each-right}
-use Rattle.rules_text.specs.Trees.{Name, Digits, Addend, nothing, plus, minus, Subscript, constant, linear, Subscripts, one, two, Expr, con, var, elm, neg, par, bin, Target, cell, element, Array, array, Form, assign, goTo, computed, ifs, loop, continue, stop, end, dimension, addendConstants, subscriptNames, subscriptConstants, subscriptsNames, subscriptsConstants}
-use Rattle.rules_text.specs.Tokens.{leftParen, rightParen, star, plusSign, comma, minusSign, slash, equals, wordGoTo, wordIf, wordDo, wordContinue, wordStop, wordEnd, wordDimension, isLetterOrDigit, found, Reader, give, ahead, andThen, after, choose, starts, startsDigit, number, listed, whole}
-use Rattle.rules_text.specs.Grammar.{addend, linearOf, subscript, subscripts, place, operandOf, operand, sign, signed, sumOp, productOp, anExpression, aTerm, aFactor, moreTerms, moreFactors, joined, more, step, parse, expression, assignment, plainGoTo, rightExits, computedGoTo, arithmeticIf, parameter, doLoop, arrayShape, dimensions, readAssignment, readGoTo, readComputed, readIf, readDo, readContinue, readStop, readEnd, readDimension, formOf}
-use Rattle.rules_text.specs.Spelling.{spellAddend, spellSubscript, spellSubscripts, spellTarget, spellExpr, spellList, spellNumber, spellArray, spellBy, spellForm, IsDigits, IsName, is-name, Words, IsTarget, IsArray, IsNumberOrName, IsBy, Part, aSum, aProduct, aFactor, SpellsPart, first, after-plus, after-minus, added, less, only, times, over, a-number, a-name, an-element, parens, Spells, an-assignment, a-go-to, a-computed, an-if, a-loop, a-continue, a-stop, an-end, a-dimension}
+use Rattle.rules_text.specs.Trees.{Name, Digits, Addend, nothing, plus, minus, Subscript, constant, linear, Subscripts, one, two, Expr, con, var, elm, neg, par, bin, Target, cell, element, Array, array, Direction, reading, printing, Form, assign, goTo, computed, ifs, loop, continue, stop, end, dimension, transfer, addendConstants, subscriptNames, subscriptConstants, subscriptsNames, subscriptsConstants}
+use Rattle.rules_text.specs.Tokens.{leftParen, rightParen, star, plusSign, comma, minusSign, slash, equals, wordGoTo, wordIf, wordDo, wordContinue, wordStop, wordEnd, wordDimension, wordRead, wordPrint, isLetterOrDigit, found, Reader, give, ahead, andThen, after, choose, starts, startsDigit, number, listed, whole}
+use Rattle.rules_text.specs.Grammar.{addend, linearOf, subscript, subscripts, place, operandOf, operand, sign, signed, sumOp, productOp, anExpression, aTerm, aFactor, moreTerms, moreFactors, joined, more, step, parse, expression, assignment, plainGoTo, rightExits, computedGoTo, arithmeticIf, parameter, doLoop, arrayShape, dimensions, listAfter, transferOf, readAssignment, readGoTo, readComputed, readIf, readDo, readContinue, readStop, readEnd, readDimension, readTransfer, formOf}
+use Rattle.rules_text.specs.Spelling.{spellAddend, spellSubscript, spellSubscripts, spellTarget, spellExpr, spellMore, spellList, spellNumber, spellArray, spellBy, spellForm, IsDigits, IsName, is-name, Words, IsTarget, IsArray, IsNumberOrName, IsBy, Part, aSum, aProduct, aFactor, SpellsPart, first, after-plus, after-minus, added, less, only, times, over, a-number, a-name, an-element, parens, Spells, an-assignment, a-go-to, a-computed, an-if, a-loop, a-continue, a-stop, an-end, a-dimension, a-transfer}
 use Rattle.rules_text.proofs.Parse.{parse-step}
 use Rattle.rules_text.proofs.OneForm.{form-is}
 use Rattle.rules_text.proofs.Takes.{Takes, takes-as, takes-give, takes-give-if, takes-then, takes-both, takes-after, takes-word, takes-yes, takes-no, takes-whole, Clear, clear-none, clear-byte, takes-number, takes-name, no-digit, starts-digit, letter-no-digit, starts-no-digit, number-not, name-not, takes-list}
@@ -344,7 +344,8 @@ takes-exits : (ns : List Digits) (rest : List ℕ) → Each IsDigits ns → limi
 unfolding isLetterOrDigit starts
 takes-exits [] rest each-none l = absurd (omega arith)
 takes-exits (n ∷ ns) rest (each-more q qs) l =
-    takes-list spellNumber (λ a others p k. takes-number a others p (no-digit k)) n ns (rightParen ∷ rest) q qs (clear-byte refl) refl
+    takes-list spellNumber (Clear isLetterOrDigit) (λ a others p k. takes-number a others p (no-digit k)) (λ others. clear-byte refl) n ns (rightParen ∷ rest) q qs
+    (clear-byte refl) refl
 
 -- ---- the statement forms
 
@@ -391,9 +392,33 @@ takes-loop n v p q r qn qv qp qq qr =
 
 takes-dimension : (a : Array) (others : List Array) → IsArray a → Each IsArray others
     → Takes dimensions (spellForm (dimension (a ∷ others)) ++ []) (dimension (a ∷ others)) []
-unfolding dimensions starts
+unfolding dimensions starts isLetterOrDigit
 takes-dimension a others q qs =
-    takes-word wordDimension (takes-then _ (takes-list spellArray (λ b rest p k. takes-array b rest p) a others [] q qs clear-none refl) (takes-give _ _))
+    takes-word wordDimension (takes-then _ (takes-list spellArray (Clear isLetterOrDigit) (λ b rest p k. takes-array b rest p) (λ rest. clear-byte refl) a others [] q qs clear-none refl) (takes-give _ _))
+
+takes-list-after : (list : List Target) → Each IsTarget list → Takes listAfter (spellMore spellTarget list ++ []) list []
+unfolding listAfter starts
+takes-list-after [] each-none = takes-no _ _ refl (takes-give _ _)
+takes-list-after (t ∷ others) (each-more p ps) =
+    takes-yes _ _ refl (takes-after comma
+    (takes-list spellTarget Ends (λ x rest r k. takes-place x rest r (k .noWord) (k .noParen)) (λ rest. ends-comma rest .product .operand) t others [] p ps
+    (ends-text .product .operand) refl))
+
+-- a list is no more digits
+list-clear : (list : List Target) → Clear isDigit (spellMore spellTarget list ++ [])
+list-clear [] = clear-none
+list-clear (t ∷ others) = clear-byte refl
+
+takes-numbered : (d : Direction) (n : Digits) (list : List Target) → IsDigits n → Each IsTarget list
+    → Takes (andThen number (λ m. andThen listAfter (λ l. give (transfer d m l)))) ((n ++ spellMore spellTarget list) ++ []) (transfer d n list) []
+takes-numbered d n list q qs =
+    takes-both _ n (spellMore spellTarget list) [] (takes-number n _ q (list-clear list)) (takes-then _ (takes-list-after list qs) (takes-give _ _))
+
+takes-transfer : (d : Direction) (n : Digits) (list : List Target) → IsDigits n → Each IsTarget list
+    → Takes (transferOf d) (spellForm (transfer d n list) ++ []) (transfer d n list) []
+unfolding transferOf
+takes-transfer reading n list q qs = takes-word wordRead (takes-numbered reading n list q qs)
+takes-transfer printing n list q qs = takes-word wordPrint (takes-numbered printing n list q qs)
 
 -- ---- the whole text
 
@@ -402,7 +427,7 @@ all-read r s f p = subst (λ (t : List ℕ). whole r t ≡ some f) (append-nil s
 
 -- WHAT SPELLS A FORM IS READ AS IT
 pub read-back : {s : List ℕ} {f : Form} → Spells s f → formOf s ≡ some f
-unfolding readAssignment readGoTo readComputed readIf readDo readContinue readStop readEnd readDimension
+unfolding readAssignment readGoTo readComputed readIf readDo readContinue readStop readEnd readDimension readTransfer
 read-back (an-assignment {u} {e} t q p) = form-is _ 0 _ (ap some (all-read assignment _ _ (takes-assignment t u e q p)))
 read-back (a-go-to n q) = form-is _ 1 _ (ap some (all-read plainGoTo _ _ (takes-go-to n q)))
 read-back (a-computed ns v qs l m q) = form-is _ 2 _ (ap some (all-read computedGoTo _ _ (takes-computed ns v qs l m q)))
@@ -412,3 +437,5 @@ read-back a-continue = form-is _ 5 _ (ap some (all-read _ wordContinue continue 
 read-back a-stop = form-is _ 6 _ (ap some (all-read _ wordStop stop (takes-word wordStop (takes-give _ _))))
 read-back an-end = form-is _ 7 _ (ap some (all-read _ wordEnd end (takes-word wordEnd (takes-give _ _))))
 read-back (a-dimension a others q qs) = form-is _ 8 _ (ap some (all-read dimensions _ _ (takes-dimension a others q qs)))
+read-back (a-transfer reading n list q qs) = form-is _ 9 _ (ap some (all-read (transferOf reading) _ _ (takes-transfer reading n list q qs)))
+read-back (a-transfer printing n list q qs) = form-is _ 10 _ (ap some (all-read (transferOf printing) _ _ (takes-transfer printing n list q qs)))

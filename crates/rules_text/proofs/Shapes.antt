@@ -13,12 +13,12 @@ use Rattle.number.specs.Number.{Op, add, sub, mul, div}
 use Rattle.rules_shared.specs.Limits.{limits}
 use Rattle.rules_shared.specs.Lists.{Each, each-none, each-more}
 use Rattle.rules_shared.proofs.EachLaws.{each-one}
-use Rattle.rules_text.specs.Trees.{Expr, bin, Target, Array, Form, continue, stop, end}
-use Rattle.rules_text.specs.Tokens.{leftParen, rightParen, plusSign, comma, minusSign, equals, wordContinue, wordStop, wordEnd, Reader, give, afterWord, name}
-use Rattle.rules_text.specs.Grammar.{operandOf, operand, sign, signed, sumOp, productOp, Mode, anExpression, aTerm, aFactor, moreTerms, moreFactors, joined, more, step, parseIn, enough, parse, expression, assignment, plainGoTo, rightExits, computedGoTo, arithmeticIf, parameter, doLoop, arrayShape, dimensions, readAssignment, readGoTo, readComputed, readIf, readDo, readContinue, readStop, readEnd, readDimension, present, readings, firstOf, formOf}
+use Rattle.rules_text.specs.Trees.{Expr, bin, Target, Array, Direction, reading, printing, Form, continue, stop, end}
+use Rattle.rules_text.specs.Tokens.{leftParen, rightParen, plusSign, comma, minusSign, equals, wordContinue, wordStop, wordEnd, wordOf, Reader, give, afterWord, name}
+use Rattle.rules_text.specs.Grammar.{operandOf, operand, sign, signed, sumOp, productOp, Mode, anExpression, aTerm, aFactor, moreTerms, moreFactors, joined, more, step, parseIn, enough, parse, expression, assignment, plainGoTo, rightExits, computedGoTo, arithmeticIf, parameter, doLoop, arrayShape, dimensions, listAfter, transferOf, readAssignment, readGoTo, readComputed, readIf, readDo, readContinue, readStop, readEnd, readDimension, readTransfer, present, readings, firstOf, formOf}
 use Rattle.rules_text.specs.Shaped.{IsSum, first, minus, plus, less, IsProduct, only, times, over, IsFactor, parens, IsParameter, Shaped}
-use Rattle.rules_text.proofs.Readers.{Any, both-true, Sound, sound, sound-bad, sound-ahead, Good, good-then, good-give, good-give-if, good-after, good-word, good-choose, good-listed, good-any, good-number, good-name}
-use Rattle.rules_text.proofs.ReadTrees.{good-place}
+use Rattle.rules_text.proofs.Readers.{NotEquals, Any, both-true, Sound, sound, sound-bad, sound-ahead, Good, good-then, good-give, good-give-if, good-after, good-word, good-choose, good-listed, good-any, good-number, good-name}
+use Rattle.rules_text.proofs.ReadTrees.{RightTarget, good-place}
 use Rattle.rules_text.proofs.ReadForms.{is-parameter, whole-good}
 
 abbrev Anything : (A : Type 0) → A → Type 0
@@ -172,6 +172,14 @@ good-dimensions = good-word (all-any _) (good-then (good-listed tt shape) (λ ar
         (good-after comma tt (good-then (good-any good-number) (λ c p′. good-after rightParen tt (good-give _ tt))))
         (good-after rightParen tt (good-give _ tt)))))
 
+good-transfer : (d : Direction) → Good Any Shaped (transferOf d)
+unfolding transferOf listAfter
+good-transfer d =
+    good-word (all-any (wordOf d)) (good-then (good-any good-number) (λ n q. good-then (good-any list) (λ l qs. good-give _ tt)))
+  where
+    list : Good NotEquals (Each RightTarget) listAfter
+    list = good-choose _ (good-after comma refl (good-listed refl good-place)) (good-give _ each-none)
+
 -- ---- the whole text
 
 abbrev IsShaped : Option Form → Type 0
@@ -184,7 +192,7 @@ first-shaped (none ∷ os) f (each-more p ps) e = first-shaped os f ps e
 first-shaped (some g ∷ os) f (each-more p ps) e = p f e
 
 pub shaped : (s : List ℕ) (f : Form) → formOf s ≡ some f → Shaped f
-unfolding formOf readings readAssignment readGoTo readComputed readIf readDo readContinue readStop readEnd readDimension
+unfolding formOf readings readAssignment readGoTo readComputed readIf readDo readContinue readStop readEnd readDimension readTransfer
 shaped s f e =
     first-shaped _ f
     (each-more (λ g q. whole-good assignment s g good-assignment q .0)
@@ -195,5 +203,7 @@ shaped s f e =
     (each-more (λ g q. whole-good _ s g (good-bare wordContinue continue tt) q .0)
     (each-more (λ g q. whole-good _ s g (good-bare wordStop stop tt) q .0)
     (each-more (λ g q. whole-good _ s g (good-bare wordEnd end tt) q .0)
-    (each-one (λ g q. whole-good dimensions s g good-dimensions q .0))))))))))
+    (each-more (λ g q. whole-good dimensions s g good-dimensions q .0)
+    (each-more (λ g q. whole-good _ s g (good-transfer reading) q .0)
+    (each-one (λ g q. whole-good _ s g (good-transfer printing) q .0))))))))))))
     e

@@ -13,13 +13,13 @@ use Rattle.number.specs.Number.{Op, add, sub, mul, div}
 use Rattle.rules_shared.specs.Limits.{limits}
 use Rattle.rules_shared.specs.Lists.{Each, each-none, each-more}
 use Rattle.rules_shared.proofs.EachLaws.{each-head, each-tail, each-one, each-append}
-use Rattle.rules_text.specs.Trees.{Name, Digits, Addend, Subscript, linear, Subscripts, Expr, con, var, elm, neg, par, bin, Target, cell, element, Array, Form, assign, goTo, computed, ifs, loop, dimension, addendConstants, subscriptNames, subscriptConstants, subscriptsNames, subscriptsConstants}
-use Rattle.rules_text.specs.Tokens.{leftParen, rightParen, star, plusSign, comma, minusSign, slash, equals, wordGoTo, wordIf, wordDo, wordContinue, wordStop, wordEnd, wordDimension, Found, found, bad, Reader, giveIf, ahead, follow, andThen, choose, starts}
-use Rattle.rules_text.specs.Grammar.{addend, linearOf, subscript, subscripts, place, operandOf, operand, sign, signed, sumOp, productOp, Mode, anExpression, aTerm, aFactor, moreTerms, moreFactors, joined, more, step, parseIn, enough, parse, expression, assignment, plainGoTo, rightExits, computedGoTo, arithmeticIf, isParameter, parameter, doLoop, arrayShape, dimensions, readAssignment, readGoTo, readComputed, readIf, readDo, readContinue, readStop, readEnd, readDimension, present, readings, firstOf, formOf}
-use Rattle.rules_text.specs.Spelling.{spellAddend, spellSubscript, spellSubscripts, spellTarget, spellExpr, spellNumber, spellArray, spellBy, spellForm, IsDigits, IsName, Words, IsTarget, IsArray, IsNumberOrName, IsBy, aSum, aProduct, aFactor, SpellsPart, first, after-plus, after-minus, added, less, only, times, over, a-number, a-name, an-element, parens, Spells, an-assignment, a-go-to, a-computed, an-if, a-loop, a-continue, a-stop, an-end, a-dimension}
+use Rattle.rules_text.specs.Trees.{Name, Digits, Addend, Subscript, linear, Subscripts, Expr, con, var, elm, neg, par, bin, Target, cell, element, Array, Direction, reading, printing, Form, assign, goTo, computed, ifs, loop, dimension, transfer, addendConstants, subscriptNames, subscriptConstants, subscriptsNames, subscriptsConstants}
+use Rattle.rules_text.specs.Tokens.{leftParen, rightParen, star, plusSign, comma, minusSign, slash, equals, wordGoTo, wordIf, wordDo, wordContinue, wordStop, wordEnd, wordDimension, wordOf, Found, found, bad, Reader, giveIf, ahead, follow, andThen, choose, starts}
+use Rattle.rules_text.specs.Grammar.{addend, linearOf, subscript, subscripts, place, operandOf, operand, sign, signed, sumOp, productOp, Mode, anExpression, aTerm, aFactor, moreTerms, moreFactors, joined, more, step, parseIn, enough, parse, expression, assignment, plainGoTo, rightExits, computedGoTo, arithmeticIf, isParameter, parameter, doLoop, arrayShape, dimensions, listAfter, transferOf, readAssignment, readGoTo, readComputed, readIf, readDo, readContinue, readStop, readEnd, readDimension, readTransfer, present, readings, firstOf, formOf}
+use Rattle.rules_text.specs.Spelling.{spellAddend, spellSubscript, spellSubscripts, spellTarget, spellExpr, spellMore, spellNumber, spellArray, spellBy, spellForm, IsDigits, IsName, Words, IsTarget, IsArray, IsNumberOrName, IsBy, aSum, aProduct, aFactor, SpellsPart, first, after-plus, after-minus, added, less, only, times, over, a-number, a-name, an-element, parens, Spells, an-assignment, a-go-to, a-computed, an-if, a-loop, a-continue, a-stop, an-end, a-dimension, a-transfer}
 use Rattle.rules_text.proofs.Readers.{both-true}
 use Rattle.rules_text.proofs.ReadForms.{clash}
-use Rattle.rules_text.proofs.Tells.{Told, told, told-bad, Tells, told-ahead, tells-map, tells-then, tells-give, tells-give-if, tells-last, tells-after, tells-word, tells-choose, tells-whole, tells-number, tells-name, SpelledList, tells-listed}
+use Rattle.rules_text.proofs.Tells.{Told, told, told-bad, Tells, told-ahead, tells-map, tells-then, tells-give, tells-give-if, tells-last, tells-after, tells-word, tells-choose, tells-whole, tells-number, tells-name, SpelledList, more-is, tells-listed}
 
 -- ---- subscripts and targets
 
@@ -310,6 +310,24 @@ tells-dimensions : Tells Spells dimensions
 unfolding dimensions
 tells-dimensions = tells-word Spells wordDimension (tells-last _ (tells-listed spellArray tells-array) (λ arrays t p. dimension-from arrays t p))
 
+transfer-from : (d : Direction) (n : Digits) (list : List Target) (t u : List ℕ) → (t ≡ n) × IsDigits n → (u ≡ spellMore spellTarget list) × Each IsTarget list
+    → Spells (wordOf d ++ (t ++ u)) (transfer d n list)
+transfer-from d n list t u p q =
+    let is : wordOf d ++ (t ++ u) ≡ spellForm (transfer d n list) = (λ i. wordOf d ++ (p .0 i ++ q .0 i)) in
+    subst (λ (w : List ℕ). Spells w (transfer d n list)) (sym is) (a-transfer d n list (p .1) (q .1))
+
+tells-list-after : Tells (λ t list. (t ≡ spellMore spellTarget list) × Each IsTarget list) listAfter
+unfolding listAfter
+tells-list-after =
+    tells-choose _
+    (tells-after comma (tells-map (λ t list q. ((λ i. comma ∷ q .0 i) ∙ more-is spellTarget list (q .2), q .1)) (tells-listed spellTarget tells-place)))
+    (tells-give _ (refl, each-none))
+
+tells-transfer : (d : Direction) → Tells Spells (transferOf d)
+unfolding transferOf
+tells-transfer d =
+    tells-word Spells (wordOf d) (tells-then tells-number (λ n t p. tells-last _ tells-list-after (λ list u q. transfer-from d n list t u p q)))
+
 -- ---- the whole text
 
 abbrev SpelledBy : List ℕ → Option Form → Type 0
@@ -325,7 +343,7 @@ first-spelled s (some g ∷ os) f (each-more p ps) e = p f e
 
 -- WHAT WAS READ AS A FORM SPELLS IT
 pub read-spells : (s : List ℕ) (f : Form) → formOf s ≡ some f → Spells s f
-unfolding formOf readings readAssignment readGoTo readComputed readIf readDo readContinue readStop readEnd readDimension
+unfolding formOf readings readAssignment readGoTo readComputed readIf readDo readContinue readStop readEnd readDimension readTransfer
 read-spells s f e =
     first-spelled s _ f
     (each-more (λ g q. tells-whole assignment s g tells-assignment q)
@@ -336,5 +354,7 @@ read-spells s f e =
     (each-more (λ g q. tells-whole _ s g (tells-word Spells wordContinue (tells-give _ a-continue)) q)
     (each-more (λ g q. tells-whole _ s g (tells-word Spells wordStop (tells-give _ a-stop)) q)
     (each-more (λ g q. tells-whole _ s g (tells-word Spells wordEnd (tells-give _ an-end)) q)
-    (each-one (λ g q. tells-whole dimensions s g tells-dimensions q))))))))))
+    (each-more (λ g q. tells-whole dimensions s g tells-dimensions q)
+    (each-more (λ g q. tells-whole _ s g (tells-transfer reading) q)
+    (each-one (λ g q. tells-whole _ s g (tells-transfer printing) q))))))))))))
     e

@@ -1,8 +1,7 @@
--- Reading and spelling agree: a text is read as a form exactly if it spells it, every form that can be spelled is read back, and a form's texts
+-- Reading and spelling of texts agree: a text has no form exactly if it spells none, every form that can be spelled is read back, and a form's texts
 -- differ from its own by plus signs only.
 -- Assumes nothing.
 use mathlib.Core.Path.{_≡_, refl, sym, _∙_}
-use mathlib.Core.Logic.{_↔_}
 use mathlib.Core.List.{List, [], _∷_, _++_}
 use mathlib.Core.Option.{Option, some, none}
 use Prim.Native.Nat.{ℕ}
@@ -10,11 +9,11 @@ use native.Mathlib.Omega.{arith}
 use Rattle.number.specs.Number.{Op, add, sub, mul, div}
 use Rattle.rules_shared.specs.Lists.{Each, each-none, each-more}
 use Rattle.rules_shared.proofs.EachLaws.{each-head, each-tail, each-left, each-right}
-use Rattle.rules_text.specs.Trees.{Expr, con, var, bin, exprNames, exprConstants, optional, written, element, targetNames, targetConstants, Array, array, arrayNames, arrayConstants, Form, assign, goTo, computed, ifs, loop, continue, stop, end, dimension, formNames, formConstants, formExits, formLast}
+use Rattle.rules_text.specs.Trees.{Expr, con, var, bin, exprNames, exprConstants, optional, written, Target, element, targetNames, targetConstants, listNames, listConstants, Array, array, arrayNames, arrayConstants, Form, assign, goTo, computed, ifs, loop, continue, stop, end, dimension, transfer, format, formNames, formConstants, formExits, formLast, formUses}
 use Rattle.rules_text.specs.Grammar.{formOf}
 use Rattle.rules_text.specs.Shaped.{IsSum, IsProduct, IsFactor, IsParameter, OptionalParameter}
-use Rattle.rules_text.specs.Spelling.{spellExpr, spellForm, Words, IsArray, IsNumberOrName, IsBy, aSum, aProduct, aFactor, SpellsPart, first, after-minus, added, less, only, times, over, a-number, a-name, an-element, parens, Spells, an-assignment, a-go-to, a-computed, an-if, a-loop, a-continue, a-stop, an-end, a-dimension, SomeArray, Spellable, withoutPluses}
-use Rattle.rules_text.proofs.ReadForms.{read-names, read-constants, read-exits, read-last}
+use Rattle.rules_text.specs.Spelling.{spellExpr, spellForm, Words, IsTarget, IsArray, IsNumberOrName, IsBy, aSum, aProduct, aFactor, SpellsPart, first, after-minus, added, less, only, times, over, a-number, a-name, an-element, parens, Spells, an-assignment, a-go-to, a-computed, an-if, a-loop, a-continue, a-stop, an-end, a-dimension, a-transfer, HasText, Spellable, withoutPluses}
+use Rattle.rules_text.proofs.ReadForms.{read-names, read-constants, read-exits, read-last, read-uses}
 use Rattle.rules_text.proofs.Shapes.{shaped}
 use Rattle.rules_text.proofs.ReadBack.{read-back}
 use Rattle.rules_text.proofs.SpelledText.{read-spells}
@@ -64,9 +63,16 @@ each-array (array v r c ∷ others) w =
     each-more one
     (each-array others (each-tail (w .0), each-right (optional c) (arrayConstants others) (each-tail (w .1))))
 
+each-target : (list : List Target) → Words (listNames list) (listConstants list) → Each IsTarget list
+each-target [] w = each-none
+each-target (t ∷ others) w =
+    let one : IsTarget t = (each-left (targetNames t) (listNames others) (w .0), each-left (targetConstants t) (listConstants others) (w .1)) in
+    each-more one
+    (each-target others (each-right (targetNames t) (listNames others) (w .0), each-right (targetConstants t) (listConstants others) (w .1)))
+
 -- EVERY FORM THAT CAN BE SPELLED IS SPELLED BY ITS TEXT
-spelled : (f : Form) → Spellable f → Spells (spellForm f) f
-unfolding formNames formConstants formExits formLast
+pub spelled : (f : Form) → Spellable f → Spells (spellForm f) f
+unfolding formNames formConstants formExits formLast formUses
 spelled (assign t e) p =
     an-assignment t (each-left (targetNames t) (exprNames e) (p .names), each-left (targetConstants t) (exprConstants e) (p .constants))
     (spelled-sum (p .shape) (each-right (targetNames t) (exprNames e) (p .names), each-right (targetConstants t) (exprConstants e) (p .constants)))
@@ -85,10 +91,12 @@ spelled (loop n v x y z) p =
 spelled continue p = a-continue
 spelled stop p = a-stop
 spelled end p = an-end
-spelled (dimension []) p = absurd (p .arrays)
+spelled (dimension []) p = absurd (p .text)
 spelled (dimension (a ∷ others)) p =
     let all = each-array (a ∷ others) (p .names, p .constants) in
     a-dimension a others (each-head all) (each-tail all)
+spelled (transfer d n list) p = a-transfer d n list (each-head (p .uses)) (each-target list (p .names, p .constants))
+spelled (format f) p = absurd (p .text)
 
 -- EVERY FORM THAT CAN BE SPELLED IS READ BACK
 pub spell-read : (f : Form) → Spellable f → formOf (spellForm f) ≡ some f
@@ -96,38 +104,36 @@ spell-read f p = read-back (spelled f p)
 
 -- ---- what is spelled by some text can be spelled
 
-some-array : {s : List ℕ} {f : Form} → Spells s f → SomeArray f
-some-array (an-assignment t q p) = tt
-some-array (a-go-to n q) = tt
-some-array (a-computed ns v qs l m q) = tt
-some-array (an-if a b c p qa qb qc) = tt
-some-array (a-loop n v p q r qn qv qp qq qr) = tt
-some-array a-continue = tt
-some-array a-stop = tt
-some-array an-end = tt
-some-array (a-dimension a others q qs) = tt
+has-text : {s : List ℕ} {f : Form} → Spells s f → HasText f
+has-text (an-assignment t q p) = tt
+has-text (a-go-to n q) = tt
+has-text (a-computed ns v qs l m q) = tt
+has-text (an-if a b c p qa qb qc) = tt
+has-text (a-loop n v p q r qn qv qp qq qr) = tt
+has-text a-continue = tt
+has-text a-stop = tt
+has-text an-end = tt
+has-text (a-dimension a others q qs) = tt
+has-text (a-transfer d n list q qs) = tt
 
 spellable : {s : List ℕ} {f : Form} → Spells s f → Spellable f
 spellable {s} {f} p =
     let e = read-back p in
     record {
       shape = shaped s f e;
-      arrays = some-array p;
+      text = has-text p;
       names = read-names s f e;
       constants = read-constants s f e;
       exits = read-exits s f e;
       last = read-last s f e;
+      uses = read-uses s f e;
     }
 
 -- WHAT IS READ IS ITS FORM'S OWN TEXT, BUT FOR PLUS SIGNS
 pub own-text : (s : List ℕ) (f : Form) → formOf s ≡ some f → Spellable f × (withoutPluses s ≡ spellForm f)
 own-text s f e = let p = read-spells s f e in (spellable p, only-pluses p)
 
--- A TEXT IS READ AS A FORM EXACTLY IF IT SPELLS IT
-pub read-exactly : (s : List ℕ) (f : Form) → (formOf s ≡ some f) ↔ Spells s f
-read-exactly s f = (λ e. read-spells s f e, λ p. read-back p)
-
--- A TEXT HAS NO FORM (10) EXACTLY IF IT SPELLS NONE
+-- A TEXT HAS NO FORM EXACTLY IF IT SPELLS NONE
 pub none-spelled : (s : List ℕ) → formOf s ≡ none → (f : Form) → Spells s f → ⊥
 none-spelled s e f p =
     let same : none ≡ some f = sym e ∙ read-back p in
@@ -140,9 +146,3 @@ none-read s h = go (formOf s) refl
     go : (o : Option Form) → formOf s ≡ o → formOf s ≡ none
     go none e = e
     go (some f) e = absurd (h f (read-spells s f e))
-
--- NO TEXT SPELLS TWO FORMS
-pub one-spelled : {s : List ℕ} {f g : Form} → Spells s f → Spells s g → f ≡ g
-one-spelled {s} {f} {g} p q =
-    let same : some f ≡ some g = sym (read-back p) ∙ read-back q in
-    cc

@@ -163,13 +163,14 @@ name-not b (c ∷ s) rest l (is-name p ps) = let k = letter-bounds c p in ne-eqb
 
 -- ---- lists
 
-module _ {A : Type 0} {P : A → Type 0} {r : Reader A} (spell : A → List ℕ) where
-  pub takes-list : ((a : A) (rest : List ℕ) → P a → Clear isLetterOrDigit rest → Takes r (spell a ++ rest) a rest)
-      → (a : A) (others : List A) (rest : List ℕ) → P a → Each P others → Clear isLetterOrDigit rest → starts comma rest ≡ false
+-- `Ends` is what may follow one, as a comma may
+module _ {A : Type 0} {P : A → Type 0} {r : Reader A} (spell : A → List ℕ) (Ends : List ℕ → Type 0) where
+  pub takes-list : ((a : A) (rest : List ℕ) → P a → Ends rest → Takes r (spell a ++ rest) a rest) → ((rest : List ℕ) → Ends (comma ∷ rest))
+      → (a : A) (others : List A) (rest : List ℕ) → P a → Each P others → Ends rest → starts comma rest ≡ false
       → Takes (listed r) (spellList spell (a ∷ others) ++ rest) (a ∷ others) rest
-  unfolding listStep starts isLetterOrDigit
-  takes-list each a [] rest p each-none k n =
+  unfolding listStep starts
+  takes-list each before-comma a [] rest p each-none k n =
       takes-as (listed-step r _) (takes-both _ (spell a) [] rest (each a rest p k) (takes-no _ _ n (takes-give _ _)))
-  takes-list each a (b ∷ others) rest p (each-more q qs) k n =
-      takes-as (listed-step r _) (takes-both _ (spell a) (spellMore spell (b ∷ others)) rest (each a _ p (clear-byte refl))
-      (takes-yes _ _ refl (takes-after comma (takes-then _ (takes-list each b others rest q qs k n) (takes-give _ _)))))
+  takes-list each before-comma a (b ∷ others) rest p (each-more q qs) k n =
+      takes-as (listed-step r _) (takes-both _ (spell a) (spellMore spell (b ∷ others)) rest (each a _ p (before-comma _))
+      (takes-yes _ _ refl (takes-after comma (takes-then _ (takes-list each before-comma b others rest q qs k n) (takes-give _ _)))))

@@ -148,7 +148,7 @@ module _ {A : Type 0} (P : A → Type 0) (spell : A → List ℕ) where
   abbrev pub SpelledList : List ℕ → List A → Type 0
   SpelledList t l = (t ≡ spellList spell l) × Each P l × NotEmpty l
 
-more-is : {A : Type 0} (spell : A → List ℕ) (l : List A) → NotEmpty l → comma ∷ spellList spell l ≡ spellMore spell l
+pub more-is : {A : Type 0} (spell : A → List ℕ) (l : List A) → NotEmpty l → comma ∷ spellList spell l ≡ spellMore spell l
 more-is spell [] n = absurd n
 more-is spell (a ∷ others) n = refl
 

@@ -1,4 +1,4 @@
--- The grammar of 01 "Statements": subscripts, expressions, and each statement form as a reader of the whole text.
+-- The grammar of 01 "Statements" and of READ and PRINT: subscripts, expressions, and each statement form as a reader of the whole text.
 -- Names of any length and first letter, constants and numbers of any length, and parentheses of any depth are read: 11 to 14 are
 -- tested on what was read.
 -- Assumes nothing.
@@ -10,8 +10,8 @@ use lib.Dec.{leb, eqb}
 use lib.ListN.{length}
 use Rattle.number.specs.Number.{Op, add, sub, mul, div}
 use Rattle.rules_shared.specs.Limits.{limits}
-use Rattle.rules_text.specs.Trees.{Digits, Addend, nothing, plus, minus, Subscript, constant, linear, Subscripts, one, two, Expr, con, var, elm, neg, par, bin, Target, cell, element, Array, array, Form, assign, goTo, computed, ifs, loop, continue, stop, end, dimension}
-use Rattle.rules_text.specs.Tokens.{leftParen, rightParen, star, plusSign, comma, minusSign, slash, equals, wordGoTo, wordIf, wordDo, wordContinue, wordStop, wordEnd, wordDimension, found, bad, Reader, give, giveIf, ahead, andThen, after, afterWord, choose, starts, startsDigit, whole, number, name, listed}
+use Rattle.rules_text.specs.Trees.{Digits, Addend, nothing, plus, minus, Subscript, constant, linear, Subscripts, one, two, Expr, con, var, elm, neg, par, bin, Target, cell, element, Array, array, Direction, reading, printing, Form, assign, goTo, computed, ifs, loop, continue, stop, end, dimension, transfer}
+use Rattle.rules_text.specs.Tokens.{leftParen, rightParen, star, plusSign, comma, minusSign, slash, equals, wordGoTo, wordIf, wordDo, wordContinue, wordStop, wordEnd, wordDimension, wordOf, found, bad, Reader, give, giveIf, ahead, andThen, after, afterWord, choose, starts, startsDigit, whole, number, name, listed}
 
 -- ---- subscripts: v, c, v+c, v-c, c*v, c*v+c, c*v-c
 
@@ -169,6 +169,14 @@ arrayShape =
 unfoldable pub dimensions : Reader Form
 dimensions = afterWord wordDimension (andThen (listed arrayShape) (λ arrays. give (dimension arrays)))
 
+-- a comma and a list, or nothing
+unfoldable pub listAfter : Reader (List Target)
+listAfter = choose (starts comma) (after comma (listed place)) (give [])
+
+-- READn, READn,list, PRINTn or PRINTn,list
+unfoldable pub transferOf : Direction → Reader Form
+transferOf d = afterWord (wordOf d) (andThen number (λ n. andThen listAfter (λ list. give (transfer d n list))))
+
 -- ---- what form a text is of
 
 unfoldable pub readAssignment : List ℕ → Option Form
@@ -198,22 +206,25 @@ readEnd = whole (afterWord wordEnd (give end))
 unfoldable pub readDimension : List ℕ → Option Form
 readDimension = whole dimensions
 
+unfoldable pub readTransfer : Direction → List ℕ → Option Form
+readTransfer d = whole (transferOf d)
+
 unfoldable pub present : List (Option Form) → List Form
 present [] = []
 present (none ∷ others) = present others
 present (some f ∷ others) = f ∷ present others
 
--- every form that the text is of, in 01's order
+-- every form that the text is of, in 01's order, then READ and PRINT
 unfoldable pub readings : List ℕ → List Form
 readings s =
     present
     (readAssignment s ∷ readGoTo s ∷ readComputed s ∷ readIf s ∷ readDo s
-    ∷ readContinue s ∷ readStop s ∷ readEnd s ∷ readDimension s ∷ [])
+    ∷ readContinue s ∷ readStop s ∷ readEnd s ∷ readDimension s ∷ readTransfer reading s ∷ readTransfer printing s ∷ [])
 
 unfoldable pub firstOf : List Form → Option Form
 firstOf [] = none
 firstOf (f ∷ others) = some f
 
--- the statement's form; none is refused 10
+-- the form of a text
 unfoldable pub formOf : List ℕ → Option Form
 formOf s = firstOf (readings s)

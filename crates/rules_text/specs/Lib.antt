@@ -4,4 +4,5 @@ pub mod Tokens
 pub mod Grammar
 pub mod Shaped
 pub mod Spelling
+pub mod Statements
 pub mod Punch

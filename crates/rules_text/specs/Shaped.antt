@@ -5,7 +5,7 @@ use mathlib.Core.Option.{Option, none, some}
 use lib.ListN.{length}
 use Rattle.number.specs.Number.{add, sub, mul, div}
 use Rattle.rules_shared.specs.Limits.{limits}
-use Rattle.rules_text.specs.Trees.{Digits, Subscripts, Name, Expr, con, var, elm, neg, par, bin, Form, assign, goTo, computed, ifs, loop, continue, stop, end, dimension}
+use Rattle.rules_text.specs.Trees.{Digits, Subscripts, Name, Expr, con, var, elm, neg, par, bin, Form, assign, goTo, computed, ifs, loop, continue, stop, end, dimension, transfer, format}
 
 mutual
   pub data IsSum : Expr → Type 0 where
@@ -44,3 +44,5 @@ Shaped continue = Unit {0}
 Shaped stop = Unit {0}
 Shaped end = Unit {0}
 Shaped (dimension arrays) = Unit {0}
+Shaped (transfer d n list) = Unit {0}
+Shaped (format f) = Unit {0}

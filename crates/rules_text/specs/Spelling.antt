@@ -13,8 +13,8 @@ use Rattle.number.specs.Number.{Op, add, sub, mul, div}
 use Rattle.rules_shared.specs.Limits.{limits}
 use Rattle.rules_object.specs.Check.{isLetter, isDigit}
 use Rattle.rules_shared.specs.Lists.{Each}
-use Rattle.rules_text.specs.Trees.{Name, Digits, Addend, nothing, plus, minus, Subscript, constant, linear, Subscripts, one, two, Expr, con, var, elm, neg, par, bin, Target, cell, element, Array, array, Form, assign, goTo, computed, ifs, loop, continue, stop, end, dimension, targetNames, targetConstants, optional, formNames, formConstants, formExits, formLast}
-use Rattle.rules_text.specs.Tokens.{leftParen, rightParen, star, plusSign, comma, minusSign, slash, equals, wordGoTo, wordIf, wordDo, wordContinue, wordStop, wordEnd, wordDimension, isLetterOrDigit}
+use Rattle.rules_text.specs.Trees.{Name, Digits, Addend, nothing, plus, minus, Subscript, constant, linear, Subscripts, one, two, Expr, con, var, elm, neg, par, bin, Target, cell, element, Array, array, Direction, Form, assign, goTo, computed, ifs, loop, continue, stop, end, dimension, transfer, format, targetNames, targetConstants, optional, formNames, formConstants, formExits, formLast, formUses}
+use Rattle.rules_text.specs.Tokens.{leftParen, rightParen, star, plusSign, comma, minusSign, slash, equals, wordGoTo, wordIf, wordDo, wordContinue, wordStop, wordEnd, wordDimension, wordOf, isLetterOrDigit}
 use Rattle.rules_text.specs.Shaped.{Shaped}
 
 -- ---- the text of a tree
@@ -83,6 +83,8 @@ spellForm continue = wordContinue
 spellForm stop = wordStop
 spellForm end = wordEnd
 spellForm (dimension arrays) = wordDimension ++ spellList spellArray arrays
+spellForm (transfer d n list) = wordOf d ++ (n ++ spellMore spellTarget list)
+spellForm (format f) = []
 
 -- ---- the words that names and numbers are
 
@@ -154,29 +156,34 @@ pub data Spells : List ℕ → Form → Type 0 where
   a-stop : Spells wordStop stop
   an-end : Spells wordEnd end
   a-dimension : (a : Array) (others : List Array) → IsArray a → Each IsArray others → Spells (spellForm (dimension (a ∷ others))) (dimension (a ∷ others))
+  a-transfer : (d : Direction) (n : Digits) (list : List Target) → IsDigits n → Each IsTarget list → Spells (spellForm (transfer d n list)) (transfer d n list)
 
 -- ---- the trees that have a text
 
-abbrev pub SomeArray : Form → Type 0
-SomeArray (assign t e) = Unit {0}
-SomeArray (goTo n) = Unit {0}
-SomeArray (computed ns v) = Unit {0}
-SomeArray (ifs e a b c) = Unit {0}
-SomeArray (loop n v p q r) = Unit {0}
-SomeArray continue = Unit {0}
-SomeArray stop = Unit {0}
-SomeArray end = Unit {0}
-SomeArray (dimension []) = ⊥
-SomeArray (dimension (a ∷ others)) = Unit {0}
+-- a DIMENSION has an array, and a FORMAT has no text without the blanks of its columns
+abbrev pub HasText : Form → Type 0
+HasText (assign t e) = Unit {0}
+HasText (goTo n) = Unit {0}
+HasText (computed ns v) = Unit {0}
+HasText (ifs e a b c) = Unit {0}
+HasText (loop n v p q r) = Unit {0}
+HasText continue = Unit {0}
+HasText stop = Unit {0}
+HasText end = Unit {0}
+HasText (dimension []) = ⊥
+HasText (dimension (a ∷ others)) = Unit {0}
+HasText (transfer d n list) = Unit {0}
+HasText (format f) = ⊥
 
 -- shaped as the grammar says, with words for names and numbers
 pub record Spellable (f : Form) : Type 0 where
   pub shape : Shaped f
-  pub arrays : SomeArray f
+  pub text : HasText f
   pub names : Each IsName (formNames f)
   pub constants : Each IsDigits (formConstants f)
   pub exits : Each IsDigits (formExits f)
   pub last : Each IsDigits (formLast f)
+  pub uses : Each IsDigits (formUses f)
 
 -- ---- the texts of one tree
 

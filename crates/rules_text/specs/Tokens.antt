@@ -8,7 +8,7 @@ use mathlib.Core.Option.{Option, none, some}
 use lib.Dec.{eqb}
 use lib.ListN.{length, take, drop}
 use Rattle.rules_object.specs.Check.{isLetter, isDigit}
-use Rattle.rules_text.specs.Trees.{Name, Digits}
+use Rattle.rules_text.specs.Trees.{Name, Digits, Direction, reading, printing}
 
 -- ---- bytes: ( ) * + , - / =
 
@@ -68,6 +68,22 @@ wordEnd = 69 ∷ 78 ∷ 68 ∷ []
 -- DIMENSION
 abbrev pub wordDimension : List ℕ
 wordDimension = 68 ∷ 73 ∷ 77 ∷ 69 ∷ 78 ∷ 83 ∷ 73 ∷ 79 ∷ 78 ∷ []
+
+-- READ
+abbrev pub wordRead : List ℕ
+wordRead = 82 ∷ 69 ∷ 65 ∷ 68 ∷ []
+
+-- PRINT
+abbrev pub wordPrint : List ℕ
+wordPrint = 80 ∷ 82 ∷ 73 ∷ 78 ∷ 84 ∷ []
+
+-- FORMAT
+abbrev pub wordFormat : List ℕ
+wordFormat = 70 ∷ 79 ∷ 82 ∷ 77 ∷ 65 ∷ 84 ∷ []
+
+abbrev pub wordOf : Direction → List ℕ
+wordOf reading = wordRead
+wordOf printing = wordPrint
 
 -- ---- readers
 

@@ -1,10 +1,11 @@
--- A deck's statements as trees. Names, constants and numbers stand in them as written. 01 "Statements".
+-- A deck's statements as trees. Names, constants and numbers stand in them as written. 01 "Statements", 2026-01.
 -- Assumes nothing.
 use Prim.Native.Nat.{ℕ, suc, _+_, _-_, _*_, max}
 use mathlib.Core.Bool.{Bool, true, false}
 use mathlib.Core.List.{List, [], _∷_, _++_, map}
 use mathlib.Core.Option.{Option, none, some}
 use Rattle.number.specs.Number.{Op}
+use Rattle.rules_formats.specs.Format.{Format}
 
 -- a letter, then letters or digits: v
 abbrev pub Name : Type 0
@@ -43,13 +44,16 @@ pub data Expr : Type 0 where
   neg par : Expr → Expr
   bin : Op → Expr → Expr → Expr
 
--- an assignment's target is a plain cell or an element
+-- an assignment's target and an item of a list are a plain name or an element; a plain name in a list may be an array's
 pub data Target : Type 0 where
   cell : Name → Target
   element : Name → Subscripts → Target
 
 pub data Array : Type 0 where
   array : Name → Digits → Option Digits → Array
+
+pub data Direction : Type 0 where
+  reading printing : Direction
 
 pub data Form : Type 0 where
   assign : Target → Expr → Form
@@ -60,6 +64,10 @@ pub data Form : Type 0 where
   loop : Digits → Name → Expr → Expr → Option Expr → Form
   continue stop end : Form
   dimension : List Array → Form
+  -- READ or PRINT: its FORMAT's number, and the list
+  transfer : Direction → Digits → List Target → Form
+  -- what is spelled after FORMAT; nothing where that is none of its forms
+  format : Option Format → Form
 
 -- a statement with its number, 0 where none is punched
 pub record Statement : Type 0 where
@@ -97,6 +105,10 @@ abbrev pub arrayNames : List Array → List Name
 arrayNames [] = []
 arrayNames (array v r c ∷ more) = v ∷ arrayNames more
 
+abbrev pub listNames : List Target → List Name
+listNames [] = []
+listNames (t ∷ more) = targetNames t ++ listNames more
+
 abbrev pub addendConstants : Addend → List Digits
 addendConstants nothing = []
 addendConstants (plus c) = c ∷ []
@@ -130,6 +142,10 @@ abbrev pub arrayConstants : List Array → List Digits
 arrayConstants [] = []
 arrayConstants (array v r c ∷ more) = r ∷ (optional c ++ arrayConstants more)
 
+abbrev pub listConstants : List Target → List Digits
+listConstants [] = []
+listConstants (t ∷ more) = targetConstants t ++ listConstants more
+
 -- how deep an expression's own parentheses go
 abbrev pub levels : Expr → ℕ
 levels (con c) = 0
@@ -151,6 +167,7 @@ pub data Phrase : Type 0 where
   -- a DO's third parameter
   steps : Option Expr → Phrase
   declares : List Array → Phrase
+  lists : Direction → List Target → Phrase
 
 -- what a DO opens
 pub record Range : Type 0 where
@@ -163,36 +180,44 @@ pub record Parts : Type 0 where
   -- the numbers that it jumps to
   pub exits : List Digits
   pub opens : List Range
+  -- the number of the FORMAT that it uses
+  pub uses : List Digits
   -- a run comes to it
   pub executable : Bool
   -- it may be a DO's last statement
   pub mayEnd : Bool
   pub isEnd : Bool
   pub isDimension : Bool
+  pub isFormat : Bool
 
 abbrev pub partsOf : Form → Parts
 partsOf (assign t e) =
-    record { text = sets t ∷ computes e ∷ []; exits = []; opens = []; executable = true; mayEnd = true; isEnd = false; isDimension = false }
-partsOf (goTo n) = record { text = []; exits = n ∷ []; opens = []; executable = true; mayEnd = false; isEnd = false; isDimension = false }
+    record { text = sets t ∷ computes e ∷ []; exits = []; opens = []; uses = []; executable = true; mayEnd = true; isEnd = false; isDimension = false; isFormat = false }
+partsOf (goTo n) = record { text = []; exits = n ∷ []; opens = []; uses = []; executable = true; mayEnd = false; isEnd = false; isDimension = false; isFormat = false }
 partsOf (computed ns v) =
-    record { text = chooses v ∷ []; exits = ns; opens = []; executable = true; mayEnd = false; isEnd = false; isDimension = false }
+    record { text = chooses v ∷ []; exits = ns; opens = []; uses = []; executable = true; mayEnd = false; isEnd = false; isDimension = false; isFormat = false }
 partsOf (ifs e a b c) =
-    record { text = computes e ∷ []; exits = a ∷ b ∷ c ∷ []; opens = []; executable = true; mayEnd = false; isEnd = false; isDimension = false }
+    record { text = computes e ∷ []; exits = a ∷ b ∷ c ∷ []; opens = []; uses = []; executable = true; mayEnd = false; isEnd = false; isDimension = false; isFormat = false }
 partsOf (loop n v p q r) =
     record {
       text = sets (cell v) ∷ computes p ∷ computes q ∷ steps r ∷ [];
       exits = [];
       opens = record { last = n; variable = v } ∷ [];
+      uses = [];
       executable = true;
       mayEnd = false;
       isEnd = false;
       isDimension = false;
+      isFormat = false;
     }
-partsOf continue = record { text = []; exits = []; opens = []; executable = true; mayEnd = true; isEnd = false; isDimension = false }
-partsOf stop = record { text = []; exits = []; opens = []; executable = true; mayEnd = false; isEnd = false; isDimension = false }
-partsOf end = record { text = []; exits = []; opens = []; executable = true; mayEnd = true; isEnd = true; isDimension = false }
+partsOf continue = record { text = []; exits = []; opens = []; uses = []; executable = true; mayEnd = true; isEnd = false; isDimension = false; isFormat = false }
+partsOf stop = record { text = []; exits = []; opens = []; uses = []; executable = true; mayEnd = false; isEnd = false; isDimension = false; isFormat = false }
+partsOf end = record { text = []; exits = []; opens = []; uses = []; executable = true; mayEnd = true; isEnd = true; isDimension = false; isFormat = false }
 partsOf (dimension arrays) =
-    record { text = declares arrays ∷ []; exits = []; opens = []; executable = false; mayEnd = true; isEnd = false; isDimension = true }
+    record { text = declares arrays ∷ []; exits = []; opens = []; uses = []; executable = false; mayEnd = true; isEnd = false; isDimension = true; isFormat = false }
+partsOf (transfer d n list) =
+    record { text = lists d list ∷ []; exits = []; opens = []; uses = n ∷ []; executable = true; mayEnd = true; isEnd = false; isDimension = false; isFormat = false }
+partsOf (format f) = record { text = []; exits = []; opens = []; uses = []; executable = false; mayEnd = false; isEnd = false; isDimension = false; isFormat = true }
 
 -- what each gives, one after the other
 abbrev pub gathered : {A B : Type 0} → (A → List B) → List A → List B
@@ -206,6 +231,7 @@ phraseNames (chooses v) = v ∷ []
 phraseNames (computes e) = exprNames e
 phraseNames (steps r) = written exprNames r
 phraseNames (declares arrays) = arrayNames arrays
+phraseNames (lists d list) = listNames list
 
 unfoldable pub formNames : Form → List Name
 formNames f = gathered phraseNames (partsOf f .text)
@@ -216,6 +242,7 @@ phraseConstants (chooses v) = []
 phraseConstants (computes e) = exprConstants e
 phraseConstants (steps r) = written exprConstants r
 phraseConstants (declares arrays) = arrayConstants arrays
+phraseConstants (lists d list) = listConstants list
 
 -- every c, wherever it stands
 unfoldable pub formConstants : Form → List Digits
@@ -229,7 +256,11 @@ formExits f = partsOf f .exits
 unfoldable pub formLast : Form → List Digits
 formLast f = map (λ (d : Range). d .last) (partsOf f .opens)
 
--- every number in its text
+-- the number of the FORMAT that it uses
+unfoldable pub formUses : Form → List Digits
+formUses f = partsOf f .uses
+
+-- the numbers that are to be of other statements than FORMATs
 abbrev pub formNumbers : Form → List Digits
 formNumbers f = formExits f ++ formLast f
 
@@ -239,6 +270,7 @@ phraseExprs (chooses v) = []
 phraseExprs (computes e) = e ∷ []
 phraseExprs (steps r) = written (λ e. e ∷ []) r
 phraseExprs (declares arrays) = []
+phraseExprs (lists d list) = []
 
 -- the most levels, where some expressions have n
 abbrev pub deepest : ℕ → List Expr → ℕ

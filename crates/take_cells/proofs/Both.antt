@@ -6,47 +6,53 @@ use native.Mathlib.Omega.{arith}
 use mathlib.Core.Bool.{Bool, true, false, _&&_}
 use mathlib.Core.List.{List, [], _∷_, _++_}
 use Rattle.rules_deck.specs.Translation.{Held, hidden, appear}
-use Rattle.take_draft.specs.Parts.{itemsPlain, rightItems}
+use Rattle.take_draft.specs.Parts.{itemsPlain, allPlainIn}
 use Rattle.take_draft.specs.Names.{Lists, namesFit}
 use Rattle.take_name_table.specs.declared.Grown.{Grown}
 use Rattle.take_name_table.specs.declared.Grown.the-variants.{Names, Full}
-use Rattle.take_references.specs.Rights.{References}
+use Rattle.take_references.specs.Rights.{rightAll, References}
 use Rattle.take_name_table.specs.Appears.{Appeared, Within}
 use Rattle.take_names.specs.Takes.{Appears}
+use Rattle.take_names.proofs.Growing.{plain-stays}
 use Rattle.take_name_table.proofs.Growth.{cells-append, lists-hidden, over-cells, over-appear, appear-append}
 use Rattle.take_cells.specs.Operands.{RightBoth, TakesBoth, Hides}
 
 -- ---- 16
 
-pub first-wrong : {first items table : List ℕ} {n : ℕ} {a : Bool} → References first table n a → a ≡ false → RightBoth first items table n false
-first-wrong h e held cells is js l p q t u = sym (ap (λ (b : Bool). b && rightItems held js) (sym (h held cells is l p t) ∙ e))
+pub first-wrong : {first items : List ℕ} (listed : Bool) {table : List ℕ} {n : ℕ} {a : Bool} → References first false table n a → a ≡ false
+    → RightBoth first items listed table n false
+first-wrong listed h e held cells is js l p q t u = sym (ap (λ (b : Bool). b && rightAll listed held js) (sym (h held cells is l p t) ∙ e))
 
-pub then-items : {first items table : List ℕ} {n : ℕ} {a r : Bool} → References first table n a → a ≡ true → References items table n r → RightBoth first items table n r
-then-items h e k held cells is js l p q t u =
-    k held cells js l q u ∙ sym (ap (λ (b : Bool). b && rightItems held js) (sym (h held cells is l p t) ∙ e))
+pub then-items : {first items : List ℕ} (listed : Bool) {table : List ℕ} {n : ℕ} {a r : Bool} → References first false table n a → a ≡ true
+    → References items listed table n r → RightBoth first items listed table n r
+then-items listed h e k held cells is js l p q t u =
+    k held cells js l q u ∙ sym (ap (λ (b : Bool). b && rightAll listed held js) (sym (h held cells is l p t) ∙ e))
 
 -- ---- cells
 
-pub first-full : {first items a b c : List ℕ} {n cells : ℕ} {r : Grown} → Appears first a b n cells r → r ≡ Full → TakesBoth first items a c n cells Full
-first-full {first} {items} {a} {b} {c} {n} {cells} h e =
+pub first-full : {first items : List ℕ} {listed : Bool} {a b c : List ℕ} {n cells : ℕ} {r : Grown} → Appears first false a b n cells r → r ≡ Full
+    → TakesBoth first items listed a c n cells Full
+first-full {first} {items} {listed} {a} {b} {c} {n} {cells} h e =
     record {
       within = tt;
       is = λ held is js l p q t u.
           let over : namesFit (appear held (itemsPlain is)) ≡ false = subst (Appeared (appear held (itemsPlain is)) b) e (h .is held is l p t) in
-          subst (λ (x : List Held). namesFit x ≡ false) (sym (appear-append (itemsPlain is) (itemsPlain js) held)) (over-appear (itemsPlain js) (appear held (itemsPlain is)) over);
+          subst (λ (x : List Held). namesFit x ≡ false) (sym (appear-append (itemsPlain is) (allPlainIn listed held js) held)) (over-appear (allPlainIn listed held js) (appear held (itemsPlain is)) over);
     }
 
-pub first-within : {first a b : List ℕ} {n cells : ℕ} {r : Grown} {x y : ℕ} → Appears first a b n cells r → r ≡ Names x y → (x ≤ 100) × (y ≤ 4096)
+pub first-within : {first a b : List ℕ} {n cells : ℕ} {r : Grown} {x y : ℕ} → Appears first false a b n cells r → r ≡ Names x y → (x ≤ 100) × (y ≤ 4096)
 first-within h e = subst Within e (h .within)
 
-pub both-take : {first items a b c : List ℕ} {n cells : ℕ} {r : Grown} {x y : ℕ} {s : Grown} → Appears first a b n cells r → r ≡ Names x y → Appears items b c x y s
-    → TakesBoth first items a c n cells s
-both-take {first} {items} {a} {b} {c} {n} {cells} {r} {x} {y} {s} h e k =
+pub both-take : {first items : List ℕ} {listed : Bool} {a b c : List ℕ} {n cells : ℕ} {r : Grown} {x y : ℕ} {s : Grown} → Appears first false a b n cells r → r ≡ Names x y
+    → Appears items listed b c x y s → TakesBoth first items listed a c n cells s
+both-take {first} {items} {listed} {a} {b} {c} {n} {cells} {r} {x} {y} {s} h e k =
     record {
       within = k .within;
       is = λ held is js l p q t u.
           let then : Lists (appear held (itemsPlain is)) b x y = subst (Appeared (appear held (itemsPlain is)) b) e (h .is held is l p t) in
-          subst (λ (z : List Held). Appeared z c s) (sym (appear-append (itemsPlain is) (itemsPlain js) held)) (k .is (appear held (itemsPlain is)) js then q u);
+          subst (λ (z : List Held). Appeared z c s)
+          (sym (appear-append (itemsPlain is) (allPlainIn listed held js) held ∙ ap (appear (appear held (itemsPlain is))) (plain-stays listed (itemsPlain is) held js)))
+          (k .is (appear held (itemsPlain is)) js then q u);
     }
 
 -- ---- hidden cells

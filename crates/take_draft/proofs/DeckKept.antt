@@ -1,12 +1,12 @@
--- Tables that hold the draft of an accepted deck hold what settling needs; and the names that a read statement sets are told.
+-- Tables that hold the draft of an accepted deck hold what settling needs.
 -- Assumes nothing.
 use mathlib.Core.Path.{_≡_, refl, sym, ap, _∙_}
 use Prim.Native.Nat.{ℕ, suc, _+_}
 use mathlib.Core.List.{List, [], _∷_, map}
 use lib.ListN.{length, length-map}
 use Rattle.rules_shared.specs.House.{House}
-use Rattle.rules_object.specs.Object.{Element, Loop}
-use Rattle.rules_object.specs.Bytes.{concat, elementWords, loopWords}
+use Rattle.rules_object.specs.Object.{Element, Loop, ListItem, Transfer}
+use Rattle.rules_object.specs.Bytes.{concat, elementWords, loopWords, itemWords, transferWords}
 use Rattle.rules_text.specs.Trees.{Statement}
 use Rattle.rules_deck.specs.Deck.{dosOf}
 use Rattle.rules_deck.specs.Translation.{cellCount, statementCode, codeFrom, codeOf, Tables, noTables, tablesOf, translate}
@@ -16,13 +16,14 @@ use Rattle.rules_deck.proofs.TableLaws.{tables-append, statement-brings}
 use Rattle.take_draft.specs.declared.Counts.{Counts}
 use Rattle.take_draft.specs.Names.{heldWords}
 use Rattle.take_draft.specs.Draft.{draftOf}
-use Rattle.take_draft.specs.Sketch.{plainCode, openEntry}
+use Rattle.take_draft.specs.Sketch.{plainCode, openEntry, openTransfer}
 use Rattle.take_draft.specs.Kept.{Words, Kept}
 use Rattle.take_draft.specs.KeptDeck.{KeptDeck}
 use Rattle.take_draft.proofs.Matching.{emit-length, matches-deck}
-use Rattle.take_draft.proofs.DraftDeck.{draft-held, draft-rows, draft-jumps, draft-loops}
+use Rattle.take_draft.proofs.DraftDeck.{draft-held, draft-rows, draft-jumps, draft-loops, draft-formats}
 use Rattle.take_draft.proofs.FinalDraft.{final-code}
-use Rattle.take_draft.proofs.FinalTables.{final-dos, final-constants, final-elements}
+use Rattle.take_draft.proofs.FinalTables.{final-dos, final-constants}
+use Rattle.take_draft.proofs.FinalLists.{final-elements, final-items, final-transfers}
 
 -- ---- exits are as many as the translation's
 
@@ -42,6 +43,11 @@ final-exits house deck = sym (exits-from deck 0 deck noTables nothingTaken refl 
 
 -- ---- the tables
 
+-- of any deck
+pub final-formats : (house : House) (deck : List Statement) → draftOf deck .formats ≡ translate house deck .formats
+unfolding translate
+final-formats house deck = draft-formats deck
+
 pub kept-deck : {house : House} {deck : List Statement} {lent : Words} {n : Counts} → Accepted house deck
     → Kept (draftOf deck) lent n → KeptDeck house deck lent n
 kept-deck {house} {deck} accepted w =
@@ -49,6 +55,9 @@ kept-deck {house} {deck} accepted w =
     let e = final-elements accepted in
     let d = final-dos accepted in
     let i = final-code accepted in
+    let l = final-items accepted in
+    let t = final-transfers accepted in
+    let f = final-formats house deck in
     record {
       names-are = w .held .words ∙ ap (heldWords 0) (draft-held deck);
       names-count = w .held .names-are ∙ ap nameCount (draft-held deck);
@@ -66,6 +75,10 @@ kept-deck {house} {deck} accepted w =
       rows-are = w .rows-are ∙ draft-rows deck;
       jumps-are = w .jumps-are ∙ draft-jumps deck;
       jumps-count = w .jumps-count ∙ ap (λ (l : List ℕ). length l) (draft-jumps deck);
+      items-are = w .tables .items-are ∙ ap (λ (x : List ListItem). concat (map itemWords x)) l;
+      items-count = w .tables .items-count ∙ ap (λ (x : List ListItem). length x) l;
+      transfers-are = w .tables .transfers-are ∙ ap (λ (x : List Transfer). concat (map transferWords x)) t;
+      transfers-count = w .tables .transfers-count ∙ ap (λ (x : List Transfer). length x) t ∙ length-map (translate house deck .transfers) openTransfer;
+      formats-are = w .formats-are ∙ f;
+      formats-count = w .formats-count ∙ ap (λ (x : List ℕ). length x) f;
     }
-
--- ---- names set

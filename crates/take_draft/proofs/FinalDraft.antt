@@ -1,7 +1,7 @@
 -- The draft of an accepted deck: its code, tables and DOs are those of the deck's own map, though each was made with the names up to its statement.
 -- Assumes nothing.
 use mathlib.Core.Path.{_≡_, refl, sym, ap, _∙_, subst}
-use Prim.Native.Nat.{ℕ, suc, _+_}
+use Prim.Native.Nat.{ℕ, suc, _+_, _≤_}
 use native.Mathlib.Nat.{zero-add, add-zero}
 use native.Mathlib.Omega.{arith}
 use mathlib.Core.List.{List, [], _∷_, _++_, append-nil, append-assoc}
@@ -11,20 +11,24 @@ use Rattle.rules_shared.specs.House.{House}
 use Rattle.rules_object.specs.Operations.{Instr, DOI}
 use Rattle.rules_text.specs.Trees.{Name, Statement, formLast}
 use Rattle.rules_deck.specs.Deck.{Dims, dimsIn, dimsOf}
-use Rattle.rules_deck.specs.Translation.{Held, brings, heldFrom, heldOf, formCode, Tables, noTables, tablesAfter, tablesOf, wordOf, emit}
+use Rattle.rules_deck.specs.Translation.{Held, brings, heldFrom, heldOf, noFormat, formCode, Tables, noTables, tablesAfter, tablesOf, wordOf, emit}
 use Rattle.rules_deck.specs.Judge.{Taken, takes}
 use Rattle.rules_deck.specs.Accepted.{takenBefore, Accepted}
+use Rattle.rules_text.proofs.Statements.{punched-right}
 use Rattle.rules_deck.proofs.ArrayLaws.{arrays-held}
+use Rattle.rules_deck.proofs.ArrayRows.{array-has-rows}
+use Rattle.rules_deck.proofs.DeclaredDeck.{array-rows}
+use Rattle.rules_deck.proofs.MapOnce.{never-both}
 use Rattle.rules_deck.proofs.TakenLaws.{before-next}
 use Rattle.rules_deck.proofs.TableLaws.{tables-append}
 use Rattle.rules_deck.proofs.DeckCells.{grown-held}
-use Rattle.take_draft.specs.Parts.{formFirst, formItems}
-use Rattle.take_draft.specs.Names.{dimsHeld, Known}
+use Rattle.take_draft.specs.Parts.{formFirst, formItems, formListed}
+use Rattle.take_draft.specs.Names.{dimsHeld, Known, KnownList}
 use Rattle.take_draft.specs.Draft.{entriesOf, noLoop, draftCode, Draft, noDraft, drafts, draftFrom, draftOf}
 use Rattle.take_draft.specs.Sketch.{plainFrom, plainCode}
-use Rattle.take_draft.proofs.Knowing.{brings-first, brings-items}
+use Rattle.take_draft.proofs.Knowing.{brings-first, brings-items, brings-listed}
 use Rattle.take_draft.proofs.Matching.{entries-count}
-use Rattle.take_draft.proofs.Steady.{form-stays}
+use Rattle.take_draft.proofs.Steady.{Clear, form-stays}
 
 -- ---- the code as it was made, statement after statement
 
@@ -66,7 +70,8 @@ code-made q (s ∷ deck) D =
 pub data Knows : ℕ → List Held → List Statement → Type 0 where
   done : {q : ℕ} {held : List Held} → Knows q held []
   next : {q : ℕ} {held : List Held} {s : Statement} {more : List Statement} → Known (brings q (s .form) held) (formFirst (s .form))
-      → Known (brings q (s .form) held) (formItems (s .form)) → Knows (suc q) (brings q (s .form) held) more → Knows q held (s ∷ more)
+      → Known (brings q (s .form) held) (formItems (s .form)) → KnownList (brings q (s .form) held) (formListed (s .form)) → Knows (suc q) (brings q (s .form) held) more
+      → Knows q held (s ∷ more)
 
 module _ {house : House} {deck : List Statement} (accepted : Accepted house deck) where
   next-held : (q : ℕ) (s : Statement) → getElem? deck q ≡ some s → takenBefore deck (suc q) .held ≡ brings q (s .form) (takenBefore deck q .held)
@@ -79,9 +84,11 @@ module _ {house : House} {deck : List Statement} (accepted : Accepted house deck
       let e = subst (λ (n : ℕ). getElem? deck n ≡ some s) (add-zero q) (at 0 s refl) in
       let j = accepted .judged q s e in
       let held = takenBefore deck q .held in
+      let right = punched-right (j .columns) (s .form) (j .form) in
       let rest = knows-from (suc q) more (λ i t f. subst (λ (n : ℕ). getElem? deck n ≡ some t) (let m : q + suc i ≡ suc q + i = omega arith in m) (at (suc i) t f)) in
-      next (brings-first (accepted .lawful) (j .text) (s .form) held (j .form) (accepted .digits) (j .passes11) (j .passes12) (j .passes16) q)
-      (brings-items (accepted .lawful) (j .text) (s .form) held (j .form) (accepted .digits) (j .passes11) (j .passes12) (j .passes16) q)
+      next (brings-first (accepted .lawful) (s .form) held right (accepted .digits) (j .passes11) (j .passes12) (j .passes16) q)
+      (brings-items (accepted .lawful) (s .form) held right (accepted .digits) (j .passes11) (j .passes12) (j .passes16) q)
+      (brings-listed (accepted .lawful) (s .form) held right (accepted .digits) (j .passes11) (j .passes12) (j .passes16) q)
       (subst (λ (l : List Held). Knows (suc q) l more) (next-held q s e) rest)
 
   pub knows-deck : Knows 0 [] deck
@@ -90,24 +97,33 @@ module _ {house : House} {deck : List Statement} (accepted : Accepted house deck
 
 -- ---- so the code is as the last map has it
 
-made-plain : (q d : ℕ) (held last : List Held) (deck : List Statement) → Knows q held deck → heldFrom q deck held ≡ last → madeFrom q d held deck ≡ plainFrom last (dimsHeld last) d deck
-made-plain q d held last [] done e = refl
-made-plain q d held last (s ∷ deck) (next w x h) e =
+made-plain : (q d : ℕ) (held last : List Held) (deck : List Statement) → Clear last → Knows q held deck → heldFrom q deck held ≡ last
+    → madeFrom q d held deck ≡ plainFrom last (dimsHeld last) d deck
+made-plain q d held last [] clear done e = refl
+made-plain q d held last (s ∷ deck) clear (next w x l h) e =
     let later = brings q (s .form) held in
     let g = grown-held (suc q) deck later in
     let is : last ≡ later ++ g .more = sym e ∙ g .is in
-    let same : formCode last (dimsHeld last) (λ n. n) (DOI d noLoop) (s .form) ≡ draftCode d later (s .form) =
-    subst (λ (l : List Held). formCode l (dimsHeld l) (λ n. n) (DOI d noLoop) (s .form) ≡ draftCode d later (s .form)) (sym is) (form-stays later (g .more) (DOI d noLoop) (s .form) w x) in
-    rw (same, made-plain (suc q) (d + length (formLast (s .form))) later last deck h e)
+    let same : formCode last (dimsHeld last) (λ n. n) (λ n. noFormat) (DOI d noLoop) (s .form) ≡ draftCode d later (s .form) =
+    subst (λ (m : List Held). formCode m (dimsHeld m) (λ n. n) (λ n. noFormat) (DOI d noLoop) (s .form) ≡ draftCode d later (s .form)) (sym is)
+    (form-stays later (g .more) (subst Clear is clear) (DOI d noLoop) (s .form) w x l) in
+    rw (same, made-plain (suc q) (d + length (formLast (s .form))) later last deck clear h e)
 
 pub dims-deck : (deck : List Statement) → dimsHeld (heldOf deck) ≡ dimsOf deck
 unfolding dimsOf
 dims-deck deck = ap {B = Name → Dims} dimsIn (arrays-held deck)
 
+pub clear-deck : {house : House} {deck : List Statement} → Accepted house deck → Clear (heldOf deck)
+clear-deck {house} {deck} accepted =
+    record {
+      never-both = never-both house deck accepted;
+      rows = λ v e. subst (λ (dims : Name → Dims). 1 ≤ dims v .rows) (sym (dims-deck deck)) (array-has-rows deck (array-rows accepted) v e);
+    }
+
 made-deck : {house : House} {deck : List Statement} → Accepted house deck → madeFrom 0 0 [] deck ≡ plainCode deck
 unfolding plainCode heldOf
 made-deck {house} {deck} accepted =
-    made-plain 0 0 [] (heldOf deck) deck (knows-deck accepted) refl ∙ ap (λ (dims : Name → Dims). plainFrom (heldOf deck) dims 0 deck) (dims-deck deck)
+    made-plain 0 0 [] (heldOf deck) deck (clear-deck accepted) (knows-deck accepted) refl ∙ ap (λ (dims : Name → Dims). plainFrom (heldOf deck) dims 0 deck) (dims-deck deck)
 
 pub final-tables : {house : House} {deck : List Statement} → Accepted house deck → draftOf deck .tables ≡ tablesOf noTables (plainCode deck)
 unfolding draftOf

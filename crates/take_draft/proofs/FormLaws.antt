@@ -1,22 +1,23 @@
--- A form's names, constants, references and values against its first operand and its items.
+-- A form's names, constants, references and values against its first operand, its items and its list.
 -- Assumes nothing.
 use mathlib.Core.Path.{_≡_, refl, sym, ap, _∙_, subst}
 use mathlib.Core.Logic.{_⊎_, inl, inr}
 use mathlib.Core.Bool.{Bool, true, false, _&&_, not}
-use mathlib.Core.List.{List, [], _∷_, _++_, append-nil}
+use mathlib.Core.List.{List, [], _∷_, _++_, map, append-nil}
 use mathlib.Core.Option.{Option, none, some}
 use Rattle.rules_shared.specs.Lists.{all}
-use Rattle.rules_text.specs.Trees.{Name, Digits, Expr, con, var, exprNames, exprConstants, Target, cell, element, targetNames, targetConstants, written, Form, assign, goTo, computed, ifs, loop, continue, stop, end, dimension, formNames, formConstants}
+use Rattle.rules_text.specs.Trees.{Name, Digits, Expr, con, var, exprNames, exprConstants, Target, cell, element, targetNames, targetConstants, listNames, listConstants, written, Form, assign, goTo, computed, ifs, loop, continue, stop, end, dimension, transfer, format, formNames, formConstants}
 use Rattle.rules_deck.specs.Meaning.{third}
-use Rattle.rules_deck.specs.Translation.{Held, isArray, holds, exprPlain, targetPlain, formPlain}
-use Rattle.rules_deck.specs.Judge.{Reference, exprReferences, targetReferences, formReferences, rightReference, right16}
+use Rattle.rules_deck.specs.Translation.{Held, isArray, holds, exprPlain, targetPlain, listPlain, formPlain}
+use Rattle.rules_deck.specs.Judge.{exprReferences, targetReferences, listReferences, formReferences, rightReference, right16}
 use Rattle.rules_deck.specs.Accepted.{Among, here, there}
 use Rattle.rules_text.specs.Shaped.{IsParameter}
 use Rattle.rules_deck.proofs.TestLaws.{only, among-left, among-right, among-append}
 use Rattle.read_elements.specs.Values.{targetValue}
 use Rattle.read_items.specs.Items.{targetWords}
+use Rattle.read_transfers.specs.Transfers.{listWords}
 use Rattle.read_forms.specs.Statements.{parameterValue}
-use Rattle.take_draft.specs.Parts.{itemsOf, itemWords, itemsWords, parameterWords, itemPlain, itemsPlain, itemReferences, itemsReferences, itemNames, itemsNames, itemConstants, itemsConstants, rightItems, targetItem, formFirst, formItems}
+use Rattle.take_draft.specs.Parts.{itemsOf, itemWords, itemsWords, parameterWords, itemPlain, itemsPlain, itemReferences, itemsReferences, itemNames, itemsNames, itemConstants, itemsConstants, rightItems, listedPlain, allListedPlain, rightListed, targetItem, formFirst, formItems, formListed}
 use Rattle.take_draft.proofs.FormParts.{plain-append, references-append, names-append, constants-append, expr-plain, expr-references, expr-names, expr-constants}
 
 -- ---- a target, a parameter
@@ -47,27 +48,57 @@ target-references : (t : Target) → targetReferences t ≡ itemReferences (targ
 target-references (cell v) = refl
 target-references (element v s) = refl
 
+-- ---- a list
+
+pub list-words : (list : List Target) → listWords list ≡ itemsWords (map targetItem list)
+unfolding listWords
+list-words [] = refl
+list-words (t ∷ list) = rw (target-words t, list-words list)
+
+list-plain : (held : List Held) (list : List Target) → listPlain held list ≡ allListedPlain held (map targetItem list)
+list-plain held [] = refl
+list-plain held (cell v ∷ list) = ap (λ (l : List Name). listedPlain held (targetItem (cell v)) ++ l) (list-plain held list)
+list-plain held (element v s ∷ list) = ap (λ (l : List Name). listedPlain held (targetItem (element v s)) ++ l) (list-plain held list)
+
+list-names : (list : List Target) → listNames list ≡ itemsNames (map targetItem list)
+list-names [] = refl
+list-names (t ∷ list) = rw (target-names t, list-names list)
+
+list-constants : (list : List Target) → listConstants list ≡ itemsConstants (map targetItem list)
+list-constants [] = refl
+list-constants (t ∷ list) = rw (target-constants t, list-constants list)
+
+list-references : (list : List Target) → listReferences list ≡ itemsReferences (map targetItem list)
+list-references [] = refl
+list-references (t ∷ list) = rw (target-references t, list-references list)
+
 -- ---- plain names, in the text's order
 
 written-plain : (r : Option Expr) → written exprPlain r ≡ itemsPlain (itemsOf (third r))
 written-plain none = refl
 written-plain (some e) = expr-plain e
 
-pub form-plain : (f : Form) → formPlain f ≡ itemsPlain (formFirst f ++ formItems f)
+pub form-plain : (held : List Held) (f : Form) → formPlain held f ≡ itemsPlain (formFirst f) ++ (itemsPlain (formItems f) ++ allListedPlain held (formListed f))
 unfolding formPlain
-form-plain (assign t e) = rw (target-plain t, expr-plain e)
-form-plain (goTo n) = refl
-form-plain (computed ns v) = refl
-form-plain (ifs e a b c) = expr-plain e
-form-plain (loop n v p q r) =
-    rw (plain-append (itemsOf p) (itemsOf q ++ itemsOf (third r)), plain-append (itemsOf q) (itemsOf (third r)), expr-plain p, expr-plain q, written-plain r)
-form-plain continue = refl
-form-plain stop = refl
-form-plain end = refl
-form-plain (dimension arrays) = refl
-
-pub form-plain-both : (f : Form) → formPlain f ≡ itemsPlain (formFirst f) ++ itemsPlain (formItems f)
-form-plain-both f = form-plain f ∙ plain-append (formFirst f) (formItems f)
+form-plain held (assign t e) = rw (target-plain t, expr-plain e, append-nil (itemPlain (targetItem t)), append-nil (itemsPlain (itemsOf e)))
+form-plain held (goTo n) = refl
+form-plain held (computed ns v) = refl
+form-plain held (ifs e a b c) = expr-plain e ∙ sym (append-nil (itemsPlain (itemsOf e)))
+form-plain held (loop n v p q r) =
+    rw (
+      append-nil (itemsPlain (itemsOf p ++ (itemsOf q ++ itemsOf (third r)))),
+      plain-append (itemsOf p) (itemsOf q ++ itemsOf (third r)),
+      plain-append (itemsOf q) (itemsOf (third r)),
+      expr-plain p,
+      expr-plain q,
+      written-plain r,
+    )
+form-plain held continue = refl
+form-plain held stop = refl
+form-plain held end = refl
+form-plain held (dimension arrays) = refl
+form-plain held (transfer d n list) = list-plain held list
+form-plain held (format f) = refl
 
 -- ---- 16
 
@@ -79,11 +110,15 @@ all-both test (x ∷ a) b = go (test x) (all-both test a b)
     go true e = e
     go false e = refl
 
-and-swap : (a b c d : Bool) → ((a && b) && (c && d)) ≡ ((a && c) && (b && d))
-and-swap true true c d = refl
-and-swap true false true d = refl
-and-swap true false false d = refl
-and-swap false b c d = refl
+-- three tests of one kind and three of another, each with its fellow
+and-three : (a b c d e f : Bool) → ((a && (b && c)) && (d && (e && f))) ≡ ((a && d) && ((b && e) && (c && f)))
+and-three false b c d e f = refl
+and-three true false c false e f = refl
+and-three true false c true e f = refl
+and-three true true false false e f = refl
+and-three true true false true false f = refl
+and-three true true false true true f = refl
+and-three true true true d e f = refl
 
 written-references : (r : Option Expr) → written exprReferences r ≡ itemsReferences (itemsOf (third r))
 written-references none = refl
@@ -93,27 +128,34 @@ loop-references : (p q : Expr) (r : Option Expr) → exprReferences p ++ (exprRe
 loop-references p q r =
     rw (references-append (itemsOf p) (itemsOf q ++ itemsOf (third r)), references-append (itemsOf q) (itemsOf (third r)), expr-references p, expr-references q, written-references r)
 
-pub all-references : (test : Reference → Bool) (f : Form) → all test (formReferences f) ≡ (all test (itemsReferences (formFirst f)) && all test (itemsReferences (formItems f)))
+form-references : (f : Form) → formReferences f ≡ itemsReferences (formFirst f) ++ (itemsReferences (formItems f) ++ itemsReferences (formListed f))
 unfolding formReferences
-all-references test (assign t e) =
-    all-both test (targetReferences t) (exprReferences e) ∙
-    rw (target-references t, expr-references e, append-nil (itemReferences (targetItem t)))
-all-references test (goTo n) = refl
-all-references test (computed ns v) = refl
-all-references test (ifs e a b c) = ap (all test) (expr-references e)
-all-references test (loop n v p q r) =
-    ap (all test) (loop-references p q r)
-all-references test continue = refl
-all-references test stop = refl
-all-references test end = refl
-all-references test (dimension arrays) = refl
+form-references (assign t e) = rw (target-references t, expr-references e, append-nil (itemReferences (targetItem t)), append-nil (itemsReferences (itemsOf e)))
+form-references (goTo n) = refl
+form-references (computed ns v) = refl
+form-references (ifs e a b c) = expr-references e ∙ sym (append-nil (itemsReferences (itemsOf e)))
+form-references (loop n v p q r) = loop-references p q r ∙ sym (append-nil (itemsReferences (itemsOf p ++ (itemsOf q ++ itemsOf (third r)))))
+form-references continue = refl
+form-references stop = refl
+form-references end = refl
+form-references (dimension arrays) = refl
+form-references (transfer d n list) = list-references list
+form-references (format f) = refl
 
-pub form-right16 : (held : List Held) (f : Form) → right16 held f ≡ (rightItems held (formFirst f) && rightItems held (formItems f))
+all-three : {A : Type 0} (test : A → Bool) (a b c : List A) → all test (a ++ (b ++ c)) ≡ (all test a && (all test b && all test c))
+all-three test a b c = all-both test a (b ++ c) ∙ ap (λ (t : Bool). all test a && t) (all-both test b c)
+
+pub form-right16 : (held : List Held) (f : Form) → right16 held f ≡ (rightItems held (formFirst f) && (rightItems held (formItems f) && rightListed held (formListed f)))
 unfolding right16
 form-right16 held f =
-    rw (all-references (rightReference held) f, form-plain-both f, all-both (λ v. not (holds (isArray v) held)) (itemsPlain (formFirst f)) (itemsPlain (formItems f)))
-    (and-swap (all (rightReference held) (itemsReferences (formFirst f))) (all (rightReference held) (itemsReferences (formItems f)))
-    (all (λ v. not (holds (isArray v) held)) (itemsPlain (formFirst f))) (all (λ v. not (holds (isArray v) held)) (itemsPlain (formItems f))))
+    let right = rightReference held in
+    let plain : Name → Bool = λ v. not (holds (isArray v) held) in
+    let first = itemsReferences (formFirst f) in
+    let items = itemsReferences (formItems f) in
+    let listed = itemsReferences (formListed f) in
+    rw (form-references f, form-plain held f, all-three right first items listed, all-three plain (itemsPlain (formFirst f)) (itemsPlain (formItems f)) (allListedPlain held (formListed f)))
+    (and-three (all right first) (all right items) (all right listed) (all plain (itemsPlain (formFirst f))) (all plain (itemsPlain (formItems f)))
+    (all plain (allListedPlain held (formListed f))))
 
 -- ---- names and constants
 
@@ -137,9 +179,17 @@ items-names {v} (assign t e) a = among-right (targetNames t) (subst (Among v) (s
 items-names {v} (ifs e x y z) a = subst (Among v) (sym (expr-names e)) a
 items-names {v} (loop n w p q r) a = there (subst (Among v) (loop-names p q r) a)
 
+pub listed-names : {v : Name} (f : Form) → Among v (itemsNames (formListed f)) → Among v (formNames f)
+unfolding formNames
+listed-names {v} (transfer d n list) a = subst (Among v) (sym (list-names list)) a
+
 pub first-constants : {c : Digits} (f : Form) → Among c (itemsConstants (formFirst f)) → Among c (formConstants f)
 unfolding formConstants
 first-constants {c} (assign t e) a = among-left (exprConstants e) (subst (Among c) (append-nil (itemConstants (targetItem t)) ∙ sym (target-constants t)) a)
+
+pub listed-constants : {c : Digits} (f : Form) → Among c (itemsConstants (formListed f)) → Among c (formConstants f)
+unfolding formConstants
+listed-constants {c} (transfer d n list) a = subst (Among c) (sym (list-constants list)) a
 
 -- a missing third parameter's 1 is no constant of the form
 pub items-constants : {c : Digits} (f : Form) → Among c (itemsConstants (formItems f)) → Among c (formConstants f) ⊎ (c ≡ 49 ∷ [])

@@ -2,15 +2,15 @@
 -- Assumes nothing.
 use mathlib.Core.Path.{_≡_, refl, sym, ap, _∙_}
 use Prim.Native.Nat.{ℕ}
-use mathlib.Core.List.{List, [], _∷_, _++_, append-nil, append-assoc}
-use Rattle.rules_object.specs.Operations.{Instr, NEG, OP}
-use Rattle.rules_text.specs.Trees.{Name, Digits, Expr, con, var, elm, neg, par, bin, exprNames, exprConstants, Form, assign, goTo, computed, ifs, loop, continue, stop, end, dimension}
+use mathlib.Core.List.{List, [], _∷_, _++_, map, append-nil, append-assoc}
+use Rattle.rules_object.specs.Operations.{Listed, Instr, NEG, OP}
+use Rattle.rules_text.specs.Trees.{Name, Digits, Expr, con, var, elm, neg, par, bin, exprNames, exprConstants, Target, cell, element, Form, assign, goTo, computed, ifs, loop, continue, stop, end, dimension, transfer, format}
 use Rattle.rules_deck.specs.Deck.{Dims}
 use Rattle.rules_deck.specs.Meaning.{third}
-use Rattle.rules_deck.specs.Translation.{Held, exprPlain, exprCode, formCode}
+use Rattle.rules_deck.specs.Translation.{Held, exprPlain, noFormat, exprCode, itemOf, formCode}
 use Rattle.rules_deck.specs.Judge.{Reference, exprReferences}
 use Rattle.read_items.specs.Items.{flat}
-use Rattle.take_draft.specs.Parts.{Item, itemsOf, itemWords, itemsWords, itemPlain, itemsPlain, itemReferences, itemsReferences, itemNames, itemsNames, itemConstants, itemsConstants, itemCode, itemsCode, formItems, formEnding}
+use Rattle.take_draft.specs.Parts.{Item, itemsOf, itemWords, itemsWords, itemPlain, itemsPlain, itemReferences, itemsReferences, itemNames, itemsNames, itemConstants, itemsConstants, itemCode, itemsCode, listedOf, targetItem, formItems, formEnding}
 
 -- ---- over an append
 
@@ -113,7 +113,7 @@ module _ (held : List Held) (dims : Name → Dims) where
       (sym (append-assoc (itemsCode held dims (itemsOf p)) (itemsCode held dims (itemsOf q) ++ itemsCode held dims (itemsOf r)) (entry ∷ []) ∙
       ap (λ (l : List Instr). itemsCode held dims (itemsOf p) ++ l) (append-assoc (itemsCode held dims (itemsOf q)) (itemsCode held dims (itemsOf r)) (entry ∷ []))))
 
-  pub form-code : (entry : Instr) (f : Form) → formCode held dims (λ n. n) entry f ≡ itemsCode held dims (formItems f) ++ formEnding held dims entry f
+  pub form-code : (entry : Instr) (f : Form) → formCode held dims (λ n. n) (λ n. noFormat) entry f ≡ itemsCode held dims (formItems f) ++ formEnding held dims entry f
   form-code entry (assign t e) = ap (λ (l : List Instr). l ++ formEnding held dims entry (assign t e)) (expr-code e)
   form-code entry (goTo n) = refl
   form-code entry (computed ns v) = refl
@@ -123,3 +123,10 @@ module _ (held : List Held) (dims : Name → Dims) where
   form-code entry stop = refl
   form-code entry end = refl
   form-code entry (dimension arrays) = refl
+  form-code entry (transfer d n list) = refl
+  form-code entry (format f) = refl
+
+  pub listed-code : (list : List Target) → map (itemOf held dims) list ≡ map (listedOf held dims) (map targetItem list)
+  listed-code [] = refl
+  listed-code (cell v ∷ list) = ap (λ (l : List Listed). itemOf held dims (cell v) ∷ l) (listed-code list)
+  listed-code (element v s ∷ list) = ap (λ (l : List Listed). itemOf held dims (element v s) ∷ l) (listed-code list)

@@ -8,4 +8,7 @@ pub mod DraftDeck
 pub mod Steady
 pub mod FinalDraft
 pub mod FinalTables
+pub mod FinalPlaces
+pub mod FinalLists
 pub mod DeckKept
+pub mod SetCells

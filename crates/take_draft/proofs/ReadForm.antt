@@ -4,8 +4,7 @@ use mathlib.Core.Path.{_≡_, refl, sym, ap, _∙_}
 use Prim.Native.Nat.{ℕ, _≤_, _<_, min}
 use native.Mathlib.Omega.{arith}
 use mathlib.Core.Bool.{Bool, true, false, _&&_, _||_}
-use mathlib.Core.List.{List, [], _∷_, _++_, map}
-use mathlib.Core.Option.{some}
+use mathlib.Core.List.{List, [], _∷_, _++_, map, append-assoc}
 use lib.Dec.{leb}
 use lib.ListN.{length}
 use borrow.Author.Tests.{leb-true, leb-false, le-leb, lt-leb}
@@ -14,16 +13,15 @@ use Rattle.rules_shared.specs.House.{House}
 use Rattle.rules_shared.specs.Lists.{all, Each, each-none, each-more}
 use Rattle.rules_object.specs.Check.{isLetter, isDigit}
 use Rattle.rules_shared.proofs.EachLaws.{each-map}
-use Rattle.rules_text.specs.Trees.{Name, Digits, valueOf, Form, formNames, formConstants, formExits, formLast}
+use Rattle.rules_text.specs.Trees.{Name, Digits, valueOf, Form, formNames, formConstants, formExits, formLast, formNumbers, formUses}
 use Rattle.rules_text.specs.Tokens.{isLetterOrDigit}
 use Rattle.rules_text.specs.Cards.{rightDigits}
-use Rattle.rules_text.specs.Grammar.{formOf}
 use Rattle.rules_deck.specs.Judge.{startsInteger, right11, right12, numberWithin, right13}
 use Rattle.rules_deck.specs.Lawful.{Lawful}
 use Rattle.rules_text.specs.Spelling.{IsDigits, IsName, is-name}
 use Rattle.rules_deck.proofs.Houses.{right13-all}
 use Rattle.rules_text.proofs.Readers.{both-true, digit-bounds, letter-bounds}
-use Rattle.rules_text.proofs.ReadForms.{read-names, read-constants}
+use Rattle.rules_text.proofs.ReadForms.{RightForm}
 use Rattle.rules_deck.proofs.MapNames.{NoBlank}
 use Rattle.rules_text.proofs.Values.{ten-most, value-within}
 use Rattle.read_tokens.specs.Words.{most, capped}
@@ -54,9 +52,9 @@ told-all n h (each-more {x = a} {xs = l} p ps) e =
     let s = both-true (leb (length a) n) (startsInteger a) (two .0) in
     each-more {x = a} (record { short = let f = leb-true (length a) n (s .0) in omega (arith, f, h); solid = name-solid p; bytes = name-bytes p }) (told-all n h ps (two .1))
 
-pub read-told : {house : House} → Lawful house → (text : List ℕ) (f : Form) → formOf text ≡ some f → right11 house f ≡ true → Each Told (formNames f)
+pub read-told : {house : House} → Lawful house → {f : Form} → RightForm f → right11 house f ≡ true → Each Told (formNames f)
 unfolding right11
-read-told {house} lawful text f r e = told-all (house .nameLength) (omega (arith, lawful .names)) (read-names text f r) e
+read-told {house} lawful r e = told-all (house .nameLength) (omega (arith, lawful .names)) (r .names) e
 
 -- ---- constants
 
@@ -72,9 +70,9 @@ exact-all k h (each-more {x = a} {xs = l} p ps) e =
     let m = ten-most k h in
     each-more {x = a} (omega arith) (exact-all k h ps (two .1))
 
-pub read-exact : {house : House} → Lawful house → (text : List ℕ) (f : Form) → formOf text ≡ some f → rightDigits house ≡ true → right12 house f ≡ true → Each Exact (formConstants f)
+pub read-exact : {house : House} → Lawful house → {f : Form} → RightForm f → rightDigits house ≡ true → right12 house f ≡ true → Each Exact (formConstants f)
 unfolding right12
-read-exact {house} lawful text f r d e = exact-all (house .digits) (lawful .digits d .1) (read-constants text f r) e
+read-exact {house} lawful r d e = exact-all (house .digits) (lawful .digits d .1) (r .constants) e
 
 -- ---- statement numbers
 
@@ -108,8 +106,9 @@ right-all : (ns : List Digits) → all (numberWithin false) ns ≡ all rightNumb
 right-all [] = refl
 right-all (n ∷ ns) = rw (← number-right n, right-all ns)
 
-pub right13-capped : {house : House} → Lawful house → (f : Form) → right13 house f ≡ all rightNumber (map capped (formExits f ++ formLast f))
-right13-capped lawful f = right13-all lawful f ∙ right-all (formExits f ++ formLast f)
+pub right13-capped : {house : House} → Lawful house → (f : Form) → right13 house f ≡ all rightNumber (map capped (formNumbers f ++ formUses f))
+right13-capped lawful f =
+    right13-all lawful f ∙ ap (all (numberWithin false)) (sym (append-assoc (formExits f) (formLast f) (formUses f))) ∙ right-all (formNumbers f ++ formUses f)
 
 pub exact-numbers : (ns : List Digits) → all rightNumber (map capped ns) ≡ true → map capped ns ≡ map valueOf ns
 exact-numbers [] e = refl
@@ -117,5 +116,5 @@ exact-numbers (n ∷ ns) e =
     let two = both-true (rightNumber (capped n)) (all rightNumber (map capped ns)) e in
     rw (number-exact n (two .0), exact-numbers ns (two .1))
 
-pub numbers-exact : {house : House} → Lawful house → (f : Form) → right13 house f ≡ true → map capped (formExits f ++ formLast f) ≡ jumpWords f
-numbers-exact lawful f e = exact-numbers (formExits f ++ formLast f) (sym (right13-capped lawful f) ∙ e)
+pub numbers-exact : {house : House} → Lawful house → (f : Form) → right13 house f ≡ true → map capped (formNumbers f ++ formUses f) ≡ jumpWords f
+numbers-exact lawful f e = exact-numbers (formNumbers f ++ formUses f) (sym (right13-capped lawful f) ∙ e)

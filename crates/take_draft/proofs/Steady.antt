@@ -1,18 +1,20 @@
 -- Cells and dimensions that stand in the table stay as they are when it grows at its end: so does the code of what is known.
 -- Assumes nothing.
-use mathlib.Core.Path.{_≡_, refl, ap}
-use Prim.Native.Nat.{ℕ, _+_}
+use mathlib.Core.Path.{_≡_, refl, sym, ap, _∙_, subst}
+use Prim.Native.Nat.{ℕ, zero, suc, _+_, _≤_}
+use native.Mathlib.Omega.{arith}
 use mathlib.Core.Bool.{Bool, true, false, _||_, cond, false≢true}
-use mathlib.Core.List.{List, [], _∷_, _++_}
-use Rattle.rules_object.specs.Operations.{Instr}
+use mathlib.Core.List.{List, [], _∷_, _++_, map}
+use Rattle.rules_object.specs.Operations.{Listed, aSpan, Instr}
 use Rattle.rules_shared.specs.Lists.{Each}
 use Rattle.rules_shared.proofs.EachLaws.{each-head, each-left, each-right}
-use Rattle.rules_text.specs.Trees.{Name, Subscript, constant, linear, Subscripts, one, two, subscriptNames, subscriptsNames, Target, cell, element, Form, assign, goTo, computed, ifs, loop, continue, stop, end, dimension}
-use Rattle.rules_deck.specs.Deck.{sameName}
-use Rattle.rules_deck.specs.Translation.{Held, name, array, hidden, size, isName, isArray, isHidden, firstCell, holds, cellOf, baseOf, limitOf, subscriptEntry, firstEntry, secondEntry, elementEntry, storeCode, formCode}
+use Rattle.rules_text.specs.Trees.{Name, Subscript, constant, linear, Subscripts, one, two, subscriptNames, subscriptsNames, Target, cell, element, Form, assign, goTo, computed, ifs, loop, continue, stop, end, dimension, transfer, format}
+use Rattle.rules_deck.specs.Deck.{sameName, Dims}
+use Rattle.rules_deck.specs.Translation.{Held, name, array, hidden, size, isName, isArray, isHidden, firstCell, holds, cellOf, baseOf, limitOf, subscriptEntry, firstEntry, secondEntry, arraySize, noFormat, transferInstr, elementEntry, storeCode, spanOf, itemOf, formCode}
 use Rattle.rules_deck.specs.Judge.{Reference, rightCount, rightReference}
-use Rattle.take_draft.specs.Parts.{Item, itemPlain, itemsPlain, itemReferences, itemsReferences, itemCode, itemsCode, targetItem, formFirst, formItems, formEnding}
-use Rattle.take_draft.specs.Names.{dimsHeld, Known}
+use Rattle.take_draft.specs.Parts.{Item, itemPlain, itemsPlain, itemReferences, itemsReferences, listedPlain, allListedPlain, itemCode, itemsCode, targetItem, formFirst, formItems, formListed, formEnding}
+use Rattle.take_draft.specs.Names.{dimsHeld, Known, KnownList}
+use Rattle.rules_deck.proofs.ArrayLaws.{holds-left}
 use Rattle.take_draft.proofs.FormParts.{form-code}
 
 -- ---- the first that passes a test
@@ -59,6 +61,41 @@ reference-array (array a ∷ held) r e = go (sameName (a .name) (r .name)) e (re
     go true i f = refl
     go false i f = f i
 reference-array (hidden q ∷ held) r e = reference-array held r e
+
+-- ---- a name is a variable's or an array's
+
+-- no name is both, and every array has a row
+pub record Clear (held : List Held) : Type 0 where
+  pub never-both : (v : Name) → holds (isName v) held ≡ true → holds (isArray v) held ≡ true → ⊥
+  pub rows : (v : Name) → holds (isArray v) held ≡ true → 1 ≤ dimsHeld held v .rows
+
+no-rows : (held : List Held) (v : Name) → holds (isArray v) held ≡ false → dimsHeld held v .rows ≡ 0
+no-rows [] v e = refl
+no-rows (name w ∷ held) v e = no-rows held v e
+no-rows (array a ∷ held) v e = go (sameName (a .name) v) e (no-rows held v)
+  where
+    go : (b : Bool) → (b || holds (isArray v) held) ≡ false → (holds (isArray v) held ≡ false → dimsHeld held v .rows ≡ 0) → cond b (a .dims) (dimsHeld held v) .rows ≡ 0
+    go true i f = absurd (false≢true (sym i))
+    go false i f = f i
+no-rows (hidden q ∷ held) v e = no-rows held v e
+
+module _ (held : List Held) (v : Name) where
+  pub bare-array : 1 ≤ dimsHeld held v .rows → itemOf held (dimsHeld held) (cell v) ≡ aSpan (baseOf held v) (arraySize (dimsHeld held v))
+  bare-array h = go (dimsHeld held v .rows) h
+    where
+      go : (n : ℕ) → 1 ≤ n → spanOf held (dimsHeld held) v n ≡ aSpan (baseOf held v) (arraySize (dimsHeld held v))
+      go zero h = absurd (omega arith)
+      go (suc n) h = refl
+
+  pub bare-name : holds (isArray v) held ≡ false → itemOf held (dimsHeld held) (cell v) ≡ aSpan (cellOf held v) 1
+  bare-name e = ap (spanOf held (dimsHeld held) v) (no-rows held v e)
+
+  pub no-array : Clear held → holds (isName v) held ≡ true → holds (isArray v) held ≡ false
+  no-array clear e = go (holds (isArray v) held) refl
+    where
+      go : (b : Bool) → holds (isArray v) held ≡ b → b ≡ false
+      go true f = absurd (clear .never-both v e f)
+      go false f = refl
 
 -- ---- the code of what is known
 
@@ -112,18 +149,47 @@ module _ (held more : List Held) where
   store-stays (cell v) w = rw (cell-stays held more v (each-head (w .plains)))
   store-stays (element v s) w = rw (element-stays v s (each-left (subscriptsNames s) [] (w .plains)) (w .arrays))
 
-  pub ending-stays : (entry : Instr) (f : Form) → Known held (formFirst f) → formEnding later (dimsHeld later) entry f ≡ formEnding held (dimsHeld held) entry f
-  ending-stays entry (assign t e) w = rw (store-stays t w)
-  ending-stays entry (goTo n) w = refl
-  ending-stays entry (computed ns v) w = rw (cell-stays held more v (each-head (w .plains)))
-  ending-stays entry (ifs e a b c) w = refl
-  ending-stays entry (loop n v p q r) w = refl
-  ending-stays entry continue w = refl
-  ending-stays entry stop w = refl
-  ending-stays entry end w = refl
-  ending-stays entry (dimension arrays) w = refl
+  -- a bare name in a list: an array that stands in the table, or a name that has its cell
+  bare-stays : Clear later → (v : Name) → Plains (listedPlain held (Item.plain v)) → itemOf later (dimsHeld later) (cell v) ≡ itemOf held (dimsHeld held) (cell v)
+  bare-stays clear v h = go (holds (isArray v) held) refl h
+    where
+      go : (b : Bool) → holds (isArray v) held ≡ b → Plains (cond b [] (v ∷ [])) → itemOf later (dimsHeld later) (cell v) ≡ itemOf held (dimsHeld held) (cell v)
+      go true e i =
+          let d = dims-stay held more v e in
+          let rows = clear .rows v (holds-left (isArray v) held more e) in
+          bare-array later v rows ∙ rw (d, base-stays held more v e) (sym (bare-array held v (subst (λ (x : Dims). 1 ≤ x .rows) d rows)))
+      go false e i =
+          let n = each-head i in
+          bare-name later v (no-array later v clear (holds-left (isName v) held more n)) ∙ rw (cell-stays held more v n) (sym (bare-name held v e))
 
-  pub form-stays : (entry : Instr) (f : Form) → Known held (formFirst f) → Known held (formItems f)
-      → formCode later (dimsHeld later) (λ n. n) entry f ≡ formCode held (dimsHeld held) (λ n. n) entry f
-  form-stays entry f w x =
-      rw (form-code later (dimsHeld later) entry f, form-code held (dimsHeld held) entry f, items-stay (formItems f) x, ending-stays entry f w)
+  list-stays : Clear later → (list : List Target) → Plains (allListedPlain held (map targetItem list)) → Arrays (itemsReferences (map targetItem list))
+      → map (itemOf later (dimsHeld later)) list ≡ map (itemOf held (dimsHeld held)) list
+  list-stays clear [] h a = refl
+  list-stays clear (cell v ∷ list) h a =
+      rw (
+        bare-stays clear v (each-left (listedPlain held (Item.plain v)) (allListedPlain held (map targetItem list)) h),
+        list-stays clear list (each-right (listedPlain held (Item.plain v)) (allListedPlain held (map targetItem list)) h) a,
+      )
+  list-stays clear (element v s ∷ list) h a =
+      rw (
+        element-stays v s (each-left (subscriptsNames s) (allListedPlain held (map targetItem list)) h) (each-left (record { name = v; subscripts = s } ∷ []) (itemsReferences (map targetItem list)) a),
+        list-stays clear list (each-right (subscriptsNames s) (allListedPlain held (map targetItem list)) h) (each-right (record { name = v; subscripts = s } ∷ []) (itemsReferences (map targetItem list)) a),
+      )
+
+  pub ending-stays : Clear later → (entry : Instr) (f : Form) → Known held (formFirst f) → KnownList held (formListed f) → formEnding later (dimsHeld later) entry f ≡ formEnding held (dimsHeld held) entry f
+  ending-stays clear entry (assign t e) w l = rw (store-stays t w)
+  ending-stays clear entry (goTo n) w l = refl
+  ending-stays clear entry (computed ns v) w l = rw (cell-stays held more v (each-head (w .plains)))
+  ending-stays clear entry (ifs e a b c) w l = refl
+  ending-stays clear entry (loop n v p q r) w l = refl
+  ending-stays clear entry continue w l = refl
+  ending-stays clear entry stop w l = refl
+  ending-stays clear entry end w l = refl
+  ending-stays clear entry (dimension arrays) w l = refl
+  ending-stays clear entry (transfer d n list) w l = ap (λ (x : List Listed). transferInstr d noFormat x ∷ []) (list-stays clear list (l .plains) (l .arrays))
+  ending-stays clear entry (format f) w l = refl
+
+  pub form-stays : Clear later → (entry : Instr) (f : Form) → Known held (formFirst f) → Known held (formItems f) → KnownList held (formListed f)
+      → formCode later (dimsHeld later) (λ n. n) (λ n. noFormat) entry f ≡ formCode held (dimsHeld held) (λ n. n) (λ n. noFormat) entry f
+  form-stays clear entry f w x l =
+      rw (form-code later (dimsHeld later) entry f, form-code held (dimsHeld held) entry f, items-stay (formItems f) x, ending-stays clear entry f w l)

@@ -15,6 +15,9 @@ withNames n names cells =
       code = n .code;
       jumps = n .jumps;
       statements = n .statements;
+      items = n .items;
+      transfers = n .transfers;
+      «format_words» = n .«format_words»;
     }
 
 abbrev pub withConstants : Counts → ℕ → Counts
@@ -29,6 +32,9 @@ withConstants n constants =
       code = n .code;
       jumps = n .jumps;
       statements = n .statements;
+      items = n .items;
+      transfers = n .transfers;
+      «format_words» = n .«format_words»;
     }
 
 abbrev pub withElements : Counts → ℕ → Counts
@@ -43,6 +49,9 @@ withElements n elements =
       code = n .code;
       jumps = n .jumps;
       statements = n .statements;
+      items = n .items;
+      transfers = n .transfers;
+      «format_words» = n .«format_words»;
     }
 
 abbrev pub withExits : Counts → ℕ → Counts
@@ -57,6 +66,9 @@ withExits n exits =
       code = n .code;
       jumps = n .jumps;
       statements = n .statements;
+      items = n .items;
+      transfers = n .transfers;
+      «format_words» = n .«format_words»;
     }
 
 -- one DO more
@@ -72,6 +84,9 @@ withDo n =
       code = n .code;
       jumps = n .jumps;
       statements = n .statements;
+      items = n .items;
+      transfers = n .transfers;
+      «format_words» = n .«format_words»;
     }
 
 -- one word more of code
@@ -87,6 +102,9 @@ withWord n =
       code = n .code + 1;
       jumps = n .jumps;
       statements = n .statements;
+      items = n .items;
+      transfers = n .transfers;
+      «format_words» = n .«format_words»;
     }
 
 -- one statement more, and so many jumps then
@@ -102,4 +120,61 @@ withMarks n jumps =
       code = n .code;
       jumps = jumps;
       statements = n .statements + 1;
+      items = n .items;
+      transfers = n .transfers;
+      «format_words» = n .«format_words»;
+    }
+
+-- one item more of a list
+abbrev pub withItem : Counts → Counts
+withItem n =
+    record {
+      names = n .names;
+      cells = n .cells;
+      constants = n .constants;
+      elements = n .elements;
+      exits = n .exits;
+      dos = n .dos;
+      code = n .code;
+      jumps = n .jumps;
+      statements = n .statements;
+      items = n .items + 1;
+      transfers = n .transfers;
+      «format_words» = n .«format_words»;
+    }
+
+-- one READ or PRINT more
+abbrev pub withTransfer : Counts → Counts
+withTransfer n =
+    record {
+      names = n .names;
+      cells = n .cells;
+      constants = n .constants;
+      elements = n .elements;
+      exits = n .exits;
+      dos = n .dos;
+      code = n .code;
+      jumps = n .jumps;
+      statements = n .statements;
+      items = n .items;
+      transfers = n .transfers + 1;
+      «format_words» = n .«format_words»;
+    }
+
+-- so many words of FORMATs
+abbrev pub withFormats : Counts → ℕ → Counts
+withFormats n words =
+    record {
+      names = n .names;
+      cells = n .cells;
+      constants = n .constants;
+      elements = n .elements;
+      exits = n .exits;
+      dos = n .dos;
+      code = n .code;
+      jumps = n .jumps;
+      statements = n .statements;
+      items = n .items;
+      transfers = n .transfers;
+      «format_words» = words;
     }

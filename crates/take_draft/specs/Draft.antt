@@ -1,15 +1,17 @@
--- What compiling keeps of each statement: a draft of its code in which statement numbers stand for addresses and the DOEs are not yet, and what the deck as a
--- whole is judged by.
+-- What compiling keeps of each statement: a draft of its code in which statement numbers stand for addresses, the DOEs are not yet and no FORMAT has its place, its
+-- FORMAT's words, and what the deck as a whole is judged by.
 -- Assumes nothing.
 use Prim.Native.Nat.{ℕ, suc}
+use mathlib.Core.Bool.{Bool, _&&_}
 use mathlib.Core.List.{List, [], _∷_, _++_, map}
+use lib.Dec.{leb, eqb}
 use lib.ListN.{length}
-use Rattle.rules_object.specs.Object.{Loop}
+use Rattle.rules_object.specs.Object.{Loop, ListItem}
 use Rattle.rules_object.specs.Operations.{Instr, NEG, DOI}
-use Rattle.rules_text.specs.Trees.{Name, valueOf, Form, assign, goTo, computed, ifs, loop, continue, stop, end, dimension, Statement, Range, partsOf, gathered, formNumbers}
-use Rattle.rules_deck.specs.Translation.{Held, cellOf, limitOf, brings, formCode, Tables, noTables, emit, tablesOf}
-use Rattle.rules_deck.specs.Whole.{formSets}
-use Rattle.read_tokens.specs.Words.{nameWord}
+use Rattle.rules_text.specs.Trees.{Name, valueOf, reading, printing, Form, assign, goTo, computed, ifs, loop, continue, stop, end, dimension, transfer, format, Statement, Phrase, sets, chooses, computes, steps, declares, lists, Range, partsOf, gathered, formNumbers, formUses}
+use Rattle.rules_deck.specs.Deck.{formatIn}
+use Rattle.rules_deck.specs.Translation.{Held, cellOf, limitOf, brings, wordsAt, noFormat, formCode, Tables, noTables, emit, tablesOf}
+use Rattle.rules_deck.specs.Whole.{targetSets}
 use Rattle.take_draft.specs.Names.{dimsHeld}
 
 -- ---- what the whole is judged by
@@ -24,27 +26,42 @@ kindOf continue = 5
 kindOf stop = 6
 kindOf end = 7
 kindOf (dimension arrays) = 8
+kindOf (transfer reading n list) = 9
+kindOf (transfer printing n list) = 10
+kindOf (format f) = 11
 
--- the first of some names, 0 for none
-abbrev pub firstWord : List Name → ℕ
-firstWord [] = 0
-firstWord (v ∷ vs) = nameWord v
+-- the plain name that an assignment or a DO sets; those that a READ sets are told by its list
+abbrev pub phraseTarget : Phrase → List Name
+phraseTarget (sets t) = targetSets t
+phraseTarget (chooses v) = []
+phraseTarget (computes e) = []
+phraseTarget (steps r) = []
+phraseTarget (declares arrays) = []
+phraseTarget (lists d list) = []
 
--- the name that a statement sets
-abbrev pub setWord : Form → ℕ
-setWord f = firstWord (formSets f)
+abbrev pub formTarget : Form → List Name
+formTarget f = gathered phraseTarget (partsOf f .text)
 
--- the numbers that it jumps to, or a DO's last: what a number is for is told by the row's kind, and not beside it
+-- one more than the cell of the first of some names, 0 for none
+abbrev pub firstSet : List Held → List Name → ℕ
+firstSet held [] = 0
+firstSet held (v ∷ vs) = suc (cellOf held v)
+
+-- whether an item of a READ's list sets a variable's cell: of an array's cells none is a variable's, and an element has no count
+abbrev pub setsCell : ℕ → ListItem → Bool
+setsCell c i = leb 1 (i .count) && eqb c (i .first)
+
+-- the numbers that it jumps to, a DO's last or a FORMAT's: what a number is for is told by the row's kind, and not beside it
 abbrev pub jumpWords : Form → List ℕ
-jumpWords f = map valueOf (formNumbers f)
+jumpWords f = map valueOf (formNumbers f ++ formUses f)
 
 -- words of a form's own code
 abbrev pub ownWords : Form → ℕ
-ownWords f = length (formCode [] (dimsHeld []) (λ n. n) NEG f)
+ownWords f = length (formCode [] (dimsHeld []) (λ n. n) (λ n. noFormat) NEG f)
 
--- number, kind, name set, words of code, jumps
-abbrev pub rowWords : Statement → List ℕ
-rowWords s = s .number ∷ kindOf (s .form) ∷ setWord (s .form) ∷ ownWords (s .form) ∷ length (jumpWords (s .form)) ∷ []
+-- number, kind, cell set, words of code, jumps
+abbrev pub rowWords : List Held → Statement → List ℕ
+rowWords held s = s .number ∷ kindOf (s .form) ∷ firstSet held (formTarget (s .form)) ∷ ownWords (s .form) ∷ length (jumpWords (s .form)) ∷ []
 
 -- a DO's position, and where the number of its last statement stands in the jumps
 abbrev pub loopWords : ℕ → ℕ → Form → List ℕ
@@ -64,7 +81,7 @@ noLoop = record { variable = 0; limit = 0; step = 0; body = 0 }
 
 -- with d DOs before it
 abbrev pub draftCode : ℕ → List Held → Form → List Instr
-draftCode d held f = formCode held (dimsHeld held) (λ n. n) (DOI d noLoop) f
+draftCode d held f = formCode held (dimsHeld held) (λ n. n) (λ n. noFormat) (DOI d noLoop) f
 
 pub record Draft : Type 0 where
   pub held : List Held
@@ -74,9 +91,11 @@ pub record Draft : Type 0 where
   pub loops : List ℕ
   pub rows : List ℕ
   pub jumps : List ℕ
+  -- body 8's words
+  pub formats : List ℕ
 
 abbrev pub noDraft : Draft
-noDraft = record { held = []; tables = noTables; code = []; dos = []; loops = []; rows = []; jumps = [] }
+noDraft = record { held = []; tables = noTables; code = []; dos = []; loops = []; rows = []; jumps = []; formats = [] }
 
 -- with the statement at position q
 unfoldable pub drafts : ℕ → Statement → Draft → Draft
@@ -87,8 +106,9 @@ drafts q s D =
       code = D .code ++ emit (D .tables) (draftCode (length (D .dos)) (brings q (s .form) (D .held)) (s .form));
       dos = D .dos ++ entriesOf (brings q (s .form) (D .held)) q (s .form);
       loops = D .loops ++ loopWords q (length (D .jumps)) (s .form);
-      rows = D .rows ++ rowWords s;
+      rows = D .rows ++ rowWords (brings q (s .form) (D .held)) s;
       jumps = D .jumps ++ jumpWords (s .form);
+      formats = D .formats ++ wordsAt (length (D .formats)) (formatIn (s .form));
     }
 
 abbrev pub draftFrom : ℕ → List Statement → Draft → Draft

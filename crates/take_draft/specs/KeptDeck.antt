@@ -1,19 +1,19 @@
--- What the tables hold once every statement of an accepted deck is taken: its translation, but for addresses, exits, DOEs and bodies.
+-- What the tables hold once every statement of an accepted deck is taken: its translation, but for addresses, exits, DOEs, bodies and where FORMATs stand.
 -- Assumes nothing.
 use mathlib.Core.Path.{_≡_}
-use Prim.Native.Nat.{ℕ, _*_}
+use Prim.Native.Nat.{_*_}
 use mathlib.Core.List.{List, map}
-use lib.ListN.{length, take}
+use lib.ListN.{length, take, drop}
 use Rattle.rules_shared.specs.House.{House}
-use Rattle.rules_object.specs.Bytes.{concat, elementWords, loopWords}
+use Rattle.rules_object.specs.Bytes.{concat, elementWords, loopWords, itemWords, transferWords}
 use Rattle.rules_text.specs.Trees.{Statement}
 use Rattle.rules_deck.specs.Deck.{dosOf}
 use Rattle.rules_deck.specs.Translation.{cellCount, heldOf, noTables, emit, translate}
 use Rattle.rules_deck.specs.Judge.{nameCount}
 use Rattle.take_draft.specs.declared.Counts.{Counts}
 use Rattle.take_draft.specs.Names.{heldWords}
-use Rattle.take_draft.specs.Kept.{Words}
-use Rattle.take_draft.specs.Sketch.{deckRows, deckJumps, loopsFrom, plainCode, openEntry}
+use Rattle.take_draft.specs.Kept.{itemsStart, Words}
+use Rattle.take_draft.specs.Sketch.{deckRows, deckJumps, loopsFrom, plainCode, openEntry, openTransfer}
 
 pub record KeptDeck (house : House) (deck : List Statement) (lent : Words) (n : Counts) : Type 0 where
   pub names-are : take (7 * n .names) (lent .names) ≡ heldWords 0 (heldOf deck)
@@ -32,3 +32,9 @@ pub record KeptDeck (house : House) (deck : List Statement) (lent : Words) (n : 
   pub rows-are : take (5 * n .statements) (lent .rows) ≡ deckRows deck
   pub jumps-are : take (n .jumps) (lent .jumps) ≡ deckJumps deck
   pub jumps-count : n .jumps ≡ length (deckJumps deck)
+  pub items-are : take (2 * n .items) (drop itemsStart (lent .lists)) ≡ concat (map itemWords (translate house deck .items))
+  pub items-count : n .items ≡ length (translate house deck .items)
+  pub transfers-are : take (3 * n .transfers) (lent .lists) ≡ concat (map transferWords (map openTransfer (translate house deck .transfers)))
+  pub transfers-count : n .transfers ≡ length (translate house deck .transfers)
+  pub formats-are : take (n .«format_words») (lent .formats) ≡ translate house deck .formats
+  pub formats-count : n .«format_words» ≡ length (translate house deck .formats)

@@ -14,7 +14,7 @@ use Rattle.rules_deck.specs.Translation.{Held, name, array, hidden, arraySize, 
 use Rattle.rules_deck.specs.Judge.{nameCount, Reference, rightReference}
 use Rattle.rules_deck.specs.Cells.{namesHeld, arraysHeld}
 use Rattle.read_tokens.specs.Words.{nameOf, nameWords}
-use Rattle.take_draft.specs.Parts.{Item, itemsNames, itemsConstants, itemsPlain, itemsReferences}
+use Rattle.take_draft.specs.Parts.{Item, itemsNames, itemsConstants, itemsPlain, itemsReferences, allListedPlain}
 
 abbrev pub entryWords : Name → ℕ → ℕ → ℕ → List ℕ
 entryWords v first rows columns = nameWords (nameOf v) ++ (first ∷ rows ∷ columns ∷ [])
@@ -62,4 +62,11 @@ pub record Known (held : List Held) (is : List Item) : Type 0 where
   pub told : Each Told (itemsNames is)
   pub exact : Each Exact (itemsConstants is)
   pub plains : Each (λ (v : Name). holds (isName v) held ≡ true) (itemsPlain is)
+  pub arrays : Each (λ (r : Reference). rightReference held r ≡ true) (itemsReferences is)
+
+-- every item of a list has its cells in the table: a bare name is an array's, or has its cell
+pub record KnownList (held : List Held) (is : List Item) : Type 0 where
+  pub told : Each Told (itemsNames is)
+  pub exact : Each Exact (itemsConstants is)
+  pub plains : Each (λ (v : Name). holds (isName v) held ≡ true) (allListedPlain held is)
   pub arrays : Each (λ (r : Reference). rightReference held r ≡ true) (itemsReferences is)

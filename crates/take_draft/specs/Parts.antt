@@ -1,16 +1,17 @@
--- A form in parts: the operand that stands first in its text, its other operands and operations in order of emission, and its last instructions.
+-- A form in parts: the operand that stands first in its text, its other operands and operations in order of emission, the items of a list, and its last
+-- instructions.
 -- Assumes nothing.
 use mathlib.Core.Path.{_≡_}
 use Prim.Native.Nat.{ℕ}
-use mathlib.Core.Bool.{Bool, _&&_, not}
+use mathlib.Core.Bool.{Bool, true, false, _&&_, not, cond}
 use mathlib.Core.List.{List, [], _∷_, _++_, map}
 use Rattle.number.specs.Number.{Op}
-use Rattle.rules_object.specs.Operations.{Instr, HLT, CON, LOD, LDE, OP, NEG, JMP, BR3, BRC}
-use Rattle.rules_text.specs.Trees.{Name, Digits, valueOf, Subscripts, subscriptsNames, subscriptsConstants, Expr, con, var, elm, neg, par, bin, Target, cell, element, Form, assign, goTo, computed, ifs, loop, continue, stop, end, dimension, Phrase, sets, chooses, computes, steps, declares, partsOf, gathered}
+use Rattle.rules_object.specs.Operations.{Listed, aSpan, oneElement, Instr, HLT, CON, LOD, LDE, OP, NEG, JMP, BR3, BRC}
+use Rattle.rules_text.specs.Trees.{Name, Digits, valueOf, Subscripts, subscriptsNames, subscriptsConstants, Expr, con, var, elm, neg, par, bin, Target, cell, element, Form, assign, goTo, computed, ifs, loop, continue, stop, end, dimension, transfer, format, Phrase, sets, chooses, computes, steps, declares, lists, partsOf, gathered}
 use Rattle.rules_deck.specs.Deck.{Dims}
 use Rattle.rules_deck.specs.Meaning.{third}
 use Rattle.rules_shared.specs.Lists.{all}
-use Rattle.rules_deck.specs.Translation.{Held, isArray, holds, cellOf, elementEntry, storeCode}
+use Rattle.rules_deck.specs.Translation.{Held, isArray, holds, noFormat, transferInstr, cellOf, elementEntry, storeCode, spanOf, itemOf}
 use Rattle.rules_deck.specs.Judge.{Reference, rightReference}
 use Rattle.read_tokens.specs.Words.{capped, nameOf, nameWords}
 use Rattle.read_elements.specs.Values.{subscriptsValue}
@@ -102,6 +103,31 @@ itemsConstants (i ∷ is) = itemConstants i ++ itemsConstants is
 abbrev pub rightItems : List Held → List Item → Bool
 rightItems held is = all (rightReference held) (itemsReferences is) && all (λ v. not (holds (isArray v) held)) (itemsPlain is)
 
+-- in a list an array's bare name is no plain name
+abbrev pub listedPlain : List Held → Item → List Name
+listedPlain held (value c) = []
+listedPlain held (plain v) = cond (holds (isArray v) held) [] (v ∷ [])
+listedPlain held (place v s) = subscriptsNames s
+listedPlain held negate = []
+listedPlain held (apply o) = []
+
+abbrev pub allListedPlain : List Held → List Item → List Name
+allListedPlain held [] = []
+allListedPlain held (i ∷ is) = listedPlain held i ++ allListedPlain held is
+
+-- the plain names of operands, or of a list's items
+abbrev pub plainIn : Bool → List Held → Item → List Name
+plainIn true held i = listedPlain held i
+plainIn false held i = itemPlain i
+
+abbrev pub allPlainIn : Bool → List Held → List Item → List Name
+allPlainIn true held is = allListedPlain held is
+allPlainIn false held is = itemsPlain is
+
+-- 16 of a list's items
+abbrev pub rightListed : List Held → List Item → Bool
+rightListed held is = all (rightReference held) (itemsReferences is) && all (λ v. not (holds (isArray v) held)) (allListedPlain held is)
+
 -- words that are some items
 pub record Worded (words : List ℕ) : Type 0 where
   pub items : List Item
@@ -119,6 +145,14 @@ module _ (held : List Held) (dims : Name → Dims) where
   itemsCode [] = []
   itemsCode (i ∷ is) = itemCode i ∷ itemsCode is
 
+  -- an item of a list in the object; a list has no other items than names and elements
+  abbrev pub listedOf : Item → Listed
+  listedOf (value c) = aSpan 0 0
+  listedOf (plain v) = spanOf held dims v (dims v .rows)
+  listedOf (place v s) = oneElement (elementEntry held dims v s)
+  listedOf negate = aSpan 0 0
+  listedOf (apply o) = aSpan 0 0
+
 -- ---- a form's parts
 
 abbrev pub targetItem : Target → Item
@@ -132,6 +166,7 @@ phraseFirst (chooses v) = plain v ∷ []
 phraseFirst (computes e) = []
 phraseFirst (steps r) = []
 phraseFirst (declares arrays) = []
+phraseFirst (lists d list) = []
 
 abbrev pub formFirst : Form → List Item
 formFirst f = gathered phraseFirst (partsOf f .text)
@@ -143,11 +178,24 @@ phraseItems (chooses v) = []
 phraseItems (computes e) = itemsOf e
 phraseItems (steps r) = itemsOf (third r)
 phraseItems (declares arrays) = []
+phraseItems (lists d list) = []
 
 abbrev pub formItems : Form → List Item
 formItems f = gathered phraseItems (partsOf f .text)
 
--- what comes after them; statement numbers stand for addresses
+-- the items of a READ's or PRINT's list, in the text's order
+abbrev pub phraseListed : Phrase → List Item
+phraseListed (sets t) = []
+phraseListed (chooses v) = []
+phraseListed (computes e) = []
+phraseListed (steps r) = []
+phraseListed (declares arrays) = []
+phraseListed (lists d list) = map targetItem list
+
+abbrev pub formListed : Form → List Item
+formListed f = gathered phraseListed (partsOf f .text)
+
+-- what comes after them; statement numbers stand for addresses, and no FORMAT has its place
 abbrev pub formEnding : List Held → (Name → Dims) → Instr → Form → List Instr
 formEnding held dims entry (assign t e) = storeCode held dims t ∷ []
 formEnding held dims entry (goTo n) = JMP (valueOf n) ∷ []
@@ -158,3 +206,5 @@ formEnding held dims entry continue = []
 formEnding held dims entry stop = HLT 0 ∷ []
 formEnding held dims entry end = HLT 1 ∷ []
 formEnding held dims entry (dimension arrays) = []
+formEnding held dims entry (transfer d n list) = transferInstr d noFormat (map (itemOf held dims) list) ∷ []
+formEnding held dims entry (format f) = []

@@ -1,7 +1,7 @@
 // What compiling has kept of the statements so far, counted. The tables themselves are lent: see specs/Kept.antt.
 ghost use mathlib.Core.Path.{_≡_};
 ghost use Prim.Native.Nat.{_≤_};
-ghost use Rattle.take_draft.specs.Counts.{withNames, withDo, withMarks};
+ghost use Rattle.take_draft.specs.Counts.{withNames, withDo, withMarks, withItem, withTransfer, withFormats};
 
 pub struct Counts {
     pub names: usize,
@@ -14,6 +14,10 @@ pub struct Counts {
     pub code: usize,
     pub jumps: usize,
     pub statements: usize,
+    // of READs' and PRINTs' lists
+    pub items: usize,
+    pub transfers: usize,
+    pub format_words: usize,
 }
 
 pub fn with_names(n: Counts, names: usize, cells: usize) -> Counts
@@ -42,5 +46,31 @@ pub fn with_marks(n: Counts, jumps: usize) -> Counts
     let mut m = n;
     m.jumps = jumps;
     m.statements = n.statements + 1;
+    m
+}
+
+pub fn with_item(n: Counts) -> Counts
+    requires { ⌜ n .items ≤ 1024 ⌝ }
+    ensures { λ r. ⌜ r ≡ withItem n ⌝ }
+{
+    let mut m = n;
+    m.items = n.items + 1;
+    m
+}
+
+pub fn with_transfer(n: Counts) -> Counts
+    requires { ⌜ n .transfers ≤ 400 ⌝ }
+    ensures { λ r. ⌜ r ≡ withTransfer n ⌝ }
+{
+    let mut m = n;
+    m.transfers = n.transfers + 1;
+    m
+}
+
+pub fn with_formats(n: Counts, words: usize) -> Counts
+    ensures { λ r. ⌜ r ≡ withFormats n words ⌝ }
+{
+    let mut m = n;
+    m.format_words = words;
     m
 }

@@ -17,5 +17,11 @@ pub const END: u64 = 7;
 
 pub const DIMENSION: u64 = 8;
 
+pub const READ: u64 = 9;
+
+pub const PRINT: u64 = 10;
+
+pub const FORMAT: u64 = 11;
+
 // A text that is no statement.
-pub const NO_FORM: u64 = 9;
+pub const NO_FORM: u64 = 12;

@@ -13,6 +13,7 @@ use Rattle.read_forms.specs.declared.Computed.{Computed}
 use Rattle.read_forms.specs.declared.If.{If}
 use Rattle.read_forms.specs.declared.Do.{Do}
 use Rattle.read_forms.specs.declared.Dimension.{Dimension}
+use Rattle.read_forms.specs.declared.Transfer.{Transfer}
 use Rattle.read_forms.specs.declared.Statement.{Statement}
 use Rattle.read_forms.specs.declared.Statement.the-variants as statement
 use Rattle.take_limits.specs.Tests.{rightNumber, ofSizes, ofNumber, ofStatement, exitsIn}
@@ -45,6 +46,10 @@ module _ (k : ℕ) (items : List ℕ) (s : Statement) (r : ℕ) where
   pub of-dimension : (d : Dimension) → s ≡ statement.Dimension d → r ≡ ofSizes k (d .sizes) true → r ≡ ofStatement k items s
   unfolding ofStatement
   of-dimension d e q = q ∙ sym (ap (ofStatement k items) e)
+
+  pub of-transfer : (t : Transfer) → s ≡ statement.Transfer t → (b : Bool) → b ≡ rightNumber (t .format .0) → r ≡ ofSizes k (t .sizes) b → r ≡ ofStatement k items s
+  unfolding ofStatement
+  of-transfer t e b p q = q ∙ ap (ofSizes k (t .sizes)) p ∙ sym (ap (ofStatement k items) e)
 
 module _ (k : ℕ) (items : List ℕ) (s : Statement) where
   pub of-continue : s ≡ statement.Continue → 0 ≡ ofStatement k items s

@@ -11,7 +11,7 @@ use lib.ListN.{length, take, length-take, length-map}
 use borrow.Author.Tests.{leb-true, leb-false, le-leb, lt-leb}
 use Rattle.rules_shared.specs.House.{house1401}
 use Rattle.rules_shared.specs.Lists.{all}
-use Rattle.rules_text.specs.Trees.{Name, Expr, Digits, valueOf, Form, assign, goTo, computed, ifs, loop, continue, stop, end, dimension, formNames, formConstants, formExits, formLast, formLevels}
+use Rattle.rules_text.specs.Trees.{Name, Expr, Digits, valueOf, Target, Direction, Form, assign, goTo, computed, ifs, loop, continue, stop, end, dimension, transfer, format, formNames, formConstants, formExits, formLast, formUses, formLevels}
 use Rattle.rules_deck.specs.Judge.{right11, right12, right13, right14}
 use Rattle.rules_deck.proofs.Houses.{lawful1401, right13-all}
 use Rattle.read_tokens.specs.Words.{capped}
@@ -57,19 +57,23 @@ unfolding ofSizes
 sizes-tell k f b e = rw (sizes-11 (house1401 k) f, sizes-12 (house1401 k) f, sizes-14 f, e)
 
 number-tells : (k : ℕ) (n : Digits) → rightNumber (capped n) ≡ right13 (house1401 k) (goTo n)
-unfolding formExits formLast
+unfolding formExits formLast formUses
 number-tells k n = capped-right n ∙ sym (and-true (rightDigits n)) ∙ sym (right13-all (lawful1401 k) (goTo n))
 
 last-tells : (k : ℕ) (n : Digits) (v : Name) (p q : Expr) (r : Option Expr) → rightNumber (capped n) ≡ right13 (house1401 k) (loop n v p q r)
-unfolding formExits formLast
+unfolding formExits formLast formUses
 last-tells k n v p q r = capped-right n ∙ sym (and-true (rightDigits n)) ∙ sym (right13-all (lawful1401 k) (loop n v p q r))
 
+format-tells : (k : ℕ) (d : Direction) (n : Digits) (list : List Target) → rightNumber (capped n) ≡ right13 (house1401 k) (transfer d n list)
+unfolding formExits formLast formUses
+format-tells k d n list = capped-right n ∙ sym (and-true (rightDigits n)) ∙ sym (right13-all (lawful1401 k) (transfer d n list))
+
 three-tell : (k : ℕ) (e : Expr) (a b c : Digits) → (rightNumber (capped a) && (rightNumber (capped b) && rightNumber (capped c))) ≡ right13 (house1401 k) (ifs e a b c)
-unfolding formExits formLast
+unfolding formExits formLast formUses
 three-tell k e a b c = rw (right13-all (lawful1401 k) (ifs e a b c), capped-right a, capped-right b, capped-right c, and-true (rightDigits c))
 
 list-tells : (k : ℕ) (ns : List Digits) (v : Name) → all rightNumber (map capped ns) ≡ right13 (house1401 k) (computed ns v)
-unfolding formExits formLast
+unfolding formExits formLast formUses
 list-tells k ns v = all-capped ns ∙ ap (all rightDigits) (sym (append-nil ns)) ∙ sym (right13-all (lawful1401 k) (computed ns v))
 
 go-to-alone : (k : ℕ) (n : Digits) → ofNumber (rightNumber (capped n)) ≡ lowest (right11 (house1401 k) (goTo n)) (right12 (house1401 k) (goTo n)) (right13 (house1401 k) (goTo n)) (right14 (goTo n))
@@ -82,7 +86,7 @@ computed-table ns v items h = subst (λ (n : ℕ). take n items ≡ map capped n
 
 pub of-form : (k : ℕ) (f : Form) (items : List ℕ) → take (length (formWords f)) items ≡ formWords f
     → ofStatement k items (statementOf f) ≡ lowest (right11 (house1401 k) f) (right12 (house1401 k) f) (right13 (house1401 k) f) (right14 f)
-unfolding ofStatement statementOf right11 right12 right13 right14 formNames formConstants formLevels formExits formLast
+unfolding ofStatement statementOf right11 right12 right13 right14 formNames formConstants formLevels formExits formLast formUses
 of-form k (assign t e) items h = sizes-tell k (assign t e) true refl
 of-form k (goTo n) items h = go-to-alone k n
 of-form k (computed ns v) items h = sizes-tell k (computed ns v) (all rightNumber (take (length ns) items)) (ap (all rightNumber) (computed-table ns v items h) ∙ list-tells k ns v)
@@ -92,6 +96,8 @@ of-form k continue items h = refl
 of-form k stop items h = refl
 of-form k end items h = refl
 of-form k (dimension arrays) items h = sizes-tell k (dimension arrays) true refl
+of-form k (transfer d n list) items h = sizes-tell k (transfer d n list) _ (format-tells k d n list)
+of-form k (format f) items h = refl
 
 -- the numbers stand in the table
 pub exits-fit : (f : Form) (items : List ℕ) → take (length (formWords f)) items ≡ formWords f → exitsIn (statementOf f) ≤ length items
@@ -106,3 +112,5 @@ exits-fit continue items h = omega arith
 exits-fit stop items h = omega arith
 exits-fit end items h = omega arith
 exits-fit (dimension arrays) items h = omega arith
+exits-fit (transfer d n list) items h = omega arith
+exits-fit (format f) items h = omega arith

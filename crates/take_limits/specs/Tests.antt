@@ -10,7 +10,7 @@ use Rattle.rules_shared.specs.House.{house1401}
 use Rattle.rules_shared.specs.Lists.{all}
 use Rattle.read_tokens.specs.declared.Sizes.{Sizes}
 use Rattle.read_forms.specs.declared.Statement.{Statement}
-use Rattle.read_forms.specs.declared.Statement.the-variants.{Assign, GoTo, Computed, If, Do, Continue, Stop, End, Dimension, Bad}
+use Rattle.read_forms.specs.declared.Statement.the-variants.{Assign, GoTo, Computed, If, Do, Continue, Stop, End, Dimension, Transfer, Bad}
 
 -- the lowest number of what is not right, 0 for none
 abbrev pub lowest : Bool → Bool → Bool → Bool → ℕ
@@ -36,6 +36,7 @@ ofStatement k items Continue = 0
 ofStatement k items Stop = 0
 ofStatement k items End = 0
 ofStatement k items (Dimension d) = ofSizes k (d .sizes) Bool.true
+ofStatement k items (Transfer t) = ofSizes k (t .sizes) (rightNumber (t .format .0))
 ofStatement k items Bad = 0
 
 -- numbers in the table
@@ -49,4 +50,5 @@ exitsIn Continue = 0
 exitsIn Stop = 0
 exitsIn End = 0
 exitsIn (Dimension d) = 0
+exitsIn (Transfer t) = 0
 exitsIn Bad = 0

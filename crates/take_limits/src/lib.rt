@@ -112,6 +112,10 @@ pub fn of_statement(k: u32, items: &[u64], s: Statement) -> u32
             let z = d.sizes;
             of_sizes(k, z, true)
         }
+        Statement::Transfer(t) => {
+            let z = t.sizes;
+            of_sizes(k, z, right_number(t.format))
+        }
         Statement::Bad => 0,
     }
 }

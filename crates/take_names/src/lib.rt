@@ -3,7 +3,7 @@ ghost use mathlib.Core.Path.{_≡_};
 ghost use Prim.Native.Nat.{_≤_, _<_};
 ghost use lib.ListN.{length};
 ghost use Rattle.take_draft.specs.Parts.{Worded};
-ghost use Rattle.take_names.specs.Takes.{TakesName, TakesAny, TakesItem, Appears};
+ghost use Rattle.take_names.specs.Takes.{TakesName, TakesBare, TakesAny, TakesItem, Appears};
 use limits::CELLS;
 use limits::NAMES;
 use read_tokens::Name;
@@ -31,6 +31,20 @@ fn take_name(table: &mut [u64], n: usize, cells: usize, name: Name) -> Grown
     }
 }
 
+// A name that stands bare: in a list an array's takes none.
+fn take_bare(table: &mut [u64], n: usize, cells: usize, name: Name, listed: bool) -> Grown
+    requires { ⌜ (length (now table) ≡ 700) × ((n ≤ 100) × (cells ≤ 4096)) ⌝ }
+    ensures { λ r. ⌜ TakesBare (now (table .entry)) (now (table .exit)) n cells name listed r ⌝ }
+{
+    if !listed {
+        return take_name(table, n, cells, name);
+    }
+    if take_name_table::holds(table, n, name, true) {
+        return Grown::Names { names: n, cells };
+    }
+    take_name(table, n, cells, name)
+}
+
 fn take_any(table: &mut [u64], n: usize, cells: usize, name: Name) -> Grown
     requires { ⌜ (length (now table) ≡ 700) × ((n ≤ 100) × (cells ≤ 4096)) ⌝ }
     ensures { λ r. ⌜ TakesAny (now (table .entry)) (now (table .exit)) n cells name r ⌝ }
@@ -41,13 +55,13 @@ fn take_any(table: &mut [u64], n: usize, cells: usize, name: Name) -> Grown
     take_name(table, n, cells, name)
 }
 
-fn take_item(items: &[u64], table: &mut [u64], n: usize, cells: usize) -> Grown
+fn take_item(items: &[u64], listed: bool, table: &mut [u64], n: usize, cells: usize) -> Grown
     requires { ⌜ (Worded (now items) × (0 < length (now items))) × ((length (now table) ≡ 700) × ((n ≤ 100) × (cells ≤ 4096))) ⌝ }
-    ensures { λ r. ⌜ TakesItem (now (items .entry)) (now (table .entry)) (now (table .exit)) n cells r ⌝ }
+    ensures { λ r. ⌜ TakesItem (now (items .entry)) listed (now (table .entry)) (now (table .exit)) n cells r ⌝ }
 {
     let kind = items[0];
     if kind == 2 {
-        return take_name(table, n, cells, read_tokens::name_at(items, 1));
+        return take_bare(table, n, cells, read_tokens::name_at(items, 1), listed);
     }
     if kind != 4 {
         return Grown::Names { names: n, cells };
@@ -59,16 +73,16 @@ fn take_item(items: &[u64], table: &mut [u64], n: usize, cells: usize) -> Grown
     take_any(table, a, b, read_tokens::name_at(items, SECOND_AT + 1))
 }
 
-// The plain names of some operands, subscripts' too, each taking a cell where it first appears.
-pub fn appear(items: &[u64], table: &mut [u64], n: usize, cells: usize) -> Grown
+// The plain names of some operands or of a list's items, subscripts' too, each taking a cell where it first appears.
+pub fn appear(items: &[u64], listed: bool, table: &mut [u64], n: usize, cells: usize) -> Grown
     requires { ⌜ Worded (now items) × ((length (now table) ≡ 700) × ((n ≤ 100) × (cells ≤ 4096))) ⌝ }
-    ensures { λ r. ⌜ Appears (now (items .entry)) (now (table .entry)) (now (table .exit)) n cells r ⌝ }
+    ensures { λ r. ⌜ Appears (now (items .entry)) listed (now (table .entry)) (now (table .exit)) n cells r ⌝ }
 {
     let mut at = 0;
     let mut names = n;
     let mut taken = cells;
     while at < items.len() {
-        let Grown::Names { names: a, cells: b } = take_item(&items[at..], table, names, taken)
+        let Grown::Names { names: a, cells: b } = take_item(&items[at..], listed, table, names, taken)
         else {
             return Grown::Full;
         };

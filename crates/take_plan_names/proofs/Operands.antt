@@ -4,18 +4,18 @@ use mathlib.Core.Path.{_≡_, refl, sym, ap, _∙_}
 use Prim.Native.Nat.{ℕ, _*_, _-_, _≤_}
 use native.Mathlib.Omega.{arith}
 use mathlib.Core.Bool.{Bool, true, false}
-use mathlib.Core.List.{List}
+use mathlib.Core.List.{List, _++_}
 use lib.ListN.{length, take, drop, length-take}
 use Rattle.rules_shared.specs.House.{house1401}
 use Rattle.rules_shared.specs.Lists.{Each}
-use Rattle.rules_text.specs.Trees.{Array, arrayNames, Form, assign, goTo, computed, ifs, loop, continue, stop, end, dimension, formNames}
+use Rattle.rules_text.specs.Trees.{Array, arrayNames, Form, assign, goTo, computed, ifs, loop, continue, stop, end, dimension, transfer, format, formNames}
 use Rattle.rules_deck.specs.Translation.{Held}
 use Rattle.rules_deck.specs.Judge.{rightArrays, right15}
 use Rattle.rules_deck.proofs.BodySeven.{each-here}
 use Rattle.rules_deck.proofs.RightDeck.{each-among}
 use Rattle.read_forms.specs.Statements.{allWords}
 use Rattle.take_draft.specs.Draft.{kindOf}
-use Rattle.take_draft.specs.Parts.{itemsNames, formFirst, formItems, Worded}
+use Rattle.take_draft.specs.Parts.{itemsNames, formFirst, formItems, formListed, Worded}
 use Rattle.take_draft.specs.Names.{Told}
 use Rattle.take_draft.proofs.FormLaws.{form-right16, first-names, items-names}
 use Rattle.take_arrays.specs.Arrays.{Dimensions}
@@ -35,7 +35,7 @@ pub first-worded : {p : Plan} {first items : List ℕ} → Readied p first items
 first-worded h = record { items = formFirst (h .form); are = h .first-are }
 
 pub items-worded : {p : Plan} {first items : List ℕ} → Readied p first items → Worded (take (p .count - 0) (drop 0 items))
-items-worded {p} {first} {items} h = record { items = formItems (h .form); are = front-part items (p .count) ∙ h .plans .operands }
+items-worded {p} {first} {items} h = record { items = formItems (h .form) ++ formListed (h .form); are = front-part items (p .count) ∙ h .plans .operands }
 
 pub kind-of : {f : Form} {items : List ℕ} {p : Plan} → Plans f items p → kindOf f ≡ p .kind
 kind-of {f} h = sym (ap (λ (x : Plan). x .kind) (h .plan) ∙ plan-kind f)
@@ -91,6 +91,8 @@ other-15 digits held continue z = refl
 other-15 digits held stop z = refl
 other-15 digits held end z = refl
 other-15 digits held (dimension arrays) z = absurd (z refl)
+other-15 digits held (transfer d n list) z = refl
+other-15 digits held (format f) z = refl
 
 pub no-arrays : {p : Plan} {items table : List ℕ} {n : ℕ} → (p .kind ≡ 8 → ⊥) → RightArrays p items table n true
 no-arrays z digits f held cells h l t = other-15 digits held f (λ e. z (sym (kind-of h) ∙ e))

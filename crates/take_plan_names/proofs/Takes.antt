@@ -7,7 +7,7 @@ use mathlib.Core.List.{List, [], _∷_, _++_, map, append-nil}
 use lib.ListN.{take, drop}
 use Rattle.rules_shared.specs.House.{house1401}
 use Rattle.rules_shared.specs.Lists.{Each}
-use Rattle.rules_text.specs.Trees.{Array, arrayNames, Form, assign, goTo, computed, ifs, loop, continue, stop, end, dimension, formNames}
+use Rattle.rules_text.specs.Trees.{Array, arrayNames, Form, assign, goTo, computed, ifs, loop, continue, stop, end, dimension, transfer, format, formNames}
 use Rattle.rules_deck.specs.Deck.{declare, arraysIn}
 use Rattle.rules_deck.specs.Translation.{Held, array, hidden, appear, formPlain, hiddenIn, brings}
 use Rattle.rules_deck.specs.Judge.{rightArrays, right15}
@@ -35,13 +35,13 @@ pub both-within : {first words a b : List ℕ} {n cells : ℕ} {r : Grown} {x y 
 both-within h e = subst Within e (h .within)
 
 abbrev AsDo : List ℕ → List Held → ℕ → Grown → Form → Type 0
-AsDo b held q v f = Appeared (appear held (formPlain f) ++ (hidden q ∷ [])) b v → Appeared (brings q f held) b v
+AsDo b held q v f = Appeared (appear held (formPlain held f) ++ (hidden q ∷ [])) b v → Appeared (brings q f held) b v
 
 abbrev AsArrays : ℕ → List ℕ → ℕ → ℕ → List Held → List ℕ → Grown → ℕ → List ℕ → Form → Type 0
 AsArrays digits b x y held words v q c f =
     ((arrays : List Array) → Lists held b x y → words ≡ allWords arrays → Each Told (arrayNames arrays) → rightArrays false held arrays ≡ true
     → Appeared (held ++ map (λ a. array (declare a)) arrays) c v)
-    → Lists (appear held (formPlain f)) b x y → words ≡ listedWords f → Each Told (formNames f) → right15 (house1401 digits) held f ≡ true → Appeared (brings q f held) c v
+    → Lists (appear held (formPlain held f)) b x y → words ≡ listedWords f → Each Told (formNames f) → right15 (house1401 digits) held f ≡ true → Appeared (brings q f held) c v
 
 as-arrays : (digits : ℕ) (b : List ℕ) (x y : ℕ) (held : List Held) (words : List ℕ) (v : Grown) (q : ℕ) (c : List ℕ) (f : Form) → kindOf f ≡ 8 → AsArrays digits b x y held words v q c f
 unfolding right15 listedWords formNames formPlain
@@ -57,11 +57,13 @@ nothing-more q continue i j = refl
 nothing-more q stop i j = refl
 nothing-more q end i j = refl
 nothing-more q (dimension arrays) i j = absurd (j refl)
+nothing-more q (transfer d n list) i j = refl
+nothing-more q (format f) i j = refl
 
 module _ {p : Plan} {first items a b : List ℕ} {n cells : ℕ} {r : Grown} (h : TakesBoth first (take (p .count - 0) (drop 0 items)) a b n cells r) where
   -- the plain names have their cells
   plains : (f : Form) (held : List Held) → Plans f items p → first ≡ itemsWords (formFirst f) → Lists held a n cells → Each Told (formNames f)
-      → Appeared (appear held (formPlain f)) b r
+      → Appeared (appear held (formPlain held f)) b r
   plains f held s e l t =
       subst (λ (x : List Held). Appeared x b r) (ap (appear held) (sym (form-plain-both f)))
       (h .is held (formFirst f) (formItems f) l e (front-part items (p .count) ∙ s .operands) (told-first f t) (told-items f t))
@@ -70,19 +72,19 @@ module _ {p : Plan} {first items a b : List ℕ} {n cells : ℕ} {r : Grown} (h 
   plains-full c e =
       record {
         within = tt;
-        is = λ digits f held q s u l t z. over-more (appear held (formPlain f)) (more q f) (subst (Appeared (appear held (formPlain f)) b) e (plains f held s u l t));
+        is = λ digits f held q s u l t z. over-more (appear held (formPlain held f)) (more q f) (subst (Appeared (appear held (formPlain held f)) b) e (plains f held s u l t));
       }
 
   module _ {x y : ℕ} (e : r ≡ Names x y) where
     listed : (f : Form) (held : List Held) → Plans f items p → first ≡ itemsWords (formFirst f) → Lists held a n cells → Each Told (formNames f)
-        → Lists (appear held (formPlain f)) b x y
-    listed f held s u l t = subst (Appeared (appear held (formPlain f)) b) e (plains f held s u l t)
+        → Lists (appear held (formPlain held f)) b x y
+    listed f held s u l t = subst (Appeared (appear held (formPlain held f)) b) e (plains f held s u l t)
 
     pub then-hidden : {v : Grown} → p .kind ≡ 4 → Hides x y v → TakesCells p first items a b n cells v
     then-hidden {v} k w =
         record {
           within = w .within;
-          is = λ digits f held q s u l t z. at-do (AsDo b held q v) (λ m i j o w′ g. g) f (kind-of s ∙ k) (w .is (appear held (formPlain f)) b q (listed f held s u l t));
+          is = λ digits f held q s u l t z. at-do (AsDo b held q v) (λ m i j o w′ g. g) f (kind-of s ∙ k) (w .is (appear held (formPlain held f)) b q (listed f held s u l t));
         }
 
     pub then-arrays : {c : List ℕ} {v : Grown} → p .kind ≡ 8 → Declares (take (7 * p .listed - 0) (drop 0 items)) b c x y v → TakesCells p first items a c n cells v
@@ -100,6 +102,6 @@ module _ {p : Plan} {first items a b : List ℕ} {n cells : ℕ} {r : Grown} (h 
           within = both-within h e;
           is = λ digits f held q s u l t z.
               subst (λ (w : List Held). Lists w b x y)
-              (sym (append-nil (appear held (formPlain f))) ∙ ap (λ (w : List Held). appear held (formPlain f) ++ w) (sym (nothing-more q f (λ k. i (sym (kind-of s) ∙ k)) (λ k. j (sym (kind-of s) ∙ k)))))
+              (sym (append-nil (appear held (formPlain held f))) ∙ ap (λ (w : List Held). appear held (formPlain held f) ++ w) (sym (nothing-more q f (λ k. i (sym (kind-of s) ∙ k)) (λ k. j (sym (kind-of s) ∙ k)))))
               (listed f held s u l t);
         }

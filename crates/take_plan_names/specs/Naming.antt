@@ -2,8 +2,9 @@
 -- Assumes nothing.
 use mathlib.Core.Path.{_≡_}
 use Prim.Native.Nat.{ℕ}
-use mathlib.Core.Bool.{Bool, true}
+use mathlib.Core.Bool.{Bool, true, cond}
 use mathlib.Core.List.{List}
+use lib.Dec.{eqb}
 use Rattle.rules_shared.specs.House.{house1401}
 use Rattle.rules_shared.specs.Lists.{Each}
 use Rattle.rules_text.specs.Trees.{Form, formNames}
@@ -15,6 +16,10 @@ use Rattle.take_name_table.specs.declared.Grown.{Grown}
 use Rattle.take_name_table.specs.Appears.{Appeared, Within}
 use Rattle.take_plans.specs.declared.Plan.{Plan}
 use Rattle.take_plans.specs.Plans.{Plans}
+
+-- whether a form of this kind has a list
+abbrev pub isList : ℕ → Bool
+isList kind = cond (eqb kind 9) true (eqb kind 10)
 
 abbrev pub RightArrays : Plan → List ℕ → List ℕ → ℕ → Bool → Type 0
 RightArrays p items table n r =

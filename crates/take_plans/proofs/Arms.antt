@@ -1,6 +1,6 @@
 -- What each arm of a statement's forms tells.
 -- Assumes nothing.
-use mathlib.Core.Path.{_≡_, refl, sym, ap, _∙_, subst}
+use mathlib.Core.Path.{_≡_, refl, sym, ap, ap₂, _∙_, subst}
 use mathlib.Core.Bool.{Bool}
 use mathlib.Core.List.{List, [], _∷_}
 use Prim.Native.Nat.{ℕ, _≤_}
@@ -23,11 +23,12 @@ use Rattle.read_forms.specs.declared.Parameter.{Parameter}
 use Rattle.read_forms.specs.declared.Parameter.the-variants.{Constant, Variable}
 use Rattle.read_forms.specs.declared.Do.{Do}
 use Rattle.read_forms.specs.declared.Dimension.{Dimension}
+use Rattle.read_forms.specs.declared.Transfer.{Transfer}
 use Rattle.read_forms.specs.declared.Statement.{Statement}
 use Rattle.read_forms.specs.declared.Statement.the-variants as statement
 use Rattle.take_draft.specs.Parts.{parameterWords}
 use Rattle.take_plans.specs.declared.Plan.{Plan}
-use Rattle.take_plans.specs.Plans.{noNumber, made, planOf, parametersWords, Laid, Planned, firstWords}
+use Rattle.take_plans.specs.Plans.{noNumber, made, directionKind, planOf, parametersWords, Laid, Planned, firstWords}
 
 abbrev bareWith : Name → ℕ → Plan
 bareWith x kind = made kind (Cell x) 0 0 noNumber noNumber noNumber
@@ -68,9 +69,15 @@ module _ (items : List ℕ) (s : Statement) (r : Plan) where
   unfolding planOf Laid
   of-dimension d e xe q = planned (statement.Dimension d) e (q ∙ ap (λ (y : Name). made 8 (Cell y) 0 (d .arrays) noNumber noNumber noNumber) xe) refl
 
-  pub of-bad : s ≡ statement.Bad → {x : Name} → x ≡ noName → r ≡ bareWith x 9 → Planned s items items r
+  pub of-transfer : (t : Transfer) → s ≡ statement.Transfer t → {x : Name} → x ≡ noName → {kind : ℕ} → kind ≡ directionKind (t .direction)
+      → r ≡ made kind (Cell x) (t .count) (t .listed) (t .format) noNumber noNumber → Planned s items items r
   unfolding planOf Laid
-  of-bad e xe q = planned statement.Bad e (q ∙ ap (λ (y : Name). bareWith y 9) xe) refl
+  of-transfer t e xe ke q =
+      planned (statement.Transfer t) e (q ∙ ap₂ (λ (y : Name) (k : ℕ). made k (Cell y) (t .count) (t .listed) (t .format) noNumber noNumber) xe ke) refl
+
+  pub of-bad : s ≡ statement.Bad → {x : Name} → x ≡ noName → r ≡ bareWith x 12 → Planned s items items r
+  unfolding planOf Laid
+  of-bad e xe q = planned statement.Bad e (q ∙ ap (λ (y : Name). bareWith y 12) xe) refl
 
 pub of-do : (a b : List ℕ) (s : Statement) (r : Plan) (d : Do) (count : ℕ) → s ≡ statement.Do d → Put a b 0 (parametersWords d) count
     → r ≡ made 4 (Cell (d .name)) count 0 (d .last) noNumber noNumber → Planned s a b r

@@ -1,4 +1,4 @@
--- What a statement asks of the draft, in one shape for all forms: the operand that stands first, the items, and numbers or arrays in the table.
+-- What a statement asks of the draft, in one shape for all forms: the operand that stands first, the items or a list's, and numbers or arrays in the table.
 -- Assumes nothing.
 use mathlib.Core.Path.{_≡_}
 use Prim.Native.Nat.{ℕ, _≤_}
@@ -6,7 +6,8 @@ use mathlib.Core.Bool.{cond}
 use mathlib.Core.List.{List, [], _++_, map}
 use lib.Dec.{eqb}
 use lib.ListN.{length, take}
-use Rattle.rules_text.specs.Trees.{Form, assign, goTo, computed, ifs, loop, continue, stop, end, dimension}
+use Rattle.rules_text.specs.Trees.{reading, printing, Form, assign, goTo, computed, ifs, loop, continue, stop, end, dimension, transfer, format}
+use Rattle.rules_text.specs.Trees as trees
 use Rattle.rules_deck.specs.Meaning.{third}
 use Rattle.read_tokens.specs.Words.{capped, nameOf, noName}
 use Rattle.read_cards.specs.declared.Number.{Number}
@@ -14,12 +15,15 @@ use Rattle.read_elements.specs.declared.Target.{Target}
 use Rattle.read_elements.specs.declared.Target.the-variants.{Cell}
 use Rattle.read_elements.specs.Values.{targetValue}
 use Rattle.read_items.specs.Items.{flat, targetWords}
+use Rattle.read_transfers.specs.declared.Direction.{Direction}
+use Rattle.read_transfers.specs.declared.Direction.the-variants.{Reading, Printing}
+use Rattle.read_transfers.specs.Transfers.{listWords}
 use Rattle.read_forms.specs.declared.Do.{Do}
 use Rattle.read_forms.specs.declared.Parameter.{Parameter}
 use Rattle.read_forms.specs.declared.Statement.{Statement}
 use Rattle.read_forms.specs.declared.Statement.the-variants as statement
 use Rattle.read_forms.specs.Statements.{allWords, asNumber, numberValue, parameterValue}
-use Rattle.take_draft.specs.Parts.{itemsWords, parameterWords, formFirst, formItems}
+use Rattle.take_draft.specs.Parts.{itemsWords, parameterWords, formFirst, formItems, formListed}
 use Rattle.take_plans.specs.declared.Plan.{Plan}
 
 -- ---- of what the reader gave back
@@ -42,6 +46,10 @@ made kind target count listed below at above =
 abbrev pub bare : ℕ → Plan
 bare kind = made kind (Cell noName) 0 0 noNumber noNumber noNumber
 
+unfoldable pub directionKind : Direction → ℕ
+directionKind Reading = 9
+directionKind Printing = 10
+
 unfoldable pub planOf : Statement → Plan
 planOf (statement.Assign a) = made 0 (a .target) (a .count) 0 noNumber noNumber noNumber
 planOf (statement.GoTo n) = made 1 (Cell noName) 0 0 n noNumber noNumber
@@ -52,7 +60,8 @@ planOf statement.Continue = bare 5
 planOf statement.Stop = bare 6
 planOf statement.End = bare 7
 planOf (statement.Dimension d) = made 8 (Cell noName) 0 (d .arrays) noNumber noNumber noNumber
-planOf statement.Bad = bare 9
+planOf (statement.Transfer t) = made (directionKind (t .direction)) (Cell noName) (t .count) (t .listed) (t .format) noNumber noNumber
+planOf statement.Bad = bare 12
 
 -- the table afterwards
 unfoldable pub Laid : Statement → List ℕ → List ℕ → Type 0
@@ -65,6 +74,7 @@ Laid statement.Continue before after = after ≡ before
 Laid statement.Stop before after = after ≡ before
 Laid statement.End before after = after ≡ before
 Laid (statement.Dimension d) before after = after ≡ before
+Laid (statement.Transfer t) before after = after ≡ before
 Laid statement.Bad before after = after ≡ before
 
 pub record Planned (s : Statement) (before after : List ℕ) (r : Plan) : Type 0 where
@@ -72,6 +82,10 @@ pub record Planned (s : Statement) (before after : List ℕ) (r : Plan) : Type 0
   pub table : Laid s before after
 
 -- ---- of a form
+
+abbrev pub transferKind : trees.Direction → ℕ
+transferKind reading = 9
+transferKind printing = 10
 
 unfoldable pub formPlan : Form → Plan
 formPlan (assign t e) = made 0 (targetValue t) (length (flat e)) 0 noNumber noNumber noNumber
@@ -84,6 +98,8 @@ formPlan continue = bare 5
 formPlan stop = bare 6
 formPlan end = bare 7
 formPlan (dimension arrays) = made 8 (Cell noName) 0 (length arrays) noNumber noNumber noNumber
+formPlan (transfer d n list) = made (transferKind d) (Cell noName) (length (listWords list)) (length list) (numberValue n) noNumber noNumber
+formPlan (format f) = bare 11
 
 -- a computed GO TO's numbers and a DIMENSION's arrays, as the reader leaves them
 unfoldable pub listedWords : Form → List ℕ
@@ -96,11 +112,13 @@ listedWords continue = []
 listedWords stop = []
 listedWords end = []
 listedWords (dimension arrays) = allWords arrays
+listedWords (transfer d n list) = []
+listedWords (format f) = []
 
--- a form's plan, and its words in the table
+-- a form's plan, and its words in the table: of items and a list's, one is empty
 pub record Plans (f : Form) (items : List ℕ) (p : Plan) : Type 0 where
   pub plan : p ≡ formPlan f
-  pub operands : take (p .count) items ≡ itemsWords (formItems f)
+  pub operands : take (p .count) items ≡ itemsWords (formItems f ++ formListed f)
   pub listed : take (length (listedWords f)) items ≡ listedWords f
   pub room : p .count ≤ length items
 

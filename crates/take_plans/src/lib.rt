@@ -4,12 +4,13 @@ ghost use Prim.Native.Nat.{_+_, _≤_};
 ghost use lib.ListN.{length};
 ghost use Rattle.read_items.specs.Parsed.{Put};
 ghost use Rattle.take_draft.specs.Parts.{parameterWords};
-ghost use Rattle.take_plans.specs.Plans.{made, parametersWords, Planned, firstWords};
+ghost use Rattle.take_plans.specs.Plans.{made, parametersWords, directionKind, Planned, firstWords};
 use read_cards::Number;
 use read_elements::Target;
 use read_forms::Do;
 use read_forms::Parameter;
 use read_forms::Statement;
+use read_transfers::Direction;
 use take_kinds::ASSIGNMENT;
 use take_kinds::COMPUTED;
 use take_kinds::CONTINUE;
@@ -19,6 +20,8 @@ use take_kinds::END;
 use take_kinds::GO_TO;
 use take_kinds::IF;
 use take_kinds::NO_FORM;
+use take_kinds::PRINT;
+use take_kinds::READ;
 use take_kinds::STOP;
 
 pub struct Plan {
@@ -26,11 +29,11 @@ pub struct Plan {
     pub kind: u64,
     // what stands first: an assignment's target, a computed GO TO's variable or a DO's
     pub target: Target,
-    // words of the items
+    // words of the items, or of a list's
     pub count: usize,
-    // numbers or arrays in the table
+    // numbers, arrays or a list's items in the table
     pub listed: usize,
-    // statement numbers; a GO TO's and a DO's is the first
+    // statement numbers; a GO TO's, a DO's and a FORMAT's is the first
     pub below: Number,
     pub at: Number,
     pub above: Number,
@@ -80,6 +83,15 @@ fn put_parameters(items: &mut [u64], d: Do) -> usize
     put_parameter(items, b, by)
 }
 
+fn kind_of(direction: Direction) -> u64
+    ensures { λ r. ⌜ r ≡ directionKind direction ⌝ }
+{
+    match direction {
+        Direction::Reading => READ,
+        Direction::Printing => PRINT,
+    }
+}
+
 // A DO's parameters become items.
 pub fn plan_of(s: Statement, items: &mut [u64]) -> Plan
     requires { ⌜ 15 ≤ length (now items) ⌝ }
@@ -107,6 +119,11 @@ pub fn plan_of(s: Statement, items: &mut [u64]) -> Plan
         Statement::Stop => make(STOP, nothing, 0, 0, none, none, none),
         Statement::End => make(END, nothing, 0, 0, none, none, none),
         Statement::Dimension(d) => make(DIMENSION, nothing, 0, d.arrays, none, none, none),
+        Statement::Transfer(t) => {
+            let direction = t.direction;
+            let kind = kind_of(direction);
+            make(kind, nothing, t.count, t.listed, t.format, none, none)
+        }
         Statement::Bad => make(NO_FORM, nothing, 0, 0, none, none, none),
     }
 }

@@ -4,7 +4,7 @@ use mathlib.Core.Path.{_≡_, refl, sym, ap, _∙_, subst}
 use Prim.Native.Nat.{ℕ, _+_, _*_, _≤_, _<_}
 use native.Mathlib.Omega.{arith}
 use mathlib.Core.Bool.{Bool, true, false, _&&_, not, cond}
-use mathlib.Core.List.{List, _∷_, _++_}
+use mathlib.Core.List.{List, [], _∷_, _++_}
 use lib.Dec.{eqb, leb, ltb}
 use lib.ListN.{length, getD, drop, length-drop}
 use borrow.Author.Tests.{ne-eqb, le-ltb, lt-ltb}
@@ -16,11 +16,11 @@ use Rattle.rules_deck.specs.Judge.{rightCount, rightReference}
 use Rattle.read_tokens.specs.Words.{nameOf, nameAt}
 use Rattle.read_tokens.specs.declared.Name as code
 use Rattle.read_elements.specs.Values.{subscriptValue, subscriptsValue}
-use Rattle.take_draft.specs.Parts.{Item, value, plain, place, negate, apply, itemWords, itemsWords, itemNames, itemsNames, itemPlain, itemsPlain, itemReferences, itemsReferences, rightItems, Worded}
+use Rattle.take_draft.specs.Parts.{Item, value, plain, place, negate, apply, itemWords, itemsWords, itemNames, itemsNames, itemReferences, itemsReferences, plainIn, allPlainIn, Worded}
 use Rattle.take_draft.specs.Names.{dimsHeld, Told, Lists}
 use Rattle.take_name_table.specs.Find.{firstEntry, itemLength}
 use Rattle.take_name_table.specs.Lookups.{Holds}
-use Rattle.take_references.specs.Rights.{rightWords, rightItem, RightPlace, RightItem, References}
+use Rattle.take_references.specs.Rights.{rightWords, rightItem, RightPlace, RightItem, rightAll, References}
 use Rattle.take_name_table.proofs.Tests.{and-true, and-false, all-both}
 use Rattle.take_name_table.proofs.Looks.{array-spot, reference-none, reference-count}
 use Rattle.take_name_table.proofs.Fronts.{front, none-left, step-on, kind-is, no-operand}
@@ -125,7 +125,7 @@ module _ (items t : List ℕ) (n i : ℕ) (is : i ≡ firstEntry true (nameAt it
 -- ---- any item, by its first word
 
 module _ (items t : List ℕ) (n : ℕ) where
-  pub right-plain : (r : Bool) → getD items 0 0 ≡ 2 → Holds t n (nameAt items 1) true r → RightItem items t n (not r)
+  pub right-plain : (r : Bool) → getD items 0 0 ≡ 2 → Holds t n (nameAt items 1) true r → RightItem items false t n (not r)
   right-plain r k h held cells (value c) more l e told = absurd (let z = kind-is (value c) more e 2 k in omega (arith, z))
   right-plain r k h held cells (plain v) more l e (each-more tv none) =
       ap not (h .is held cells v l tv (ap (λ (x : List ℕ). nameAt x 1) e)) ∙ sym (and-true (bare held v) true refl)
@@ -133,54 +133,87 @@ module _ (items t : List ℕ) (n : ℕ) where
   right-plain r k h held cells negate more l e told = absurd (let z = kind-is negate more e 2 k in omega (arith, z))
   right-plain r k h held cells (apply o) more l e told = absurd (no-operand o more 2 (omega arith) (kind-is (apply o) more e 2 k))
 
-  pub right-element : (r : Bool) → getD items 0 0 ≡ 4 → RightPlace items t n r → RightItem items t n r
-  right-element r k h held cells (value c) more l e told = absurd (let z = kind-is (value c) more e 4 k in omega (arith, z))
-  right-element r k h held cells (plain v) more l e told = absurd (let z = kind-is (plain v) more e 4 k in omega (arith, z))
-  right-element r k h held cells (place v s) more l e told = h held cells v s more l e told
-  right-element r k h held cells negate more l e told = absurd (let z = kind-is negate more e 4 k in omega (arith, z))
-  right-element r k h held cells (apply o) more l e told = absurd (no-operand o more 4 (omega arith) (kind-is (apply o) more e 4 k))
+  -- a bare name is the name of a variable, or may be an array's
+  bare-listed : (held : List Held) (v : Name) → true ≡ rightItem true held (plain v)
+  bare-listed held v = go (holds (isArray v) held) refl
+    where
+      go : (b : Bool) → holds (isArray v) held ≡ b → true ≡ all (bare held) (cond b [] (v ∷ []))
+      go true e = refl
+      go false e = ap (λ (b : Bool). not b && true) (sym e)
 
-  pub right-other : (getD items 0 0 ≡ 2 → ⊥) → (getD items 0 0 ≡ 4 → ⊥) → RightItem items t n true
-  right-other k₂ k₄ held cells (value c) more l e told = refl
-  right-other k₂ k₄ held cells (plain v) more l e told = absurd (k₂ (ap (λ (x : List ℕ). getD x 0 0) e))
-  right-other k₂ k₄ held cells (place v s) more l e told = absurd (k₄ (ap (λ (x : List ℕ). getD x 0 0) e))
-  right-other k₂ k₄ held cells negate more l e told = refl
-  right-other k₂ k₄ held cells (apply o) more l e told = refl
+  pub right-listed : getD items 0 0 ≡ 2 → RightItem items true t n true
+  right-listed k held cells (value c) more l e told = refl
+  right-listed k held cells (plain v) more l e told = bare-listed held v
+  right-listed k held cells (place v s) more l e told = absurd (let z = kind-is (place v s) more e 2 k in omega (arith, z))
+  right-listed k held cells negate more l e told = refl
+  right-listed k held cells (apply o) more l e told = refl
+
+  place-same : (listed : Bool) (held : List Held) (v : Name) (s : Subscripts) → rightItem false held (place v s) ≡ rightItem listed held (place v s)
+  place-same true held v s = refl
+  place-same false held v s = refl
+
+  pub right-element : (listed : Bool) (r : Bool) → getD items 0 0 ≡ 4 → RightPlace items t n r → RightItem items listed t n r
+  right-element listed r k h held cells (value c) more l e told = absurd (let z = kind-is (value c) more e 4 k in omega (arith, z))
+  right-element listed r k h held cells (plain v) more l e told = absurd (let z = kind-is (plain v) more e 4 k in omega (arith, z))
+  right-element listed r k h held cells (place v s) more l e told = h held cells v s more l e told ∙ place-same listed held v s
+  right-element listed r k h held cells negate more l e told = absurd (let z = kind-is negate more e 4 k in omega (arith, z))
+  right-element listed r k h held cells (apply o) more l e told = absurd (no-operand o more 4 (omega arith) (kind-is (apply o) more e 4 k))
+
+  pub right-other : (listed : Bool) → (getD items 0 0 ≡ 2 → ⊥) → (getD items 0 0 ≡ 4 → ⊥) → RightItem items listed t n true
+  right-other listed k₂ k₄ held cells (plain v) more l e told = absurd (k₂ (ap (λ (x : List ℕ). getD x 0 0) e))
+  right-other listed k₂ k₄ held cells (place v s) more l e told = absurd (k₄ (ap (λ (x : List ℕ). getD x 0 0) e))
+  right-other true k₂ k₄ held cells (value c) more l e told = refl
+  right-other true k₂ k₄ held cells negate more l e told = refl
+  right-other true k₂ k₄ held cells (apply o) more l e told = refl
+  right-other false k₂ k₄ held cells (value c) more l e told = refl
+  right-other false k₂ k₄ held cells negate more l e told = refl
+  right-other false k₂ k₄ held cells (apply o) more l e told = refl
 
 -- ---- operands one after the other
 
-right-more : (held : List Held) (i : Item) (is : List Item) → rightItems held (i ∷ is) ≡ rightItem held i && rightItems held is
-right-more held i is =
-    ap (λ (b : Bool). b && all (bare held) (itemPlain i ++ itemsPlain is)) (all-both (rightReference held) (itemReferences i) (itemsReferences is))
-    ∙ ap (λ (b : Bool). (all (rightReference held) (itemReferences i) && all (rightReference held) (itemsReferences is)) && b) (all-both (bare held) (itemPlain i) (itemsPlain is))
-    ∙ swap (all (rightReference held) (itemReferences i)) (all (rightReference held) (itemsReferences is)) (all (bare held) (itemPlain i)) (all (bare held) (itemsPlain is))
+none-right : (listed : Bool) (held : List Held) → rightAll listed held [] ≡ true
+none-right true held = refl
+none-right false held = refl
+
+plain-more : (listed : Bool) (held : List Held) (i : Item) (is : List Item) → allPlainIn listed held (i ∷ is) ≡ plainIn listed held i ++ allPlainIn listed held is
+plain-more true held i is = refl
+plain-more false held i is = refl
+
+right-more : (listed : Bool) (held : List Held) (i : Item) (is : List Item) → rightAll listed held (i ∷ is) ≡ rightItem listed held i && rightAll listed held is
+right-more listed held i is =
+    let first = plainIn listed held i in
+    let rest = allPlainIn listed held is in
+    ap (λ (l : List Name). all (rightReference held) (itemReferences i ++ itemsReferences is) && all (bare held) l) (plain-more listed held i is)
+    ∙ ap (λ (b : Bool). b && all (bare held) (first ++ rest)) (all-both (rightReference held) (itemReferences i) (itemsReferences is))
+    ∙ ap (λ (b : Bool). (all (rightReference held) (itemReferences i) && all (rightReference held) (itemsReferences is)) && b) (all-both (bare held) first rest)
+    ∙ swap (all (rightReference held) (itemReferences i)) (all (rightReference held) (itemsReferences is)) (all (bare held) first) (all (bare held) rest)
 
 -- the items that are left at a place, on which the answer hangs
-pub record Left (held : List Held) (items : List ℕ) (at : ℕ) (is : List Item) : Type 0 where
+pub record Left (listed : Bool) (held : List Held) (items : List ℕ) (at : ℕ) (is : List Item) : Type 0 where
   pub left : List Item
   pub are : drop at items ≡ itemsWords left
   pub told : Each Told (itemsNames left)
-  pub same : rightItems held is ≡ rightItems held left
+  pub same : rightAll listed held is ≡ rightAll listed held left
 
-pub record Passing (items t : List ℕ) (n at : ℕ) : Type 0 where
+pub record Passing (items : List ℕ) (listed : Bool) (t : List ℕ) (n at : ℕ) : Type 0 where
   pub within : at ≤ length items
   pub worded : Worded (drop at items)
-  pub part : (held : List Held) (cells : ℕ) (is : List Item) → Lists held t n cells → items ≡ itemsWords is → Each Told (itemsNames is) → Left held items at is
+  pub part : (held : List Held) (cells : ℕ) (is : List Item) → Lists held t n cells → items ≡ itemsWords is → Each Told (itemsNames is) → Left listed held items at is
 
-module _ (items t : List ℕ) (n : ℕ) where
-  pub passing-start : Worded items → Passing items t n 0
+module _ (items : List ℕ) (listed : Bool) (t : List ℕ) (n : ℕ) where
+  pub passing-start : Worded items → Passing items listed t n 0
   passing-start w = record { within = omega arith; worded = w; part = λ held cells is l e told. record { left = is; are = e; told = told; same = refl } }
 
-  pub passing-no : (at : ℕ) (r : Bool) → Passing items t n at → at < length items → RightItem (drop at items) t n r → r ≡ false → References items t n false
+  pub passing-no : (at : ℕ) (r : Bool) → Passing items listed t n at → at < length items → RightItem (drop at items) listed t n r → r ≡ false → References items listed t n false
   passing-no at r p l h e held cells is ls w told =
       let q = p .part held cells is ls w told in
       let f = front (drop at items) (q .left) (q .are) (let d = length-drop at items in omega (arith, d, l)) in
       let told-all = subst (λ (x : List Item). Each Told (itemsNames x)) (f .both) (q .told) in
       let right = h held cells (f .first) (itemsWords (f .rest)) ls (f .are) (each-both (itemNames (f .first)) told-all .0) in
-      sym (q .same ∙ ap (rightItems held) (f .both) ∙ right-more held (f .first) (f .rest) ∙ ap (λ (b : Bool). b && rightItems held (f .rest)) (sym right ∙ e))
+      sym (q .same ∙ ap (rightAll listed held) (f .both) ∙ right-more listed held (f .first) (f .rest) ∙ ap (λ (b : Bool). b && rightAll listed held (f .rest)) (sym right ∙ e))
 
-  pub passing-on : (at : ℕ) (r : Bool) → Passing items t n at → at < length items → RightItem (drop at items) t n r → r ≡ true → at + itemLength (getD items at 0) ≤ length items
-      → Worded (drop (at + itemLength (getD items at 0)) items) → Passing items t n (at + itemLength (getD items at 0))
+  pub passing-on : (at : ℕ) (r : Bool) → Passing items listed t n at → at < length items → RightItem (drop at items) listed t n r → r ≡ true → at + itemLength (getD items at 0) ≤ length items
+      → Worded (drop (at + itemLength (getD items at 0)) items) → Passing items listed t n (at + itemLength (getD items at 0))
   passing-on at r p l h e within worded =
       record {
         within = within;
@@ -195,12 +228,12 @@ module _ (items t : List ℕ) (n : ℕ) where
               left = f .rest;
               are = step-on items at (q .left) l f;
               told = halves .1;
-              same = q .same ∙ ap (rightItems held) (f .both) ∙ right-more held (f .first) (f .rest) ∙ ap (λ (b : Bool). b && rightItems held (f .rest)) (sym right ∙ e);
+              same = q .same ∙ ap (rightAll listed held) (f .both) ∙ right-more listed held (f .first) (f .rest) ∙ ap (λ (b : Bool). b && rightAll listed held (f .rest)) (sym right ∙ e);
             };
       }
 
-  pub passing-end : (at : ℕ) → Passing items t n at → length items ≤ at → References items t n true
+  pub passing-end : (at : ℕ) → Passing items listed t n at → length items ≤ at → References items listed t n true
   passing-end at p l held cells is ls w told =
       let q = p .part held cells is ls w told in
       let none = none-left (drop at items) (q .left) (q .are) (let d = length-drop at items in omega (arith, d, l)) in
-      sym (q .same ∙ ap (rightItems held) none)
+      sym (q .same ∙ ap (rightAll listed held) none ∙ none-right listed held)

@@ -38,12 +38,15 @@ fn right_place(items: &[u64], table: &[u64], n: usize) -> bool
 }
 
 // Of the operand or operation that the words start with.
-fn right_item(items: &[u64], table: &[u64], n: usize) -> bool
+fn right_item(items: &[u64], listed: bool, table: &[u64], n: usize) -> bool
     requires { ⌜ (Worded (now items) × (0 < length (now items))) × (7 * n ≤ length (now table)) ⌝ }
-    ensures { λ r. ⌜ RightItem (now (items .entry)) (now (table .entry)) n r ⌝ }
+    ensures { λ r. ⌜ RightItem (now (items .entry)) listed (now (table .entry)) n r ⌝ }
 {
     let kind = items[0];
     if kind == 2 {
+        if listed {
+            return true;
+        }
         return !take_name_table::holds(table, n, read_tokens::name_at(items, 1), true);
     }
     if kind == 4 {
@@ -52,14 +55,14 @@ fn right_item(items: &[u64], table: &[u64], n: usize) -> bool
     true
 }
 
-// 16: every element's array is declared with as many dimensions, and no array's name stands bare.
-pub fn references_right(items: &[u64], table: &[u64], n: usize) -> bool
+// 16: every element's array is declared with as many dimensions, and no array's name stands bare but in a list.
+pub fn references_right(items: &[u64], listed: bool, table: &[u64], n: usize) -> bool
     requires { ⌜ Worded (now items) × (7 * n ≤ length (now table)) ⌝ }
-    ensures { λ r. ⌜ References (now (items .entry)) (now (table .entry)) n r ⌝ }
+    ensures { λ r. ⌜ References (now (items .entry)) listed (now (table .entry)) n r ⌝ }
 {
     let mut at = 0;
     while at < items.len() {
-        if !right_item(&items[at..], table, n) {
+        if !right_item(&items[at..], listed, table, n) {
             return false;
         }
         at += take_name_table::item_length(items[at]);

@@ -1,15 +1,18 @@
 -- Tests of one position after the other, and 20 to 22 by them.
 -- Assumes nothing.
 use mathlib.Core.Path.{_≡_}
-use Prim.Native.Nat.{ℕ, zero, suc, _+_, _≤_, _<_}
+use Prim.Native.Nat.{ℕ, zero, suc, _+_, _-_, _*_, _≤_, _<_}
 use mathlib.Core.Bool.{Bool, true, false, _&&_, _||_, not, cond}
 use mathlib.Core.List.{List}
 use mathlib.Core.Option.{Option, none, some}
 use lib.Dec.{eqb, leb}
+use lib.ListN.{length}
 use Rattle.rules_shared.specs.Refusals.{orElse}
 use Rattle.read_cards.specs.declared.Number.{Number}
+use Rattle.read_cards.specs.declared.Sequence.{Sequence}
 use Rattle.whole_tables.specs.Rows.{kindAt, jumpsAt, startOf}
 use Rattle.whole_tables.specs.Tables.{numberIn, placeIn}
+use Rattle.whole_formats.specs.Formats.{served, Serving}
 use Rattle.whole_numbers.specs.declared.Found.{Found}
 use Rattle.whole_numbers.specs.declared.Found.the-variants.{Nothing, At}
 use Rattle.whole_numbers.specs.declared.Resolved.{Resolved}
@@ -87,3 +90,24 @@ pub record Resolves (numbers : List Number) (count : ℕ) (jumps : List Number) 
   pub within : r .known ≤ many
   pub done : (k : ℕ) → k < r .known → placeOf numbers count (numberIn jumps k) ≡ some (placeIn (r .places) k)
   pub stops : r .known < many → placeOf numbers count (numberIn jumps (r .known)) ≡ none
+
+-- the number at k, of the statement at q, leads to a statement that serves it
+unfoldable pub usedRight : List ℕ → List ℕ → List ℕ → ℕ → List Sequence → ℕ → ℕ → Bool
+usedRight rows lists formats top places q k = served rows lists formats top q (placeIn places k - 1)
+
+-- reading stays inside the tables
+pub record Uses (rows lists formats : List ℕ) (top : ℕ) (places : List Sequence) (q from end : ℕ) : Type 0 where
+  pub forth : from ≤ end
+  pub few : end ≤ 1424
+  pub from-one : (k : ℕ) → k < end → 1 ≤ placeIn places k
+  pub serving : (k : ℕ) → k < end → Serving rows lists formats top q (placeIn places k - 1)
+
+unfoldable pub usesRight : List ℕ → List ℕ → List ℕ → ℕ → List Sequence → ℕ → Bool
+usesRight rows lists formats top places q = allFrom (usedRight rows lists formats top places q) (jumpsAt rows q) (startOf rows q)
+
+pub record Used (rows : List ℕ) (count : ℕ) (lists formats : List ℕ) (top : ℕ) (places : List Sequence) : Type 0 where
+  pub few : count ≤ 400
+  pub rows-long : 5 * count ≤ length rows
+  pub few-jumps : startOf rows count ≤ 1424
+  pub from-one : (k : ℕ) → k < startOf rows count → 1 ≤ placeIn places k
+  pub serving : (q k : ℕ) → q < count → k < startOf rows count → Serving rows lists formats top q (placeIn places k - 1)

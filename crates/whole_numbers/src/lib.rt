@@ -1,9 +1,9 @@
 // 20 to 22 on what was kept of a deck's statements; the numbers that are jumped to become places.
 ghost use mathlib.Core.Path.{_≡_};
-ghost use Prim.Native.Nat.{suc, _*_, _≤_, _<_};
+ghost use Prim.Native.Nat.{suc, _-_, _*_, _≤_, _<_};
 ghost use lib.ListN.{length};
 ghost use Rattle.whole_tables.specs.Rows.{startOf};
-ghost use Rattle.whole_numbers.specs.Numbers.{firstFrom, foundOf, placeOf, endRight, lastEnds, misplacedEnd, ownRight, numberRight, past, Resolves};
+ghost use Rattle.whole_numbers.specs.Numbers.{firstFrom, foundOf, placeOf, endRight, lastEnds, misplacedEnd, ownRight, numberRight, past, Resolves, allFrom, usedRight, Uses, usesRight, Used};
 use limits::JUMPS;
 use limits::STATEMENTS;
 use read_cards::Number;
@@ -169,6 +169,57 @@ pub fn user_of(rows: &[u64], count: usize, k: usize) -> Found
         if k < end {
             return Found::At(whole_tables::sequence_of(q));
         }
+        q += 1;
+    }
+    Found::Nothing
+}
+
+// The numbers from one index to another, of the statement at q, lead to statements that serve it.
+fn uses_right(
+    rows: &[u64],
+    lists: &[u32],
+    formats: &[u32],
+    top: usize,
+    places: [Sequence; JUMPS],
+    q: usize,
+    from: usize,
+    end: usize,
+) -> bool
+    requires { ⌜ Uses (now rows) (now lists) (now formats) top places q from end ⌝ }
+    ensures { λ r. ⌜ r ≡ allFrom (usedRight (now (rows .entry)) (now (lists .entry)) (now (formats .entry)) top places q) (end - from) from ⌝ }
+{
+    let mut k = from;
+    while k < end {
+        let place = places[k];
+        let at = whole_tables::position_of(place);
+        if !whole_formats::serves(rows, lists, formats, top, q, at) {
+            return false;
+        }
+        k += 1;
+    }
+    true
+}
+
+// Where every number up to `count` statements has its place: the first statement with one that does not serve it.
+pub fn wrong_use(
+    rows: &[u64],
+    count: usize,
+    lists: &[u32],
+    formats: &[u32],
+    top: usize,
+    places: [Sequence; JUMPS],
+) -> Found
+    requires { ⌜ Used (now rows) count (now lists) (now formats) top places ⌝ }
+    ensures { λ r. ⌜ foundOf r ≡ firstFrom (usesRight (now (rows .entry)) (now (lists .entry)) (now (formats .entry)) top places) suc count 0 ⌝ }
+{
+    let mut at: usize = 0;
+    let mut q: usize = 0;
+    while q < count {
+        let end = at + whole_tables::jumps_of(rows, q);
+        if !uses_right(rows, lists, formats, top, places, q, at, end) {
+            return Found::At(whole_tables::sequence_of(q));
+        }
+        at = end;
         q += 1;
     }
     Found::Nothing

@@ -8,10 +8,10 @@ use lib.ListN.{length}
 use Rattle.rules_shared.specs.Limits.{limits}
 use Rattle.read_cards.specs.declared.Sequence.{Sequence}
 use Rattle.whole_tables.specs.declared.Loops.{Loops}
-use Rattle.whole_tables.specs.Rows.{kindAt, jumpsAt, startOf}
+use Rattle.whole_tables.specs.Rows.{kindAt, jumpsAt, startOf, transfers}
 use Rattle.whole_tables.specs.Tables.{placeIn}
 use Rattle.whole_numbers.specs.Numbers.{allFrom, countFrom}
-use Rattle.whole_range.specs.Range.{covering, mayEndKind, uncrossed, outside, leaves}
+use Rattle.whole_range.specs.Range.{covering, mayEndKind, uncrossed, outside, ListFits, leaves}
 
 abbrev pub doAt : Loops → ℕ → ℕ
 doAt loops i = placeIn (loops .at) i
@@ -50,14 +50,18 @@ staysOut loops from target i = outside (doAt loops i) (lastAt loops i) from targ
 unfoldable pub jumpStays : Loops → List Sequence → ℕ → ℕ → Bool
 jumpStays loops places from k = allFrom (staysOut loops from (placeIn places k)) (loops .count) 0
 
--- a DO, kind 4, has its last statement there and no jump
+-- a DO, kind 4, has its last statement there and no jump, a READ or PRINT its FORMAT
 unfoldable pub exitsAt : List ℕ → ℕ → ℕ
-exitsAt rows q = cond (eqb (kindAt rows q) 4) 0 (jumpsAt rows q)
+exitsAt rows q = cond (eqb (kindAt rows q) 4) 0 (cond (transfers (kindAt rows q)) 0 (jumpsAt rows q))
 
 unfoldable pub jumpsRight : List ℕ → Loops → List Sequence → ℕ → Bool
 jumpsRight rows loops places q = allFrom (jumpStays loops places (suc q)) (exitsAt rows q) (startOf rows q)
 
 -- ---- 25
 
-unfoldable pub setRight : List ℕ → Loops → ℕ → Bool
-setRight rows loops at = allFrom (λ i. leaves rows (doAt loops i) (lastAt loops i) at) (loops .count) 0
+unfoldable pub setRight : List ℕ → List ℕ → Loops → ℕ → Bool
+setRight rows lists loops at = allFrom (λ i. leaves rows lists (doAt loops i) (lastAt loops i) at) (loops .count) 0
+
+-- each statement's list is inside the lists' words
+pub record ListsFit (rows lists : List ℕ) (count : ℕ) : Type 0 where
+  pub fits : (q : ℕ) → q < count → ListFits rows lists q

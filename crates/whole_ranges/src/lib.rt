@@ -1,10 +1,9 @@
 // 23 to 25 on what was kept of a deck's statements, by places.
 ghost use mathlib.Core.Path.{_≡_};
-ghost use mathlib.Core.Bool.{cond};
 ghost use Prim.Native.Nat.{suc, _+_, _*_, _≤_, _<_};
 ghost use lib.ListN.{length};
 ghost use Rattle.whole_numbers.specs.Numbers.{allFrom, countFrom, firstFrom, foundOf};
-ghost use Rattle.whole_ranges.specs.Ranges.{doAt, Ranged, covers, apart, doRight, exitsAt, staysOut, jumpsRight, setRight};
+ghost use Rattle.whole_ranges.specs.Ranges.{doAt, Ranged, covers, apart, doRight, exitsAt, staysOut, jumpsRight, setRight, ListsFit};
 use limits::JUMPS;
 use limits::NESTING;
 use read_cards::Sequence;
@@ -31,15 +30,6 @@ fn crosses_none(loops: Loops, first: Sequence, last: Sequence) -> bool
     true
 }
 
-fn one_if(b: bool) -> usize
-    ensures { λ r. ⌜ (r ≡ cond b 1 0) × (r ≤ 1) ⌝ }
-{
-    if b {
-        return 1;
-    }
-    0
-}
-
 // In how many ranges a statement stands.
 fn depth_at(loops: Loops, at: Sequence) -> usize
     requires { ⌜ loops .count ≤ 64 ⌝ }
@@ -51,7 +41,7 @@ fn depth_at(loops: Loops, at: Sequence) -> usize
     while k < dos {
         let first = loops.at[k];
         let last = loops.last[k];
-        deep += one_if(whole_range::in_range(first, last, at));
+        deep += whole_tables::one_if(whole_range::in_range(first, last, at));
         k += 1;
     }
     deep
@@ -106,12 +96,16 @@ fn stays_out_of_all(loops: Loops, from: Sequence, target: Sequence) -> bool
     true
 }
 
-// How many jumps a statement has to test: a DO has its last statement there and no jump.
+// How many jumps a statement has to test: a DO has its last statement there and no jump, a READ or PRINT its FORMAT.
 fn exits_of(rows: &[u64], q: usize) -> usize
     requires { ⌜ 5 * q + 5 ≤ length (now rows) ⌝ }
     ensures { λ r. ⌜ r ≡ exitsAt (now (rows .entry)) q ⌝ }
 {
-    if whole_tables::kind_of(rows, q) == DO {
+    let kind = whole_tables::kind_of(rows, q);
+    if kind == DO {
+        return 0;
+    }
+    if whole_tables::is_transfer(kind) {
         return 0;
     }
     whole_tables::jumps_of(rows, q)
@@ -142,16 +136,17 @@ pub fn wrong_jump(rows: &[u64], count: usize, loops: Loops, places: [Sequence; J
 
 // ---- 25
 
-fn set_right(rows: &[u64], count: usize, loops: Loops, at: Sequence) -> bool
+fn set_right(rows: &[u64], count: usize, lists: &[u32], loops: Loops, at: Sequence) -> bool
     requires { ⌜ Ranged (now rows) count loops × ((1 ≤ at .0) × (at .0 ≤ count)) ⌝ }
-    ensures { λ r. ⌜ r ≡ setRight (now (rows .entry)) loops (at .0) ⌝ }
+    requires { ⌜ ListsFit (now rows) (now lists) count ⌝ }
+    ensures { λ r. ⌜ r ≡ setRight (now (rows .entry)) (now (lists .entry)) loops (at .0) ⌝ }
 {
     let dos = loops.count;
     let mut i: usize = 0;
     while i < dos {
         let first = loops.at[i];
         let last = loops.last[i];
-        if !whole_range::leaves_be(rows, first, last, at) {
+        if !whole_range::leaves_be(rows, lists, first, last, at) {
             return false;
         }
         i += 1;
@@ -159,14 +154,14 @@ fn set_right(rows: &[u64], count: usize, loops: Loops, at: Sequence) -> bool
     true
 }
 
-pub fn wrong_set(rows: &[u64], count: usize, loops: Loops) -> Found
-    requires { ⌜ Ranged (now rows) count loops ⌝ }
-    ensures { λ r. ⌜ foundOf r ≡ firstFrom (λ q. setRight (now (rows .entry)) loops (suc q)) suc count 0 ⌝ }
+pub fn wrong_set(rows: &[u64], count: usize, lists: &[u32], loops: Loops) -> Found
+    requires { ⌜ Ranged (now rows) count loops × ListsFit (now rows) (now lists) count ⌝ }
+    ensures { λ r. ⌜ foundOf r ≡ firstFrom (λ q. setRight (now (rows .entry)) (now (lists .entry)) loops (suc q)) suc count 0 ⌝ }
 {
     let mut q: usize = 0;
     while q < count {
         let here = whole_tables::sequence_of(q);
-        if !set_right(rows, count, loops, here) {
+        if !set_right(rows, count, lists, loops, here) {
             return Found::At(here);
         }
         q += 1;

@@ -15,10 +15,10 @@ end-of-requires c κs = search needs
 
 returns : tie.Need-returns
 returns c =
-    let g = c .before .before .before .before .before .before .before .before .before .before .args in
-    let tables = g .constants .now ∷ g .elements .now ∷ g .exits .now ∷ g .dos .now ∷ g .code .now ∷ g .lines .now ∷ g .names .now ∷ [] in
+    let g = c .before .before .before .before .before .before .before .before .before .before .before .before .before .args in
+    let tables = g .constants .now ∷ g .elements .now ∷ g .exits .now ∷ g .dos .now ∷ g .code .now ∷ g .lines .now ∷ g .names .now ∷ g .formats .now ∷ g .items .now ∷ g .transfers .now ∷ [] in
     let n = g .counts in
-    let size = length-whole (g .k) (g .cells) n tables refl (c .before .before .before .before .before .before .before .before .before .before .pre .1) in
+    let size = length-whole (g .k) (g .cells) n tables refl (c .before .before .before .before .before .before .before .before .before .before .before .before .before .pre .1) in
     (too-short (bytesOf (wordsOfBodies (g .k) (g .cells) (firstWords n tables))) (g .out .now) (omega (arith, c .if1 .taken, c .before .end-of .ensures, size)), tt)
 
 contents-requires : tie.Need-contents-requires
@@ -38,10 +38,10 @@ same-length c = search needs
 
 returns-2 : tie.Need-returns-2
 returns-2 c =
-    let g = c .before .before .before .before .before .before .before .before .before .before .before .before .before .before .before .before .before .before .before .before .args in
-    let tables = g .constants .now ∷ g .elements .now ∷ g .exits .now ∷ g .dos .now ∷ g .code .now ∷ g .lines .now ∷ g .names .now ∷ [] in
+    let g = c .before .before .before .before .before .before .before .before .before .before .before .before .before .before .before .before .before .before .before .before .before .before .before .args in
+    let tables = g .constants .now ∷ g .elements .now ∷ g .exits .now ∷ g .dos .now ∷ g .code .now ∷ g .lines .now ∷ g .names .now ∷ g .formats .now ∷ g .items .now ∷ g .transfers .now ∷ [] in
     let n = g .counts in
-    (both-parts (g .k) (g .cells) n tables refl (c .before .before .before .before .before .before .before .before .before .before .before .before .before .before .before .before .before .before .before .before .pre .1) (c .before .before .before .before .before .before .before .before .before .before .before .end-of .ensures) (c .before .before .before .before .before .before .before .before .before .before .if1 .left) (c .before .before .before .before .before .before .before .before .before .contents .ensures) (c .before .before .before .before .before .before .put-body .ensures) (c .before .before .put-bodies .ensures), omega (arith, c .before .before .before .before .before .before .before .before .before .before .before .end-of .ensures, c .before .before .before .before .before .before .before .before .before .before .before .before .before .before .before .before .before .before .before .before .pre .0))
+    (both-parts (g .k) (g .cells) n tables refl (c .before .before .before .before .before .before .before .before .before .before .before .before .before .before .before .before .before .before .before .before .before .before .before .pre .1) (c .before .before .before .before .before .before .before .before .before .before .before .end-of .ensures) (c .before .before .before .before .before .before .before .before .before .before .if1 .left) (c .before .before .before .before .before .before .before .before .before .contents .ensures) (c .before .before .before .before .before .before .put-body .ensures) (c .before .before .put-bodies .ensures), omega (arith, c .before .before .before .before .before .before .before .before .before .before .before .end-of .ensures, c .before .before .before .before .before .before .before .before .before .before .before .before .before .before .before .before .before .before .before .before .before .before .before .pre .0))
 
 pub write-spec : {M : Type 1} → statement M
 write-spec =

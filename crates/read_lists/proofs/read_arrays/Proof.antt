@@ -9,7 +9,8 @@ use Rattle.read_tokens.proofs.Chains.{took, refused}
 use Rattle.read_forms.specs.Statements.{allWords}
 use Rattle.read_lists.specs.Lists.{arraysSizes}
 use Rattle.read_lists.proofs.Arrays.{array-shape}
-use Rattle.read_lists.proofs.Listing.{Listing, starts-list, list-bad, list-read, list-more, list-refused}
+use Rattle.read_items.proofs.Listing.{Listing, starts-list, list-bad, list-more}
+use Rattle.read_lists.proofs.Listing.{list-read, list-refused}
 use Rattle.read_lists.proofs.Lists.{array-takes, arrays-more, arrays-none, arrays-sizes-none, arrays-sizes-more}
 use borrow.Author.Needs.{needs}
 use Rattle.read_lists.proofs.read_arrays.Statement.{statement}

@@ -10,7 +10,8 @@ use Rattle.read_tokens.proofs.Tokens.{inside}
 use Rattle.read_tokens.proofs.Chains.{took, refused, token-shape}
 use Rattle.read_items.proofs.Tables.{put-one}
 use Rattle.read_lists.specs.Lists.{numbersWords, numbersSizes}
-use Rattle.read_lists.proofs.Listing.{Listing, starts-list, list-bad, list-read, list-more, list-refused}
+use Rattle.read_items.proofs.Listing.{Listing, starts-list, list-bad, list-more}
+use Rattle.read_lists.proofs.Listing.{list-read, list-refused}
 use Rattle.read_lists.proofs.Lists.{number-takes, numbers-more, numbers-none, numbers-sizes}
 use borrow.Author.Needs.{needs}
 use Rattle.read_lists.proofs.read_numbers.Statement.{statement}

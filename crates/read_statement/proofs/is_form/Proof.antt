@@ -35,6 +35,9 @@ enum-told-9 c = search needs
 enum-told-10 : tie.Need-enum-told-10
 enum-told-10 c = search needs
 
+enum-told-11 : tie.Need-enum-told-11
+enum-told-11 c = search needs
+
 returns : tie.Need-returns
 unfolding isForm
 returns c =
@@ -85,6 +88,11 @@ unfolding isForm
 returns-10 c =
     sym (ap isForm (c .enum-told10 .given .1))
 
+returns-11 : tie.Need-returns-11
+unfolding isForm
+returns-11 c =
+    sym (ap isForm (c .enum-told11 .given .1))
+
 pub is-form-spec : {M : Type 1} → statement M
 is-form-spec =
     tie.close
@@ -99,6 +107,7 @@ is-form-spec =
     enum-told-8
     enum-told-9
     enum-told-10
+    enum-told-11
     returns
     returns-2
     returns-3
@@ -108,4 +117,5 @@ is-form-spec =
     returns-7
     returns-8
     returns-9
-    returns-10)
+    returns-10
+    returns-11)

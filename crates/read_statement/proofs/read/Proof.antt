@@ -1,6 +1,7 @@
 -- `read_statement::read` meets its contract. Assumes nothing.
 use mathlib.Core.Path.{sym, _∙_}
-use Rattle.read_statement.proofs.Which.{settled, not-this, reads-as, with-words, go-to-words, do-words, word-words, is-assignment, is-go-to, is-computed, is-if, is-do, is-word, is-last}
+use native.Mathlib.Omega.{arith}
+use Rattle.read_statement.proofs.Which.{settled, not-this, reads-as, with-words, go-to-words, do-words, word-words, is-assignment, is-go-to, is-computed, is-if, is-do, is-word, is-dimension, is-last}
 use borrow.Author.Needs.{needs}
 use Rattle.read_statement.proofs.read.Statement.{statement}
 use Rattle.read_statement.proofs.read.Tie as tie
@@ -95,19 +96,36 @@ returns-6 c =
 read-dimension-requires : tie.Need-read-dimension-requires
 read-dimension-requires c κs = search needs
 
+is-form-requires-7 : tie.Need-is-form-requires-7
+is-form-requires-7 c κs = search needs
+
 same-length-7 : tie.Need-same-length-7
 same-length-7 c = search needs
 
 returns-7 : tie.Need-returns-7
 returns-7 c =
-    let s = c .before .before .before .before .before .before .before .before .before .before .before .before .before .before .before .before .before .before .before .before .before .before .before .before .before .before .before .before .before .before .before .before .before .before .before .before .args .text .now in
-    let a = not-this (c .before .before .before .before .before .before .before .before .before .before .before .before .before .before .before .before .before .before .before .before .before .before .before .before .before .before .before .before .before .before .before .before .read-assignment .ensures .says) (sym (c .before .before .before .before .before .before .before .before .before .before .before .before .before .before .before .before .before .before .before .before .before .before .before .before .before .before .before .before .before .is-form .ensures) ∙ c .before .before .before .before .before .before .before .before .before .before .before .before .before .before .before .before .before .before .before .before .before .before .before .before .before .before .before .before .if1 .left) in
-    let b = not-this (c .before .before .before .before .before .before .before .before .before .before .before .before .before .before .before .before .before .before .before .before .before .before .before .before .before .before .before .read-go-to .ensures) (sym (c .before .before .before .before .before .before .before .before .before .before .before .before .before .before .before .before .before .before .before .before .before .before .before .before .before .before .is-form2 .ensures) ∙ c .before .before .before .before .before .before .before .before .before .before .before .before .before .before .before .before .before .before .before .before .before .before .before .before .before .if2 .left) in
-    let d = not-this (c .before .before .before .before .before .before .before .before .before .before .before .before .before .before .before .before .before .before .before .before .before .before .before .read-computed .ensures .says) (sym (c .before .before .before .before .before .before .before .before .before .before .before .before .before .before .before .before .before .before .before .before .is-form3 .ensures) ∙ c .before .before .before .before .before .before .before .before .before .before .before .before .before .before .before .before .before .before .before .if3 .left) in
-    let e = not-this (c .before .before .before .before .before .before .before .before .before .before .before .before .before .before .before .before .before .read-if .ensures .says) (sym (c .before .before .before .before .before .before .before .before .before .before .before .before .before .before .is-form4 .ensures) ∙ c .before .before .before .before .before .before .before .before .before .before .before .before .before .if4 .left) in
-    let f = not-this (c .before .before .before .before .before .before .before .before .before .before .before .read-do .ensures) (sym (c .before .before .before .before .before .before .before .before .is-form5 .ensures) ∙ c .before .before .before .before .before .before .before .if5 .left) in
-    let g = not-this (c .before .before .before .before .before .before .read-word .ensures) (sym (c .before .before .before .before .before .is-form6 .ensures) ∙ c .before .before .before .before .if6 .left) in
-    reads-as (is-last s a b d e f g) (c .before .before .read-dimension .ensures)
+    let s = c .before .before .before .before .before .before .before .before .before .before .before .before .before .before .before .before .before .before .before .before .before .before .before .before .before .before .before .before .before .before .before .before .before .before .before .before .before .before .args .text .now in
+    settled (is-dimension s) (c .before .before .before .before .read-dimension .ensures) (sym (c .before .is-form7 .ensures) ∙ c .if7 .taken)
+
+read-transfer-requires : tie.Need-read-transfer-requires
+read-transfer-requires c κs =
+    omega (arith, c .before .before .before .before .before .before .before .before .before .before .before .before .before .before .before .before .before .before .before .before .before .before .before .before .before .before .before .before .before .before .before .before .before .before .before .before .before .before .before .pre, c .before .before .before .before .before .read-dimension .kept .1 .0, c .before .before .before .before .before .before .before .before .before .before .before .before .before .before .read-do .kept .1 .0, c .before .before .before .before .before .before .before .before .before .before .before .before .before .before .before .before .before .before .before .before .read-if .kept .1 .0, c .before .before .before .before .before .before .before .before .before .before .before .before .before .before .before .before .before .before .before .before .before .before .before .before .before .before .read-computed .kept .1 .0, c .before .before .before .before .before .before .before .before .before .before .before .before .before .before .before .before .before .before .before .before .before .before .before .before .before .before .before .before .before .before .before .before .before .before .before .read-assignment .kept .1 .0)
+
+same-length-8 : tie.Need-same-length-8
+same-length-8 c =
+    c .before .before .read-transfer .kept .1 .0 ∙ c .before .before .before .before .before .before .before .before .read-dimension .kept .1 .0 ∙ c .before .before .before .before .before .before .before .before .before .before .before .before .before .before .before .before .before .read-do .kept .1 .0 ∙ c .before .before .before .before .before .before .before .before .before .before .before .before .before .before .before .before .before .before .before .before .before .before .before .read-if .kept .1 .0 ∙ c .before .before .before .before .before .before .before .before .before .before .before .before .before .before .before .before .before .before .before .before .before .before .before .before .before .before .before .before .before .read-computed .kept .1 .0 ∙ c .before .before .before .before .before .before .before .before .before .before .before .before .before .before .before .before .before .before .before .before .before .before .before .before .before .before .before .before .before .before .before .before .before .before .before .before .before .before .read-assignment .kept .1 .0
+
+returns-8 : tie.Need-returns-8
+returns-8 c =
+    let s = c .before .before .before .before .before .before .before .before .before .before .before .before .before .before .before .before .before .before .before .before .before .before .before .before .before .before .before .before .before .before .before .before .before .before .before .before .before .before .before .before .before .before .args .text .now in
+    let a = not-this s (is-assignment s) (c .before .before .before .before .before .before .before .before .before .before .before .before .before .before .before .before .before .before .before .before .before .before .before .before .before .before .before .before .before .before .before .before .before .before .before .before .before .before .read-assignment .ensures .says) (sym (c .before .before .before .before .before .before .before .before .before .before .before .before .before .before .before .before .before .before .before .before .before .before .before .before .before .before .before .before .before .before .before .before .before .before .before .is-form .ensures) ∙ c .before .before .before .before .before .before .before .before .before .before .before .before .before .before .before .before .before .before .before .before .before .before .before .before .before .before .before .before .before .before .before .before .before .before .if1 .left) in
+    let b = not-this s (is-go-to s) (c .before .before .before .before .before .before .before .before .before .before .before .before .before .before .before .before .before .before .before .before .before .before .before .before .before .before .before .before .before .before .before .before .before .read-go-to .ensures) (sym (c .before .before .before .before .before .before .before .before .before .before .before .before .before .before .before .before .before .before .before .before .before .before .before .before .before .before .before .before .before .before .before .before .is-form2 .ensures) ∙ c .before .before .before .before .before .before .before .before .before .before .before .before .before .before .before .before .before .before .before .before .before .before .before .before .before .before .before .before .before .before .before .if2 .left) in
+    let d = not-this s (is-computed s) (c .before .before .before .before .before .before .before .before .before .before .before .before .before .before .before .before .before .before .before .before .before .before .before .before .before .before .before .before .before .read-computed .ensures .says) (sym (c .before .before .before .before .before .before .before .before .before .before .before .before .before .before .before .before .before .before .before .before .before .before .before .before .before .before .is-form3 .ensures) ∙ c .before .before .before .before .before .before .before .before .before .before .before .before .before .before .before .before .before .before .before .before .before .before .before .before .before .if3 .left) in
+    let e = not-this s (is-if s) (c .before .before .before .before .before .before .before .before .before .before .before .before .before .before .before .before .before .before .before .before .before .before .before .read-if .ensures .says) (sym (c .before .before .before .before .before .before .before .before .before .before .before .before .before .before .before .before .before .before .before .before .is-form4 .ensures) ∙ c .before .before .before .before .before .before .before .before .before .before .before .before .before .before .before .before .before .before .before .if4 .left) in
+    let f = not-this s (is-do s) (c .before .before .before .before .before .before .before .before .before .before .before .before .before .before .before .before .before .read-do .ensures) (sym (c .before .before .before .before .before .before .before .before .before .before .before .before .before .before .is-form5 .ensures) ∙ c .before .before .before .before .before .before .before .before .before .before .before .before .before .if5 .left) in
+    let g = not-this s (is-word s) (c .before .before .before .before .before .before .before .before .before .before .before .before .read-word .ensures) (sym (c .before .before .before .before .before .before .before .before .before .before .before .is-form6 .ensures) ∙ c .before .before .before .before .before .before .before .before .before .before .if6 .left) in
+    let h = not-this s (is-dimension s) (c .before .before .before .before .before .before .before .before .read-dimension .ensures .says) (sym (c .before .before .before .before .before .is-form7 .ensures) ∙ c .before .before .before .before .if7 .left) in
+    reads-as (is-last s a b d e f g h) (c .before .before .read-transfer .ensures)
 
 pub read-spec : {M : Type 1} → statement M
 read-spec =
@@ -138,5 +156,9 @@ read-spec =
     same-length-6
     returns-6
     read-dimension-requires
+    is-form-requires-7
     same-length-7
-    returns-7)
+    returns-7
+    read-transfer-requires
+    same-length-8
+    returns-8)

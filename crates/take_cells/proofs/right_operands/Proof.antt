@@ -10,14 +10,16 @@ references-right-requires c κs = search needs
 
 returns : tie.Need-returns
 returns c =
-    first-wrong (c .before .references-right .ensures) (not-true _ (c .if1 .taken))
+    let st = c .before .before .before .before .before in
+    first-wrong (st .args .listed) (c .before .references-right .ensures) (not-true _ (c .if1 .taken))
 
 references-right-requires-2 : tie.Need-references-right-requires-2
 references-right-requires-2 c κs = search needs
 
 returns-2 : tie.Need-returns-2
 returns-2 c =
-    then-items (c .before .before .references-right .ensures) (not-false _ (c .before .if1 .left)) (c .references-right2 .ensures)
+    let st = c .before .before .before .before .before .before in
+    then-items (st .args .listed) (c .before .before .references-right .ensures) (not-false _ (c .before .if1 .left)) (c .references-right2 .ensures)
 
 pub right-operands-spec : {M : Type 1} → statement M
 right-operands-spec =

@@ -25,7 +25,7 @@ appear-requires-2 : tie.Need-appear-requires-2
 appear-requires-2 c κs =
     let st = c .before .before .before .before .before .before .before .before .before .before .before in
     let w = first-within (c .before .before .before .before .before .before .appear .ensures) (c .before .before .a .given .1) in
-    (st .pre .1 .0, (c .before .before .before .before .before .before .appear .kept .1 .0 ∙ st .pre .1 .1 .0, (w .0, w .1)))
+    (st .pre .1 .0, (c .before .before .before .before .before .before .appear .kept .1 .1 .0 ∙ st .pre .1 .1 .0, (w .0, w .1)))
 
 same-length-2 : tie.Need-same-length-2
 same-length-2 c = search needs

@@ -1,5 +1,5 @@
 -- `take_limits::of_statement` meets its contract. Assumes nothing.
-use Rattle.take_limits.proofs.Arms.{of-assignment, of-go-to, exits-room, of-computed, of-if, of-do, of-dimension, of-continue, of-stop, of-end, of-bad}
+use Rattle.take_limits.proofs.Arms.{of-assignment, of-go-to, exits-room, of-computed, of-if, of-do, of-dimension, of-transfer, of-continue, of-stop, of-end, of-bad}
 use borrow.Author.Needs.{needs}
 use Rattle.take_limits.proofs.of_statement.Statement.{statement}
 use Rattle.take_limits.proofs.of_statement.Tie as tie
@@ -62,6 +62,15 @@ enum-known-s-6 c = search needs
 
 of-sizes-requires-5 : tie.Need-of-sizes-requires-5
 of-sizes-requires-5 c κs = search needs
+
+enum-known-s-7 : tie.Need-enum-known-s-7
+enum-known-s-7 c = search needs
+
+right-number-requires-2 : tie.Need-right-number-requires-2
+right-number-requires-2 c κs = search needs
+
+of-sizes-requires-6 : tie.Need-of-sizes-requires-6
+of-sizes-requires-6 c κs = search needs
 
 enum-told-4 : tie.Need-enum-told-4
 enum-told-4 c = search needs
@@ -140,6 +149,14 @@ returns-9 c =
 
 returns-10 : tie.Need-returns-10
 returns-10 c =
+    let st = c .before .before .before .before .before .before .before in
+    let k = st .args .k in
+    let l = st .args .items .now in
+    let s = st .args .s in
+    of-transfer k l s _ _ (c .before .before .before .before .s7 .given .1) _ (c .before .right-number2 .ensures) (c .of-sizes6 .ensures)
+
+returns-11 : tie.Need-returns-11
+returns-11 c =
     let st = c .before .before .before in
     let k = st .args .k in
     let l = st .args .items .now in
@@ -168,6 +185,9 @@ of-statement-spec =
     enum-told-3
     enum-known-s-6
     of-sizes-requires-5
+    enum-known-s-7
+    right-number-requires-2
+    of-sizes-requires-6
     enum-told-4
     returns
     returns-2
@@ -178,4 +198,5 @@ of-statement-spec =
     returns-7
     returns-8
     returns-9
-    returns-10)
+    returns-10
+    returns-11)

@@ -10,10 +10,10 @@ use Rattle.take_names.proofs.appear.Statement.{statement}
 use Rattle.take_names.proofs.appear.Tie as tie
 
 abbrev Inv-loop : tie.InvT-loop
-Inv-loop items table₀ n cells at₀ names₀ taken₀ table at names taken = Taking items table₀ n cells table at names taken
+Inv-loop items listed table₀ n cells at₀ names₀ taken₀ table at names taken = Taking items listed table₀ n cells table at names taken
 
 abbrev μ-loop : tie.MeasureT-loop
-μ-loop items table₀ n cells at₀ names₀ taken₀ table at names taken = length items - at
+μ-loop items listed table₀ n cells at₀ names₀ taken₀ table at names taken = length items - at
 
 loop-holds : tie.Need-loop-holds Inv-loop μ-loop
 loop-holds c =
@@ -22,7 +22,7 @@ loop-holds c =
     let t = st .args .table .now in
     let n = st .args .n in
     let cells = st .args .cells in
-    taking-start items t n cells (st .pre .0) (st .pre .1 .1 .0) (st .pre .1 .1 .1)
+    taking-start items (st .args .listed) t n cells (st .pre .0) (st .pre .1 .1 .0) (st .pre .1 .1 .1)
 
 mul-take-item : tie.Need-mul-take-item Inv-loop μ-loop
 mul-take-item c = search needs
@@ -52,7 +52,7 @@ enum-told c = search needs
 same-length : tie.Need-same-length Inv-loop μ-loop
 same-length c =
     let lp = c .before .before .before .before .before .before .before .before .loop in
-    c .before .before .before .before .take-item .kept .1 .0 ∙ lp .inv .kept
+    c .before .before .before .before .take-item .kept .1 .1 .0 ∙ lp .inv .kept
 
 returns : tie.Need-returns Inv-loop μ-loop
 returns c =
@@ -62,7 +62,7 @@ returns c =
     let n = st .args .n in
     let cells = st .args .cells in
     let lp = c .before .before .before .before .before .before .before .before .loop in
-    taking-full items t n cells (lp .inv) (c .before .before .before .before .before .before .before .loop-test .taken) (c .before .before .before .before .take-item .ensures) (c .enum-told .given .1)
+    taking-full items (st .args .listed) t n cells (lp .inv) (c .before .before .before .before .before .before .before .loop-test .taken) (c .before .before .before .before .take-item .ensures) (c .enum-told .given .1)
 
 mul-item-length : tie.Need-mul-item-length Inv-loop μ-loop
 mul-item-length c = search needs
@@ -98,7 +98,7 @@ loop-again c =
     let cells = st .args .cells in
     let lp = c .before .before .before .before .before .before .before .before .before .before .before .loop in
     let ah = ahead items (lp .at) (lp .inv .worded) (c .before .before .before .before .before .before .before .before .before .before .loop-test .taken) in
-    taking-on items t n cells (lp .inv) (c .before .before .before .before .before .before .before .before .before .before .loop-test .taken) (c .before .before .before .before .before .before .before .take-item .ensures) (c .before .before .before .a .given .1) (c .before .before .before .before .before .before .before .take-item .kept .1 .0) (c .item-length .ensures) ah
+    taking-on items (st .args .listed) t n cells (lp .inv) (c .before .before .before .before .before .before .before .before .before .before .loop-test .taken) (c .before .before .before .before .before .before .before .take-item .ensures) (c .before .before .before .a .given .1) (c .before .before .before .before .before .before .before .take-item .kept .1 .1 .0) (c .item-length .ensures) ah
 
 same-length-2 : tie.Need-same-length-2 Inv-loop μ-loop
 same-length-2 c =
@@ -113,7 +113,7 @@ returns-2 c =
     let n = st .args .n in
     let cells = st .args .cells in
     let lp = c .before .loop in
-    taking-end items t n cells (lp .inv) (c .loop-test .left)
+    taking-end items (st .args .listed) t n cells (lp .inv) (c .loop-test .left)
 
 pub appear-spec : {M : Type 1} → statement M
 appear-spec =

@@ -3,7 +3,7 @@ use mathlib.Core.Path.{ap, _∙_}
 use native.Mathlib.Omega.{arith}
 use Rattle.take_name_table.specs.Find.{itemLength}
 use Rattle.take_name_table.proofs.Fronts.{front, front-long}
-use Rattle.take_names.proofs.Takes.{within-names, name-as, any-as, takes-plain, takes-none, takes-full, takes-both}
+use Rattle.take_names.proofs.Takes.{within-names, bare-as, any-as, takes-plain, takes-none, takes-full, takes-both}
 use borrow.Author.Needs.{needs}
 use Rattle.take_names.proofs.take_item.Statement.{statement}
 use Rattle.take_names.proofs.take_item.Tie as tie
@@ -20,8 +20,8 @@ name-at-requires c κs =
     let e = ap itemLength (c .before .if1 .taken) in
     omega (arith, long, e)
 
-take-name-requires : tie.Need-take-name-requires
-take-name-requires c κs =
+take-bare-requires : tie.Need-take-bare-requires
+take-bare-requires c κs =
     let st = c .before .before .before .before .before .before in
     st .pre .1
 
@@ -35,7 +35,7 @@ returns c =
     let t = st .args .table .now in
     let n = st .args .n in
     let cells = st .args .cells in
-    takes-plain items t n cells _ (c .before .before .take-name .result) (c .before .before .before .before .before .if1 .taken) (name-as (c .before .before .before .name-at .ensures) (c .before .before .take-name .ensures))
+    takes-plain items (st .args .listed) t n cells _ (c .before .before .take-bare .result) (c .before .before .before .before .before .if1 .taken) (bare-as (c .before .before .before .name-at .ensures) (c .before .before .take-bare .ensures))
 
 returns-2 : tie.Need-returns-2
 returns-2 c =
@@ -44,7 +44,7 @@ returns-2 c =
     let t = st .args .table .now in
     let n = st .args .n in
     let cells = st .args .cells in
-    takes-none items t n cells (c .before .if1 .left) (c .if2 .taken) (st .pre .1 .1 .0) (st .pre .1 .1 .1)
+    takes-none items (st .args .listed) t n cells (c .before .if1 .left) (c .if2 .taken) (st .pre .1 .1 .0) (st .pre .1 .1 .1)
 
 add-name-at : tie.Need-add-name-at
 add-name-at c = search needs
@@ -79,7 +79,7 @@ returns-3 c =
     let t = st .args .table .now in
     let n = st .args .n in
     let cells = st .args .cells in
-    takes-full items t n cells _ (c .before .before .before .before .take-any .result) (c .before .before .before .before .before .before .before .if2 .left) (any-as (c .before .before .before .before .before .before .name-at2 .ensures) (c .before .before .before .before .take-any .ensures)) (c .enum-told .given .1)
+    takes-full items (st .args .listed) t n cells _ (c .before .before .before .before .take-any .result) (c .before .before .before .before .before .before .before .if2 .left) (any-as (c .before .before .before .before .before .before .name-at2 .ensures) (c .before .before .before .before .take-any .ensures)) (c .enum-told .given .1)
 
 add-name-at-2 : tie.Need-add-name-at-2
 add-name-at-2 c = search needs
@@ -108,7 +108,7 @@ returns-4 c =
     let t = st .args .table .now in
     let n = st .args .n in
     let cells = st .args .cells in
-    takes-both items t n cells _ _ _ _ (c .before .before .before .before .before .before .before .before .before .before .take-any .result) (c .before .before .take-any2 .result) (c .before .before .before .before .before .before .before .before .before .before .before .before .before .if2 .left) (any-as (c .before .before .before .before .before .before .before .before .before .before .before .before .name-at2 .ensures) (c .before .before .before .before .before .before .before .before .before .before .take-any .ensures)) (c .before .before .before .before .before .before .a .given .1) (any-as (c .before .before .before .name-at3 .ensures) (c .before .before .take-any2 .ensures))
+    takes-both items (st .args .listed) t n cells _ _ _ _ (c .before .before .before .before .before .before .before .before .before .before .take-any .result) (c .before .before .take-any2 .result) (c .before .before .before .before .before .before .before .before .before .before .before .before .before .if2 .left) (any-as (c .before .before .before .before .before .before .before .before .before .before .before .before .name-at2 .ensures) (c .before .before .before .before .before .before .before .before .before .before .take-any .ensures)) (c .before .before .before .before .before .before .a .given .1) (any-as (c .before .before .before .name-at3 .ensures) (c .before .before .take-any2 .ensures))
 
 pub take-item-spec : {M : Type 1} → statement M
 take-item-spec =
@@ -116,7 +116,7 @@ take-item-spec =
     (tie.spec
     shared-slice-read-kind
     name-at-requires
-    take-name-requires
+    take-bare-requires
     same-length
     returns
     returns-2

@@ -1,5 +1,5 @@
 -- `take_plans::plan_of` meets its contract. Assumes nothing.
-use Rattle.take_plans.proofs.Arms.{of-assignment, of-go-to, of-computed, of-if, of-do, of-dimension, of-continue, of-stop, of-end, of-bad}
+use Rattle.take_plans.proofs.Arms.{of-assignment, of-go-to, of-computed, of-if, of-do, of-dimension, of-transfer, of-continue, of-stop, of-end, of-bad}
 use borrow.Author.Needs.{needs}
 use Rattle.take_plans.proofs.plan_of.Statement.{statement}
 use Rattle.take_plans.proofs.plan_of.Tie as tie
@@ -64,11 +64,20 @@ enum-known-s-6 c = search needs
 make-requires-9 : tie.Need-make-requires-9
 make-requires-9 c κs = search needs
 
-enum-told-4 : tie.Need-enum-told-4
-enum-told-4 c = search needs
+enum-known-s-7 : tie.Need-enum-known-s-7
+enum-known-s-7 c = search needs
+
+kind-of-requires : tie.Need-kind-of-requires
+kind-of-requires c κs = search needs
 
 make-requires-10 : tie.Need-make-requires-10
 make-requires-10 c κs = search needs
+
+enum-told-4 : tie.Need-enum-told-4
+enum-told-4 c = search needs
+
+make-requires-11 : tie.Need-make-requires-11
+make-requires-11 c κs = search needs
 
 returns : tie.Need-returns
 returns c =
@@ -138,10 +147,17 @@ returns-9 c =
 
 returns-10 : tie.Need-returns-10
 returns-10 c =
+    let st = c .before .before .before .before .before .before .before in
+    let l = st .args .items .now in
+    let s = st .args .s in
+    of-transfer l s _ _ (c .before .before .before .s7 .given .1) (c .before .before .before .before .before .no-name .ensures) (c .before .kind-of .ensures) (c .make10 .ensures)
+
+returns-11 : tie.Need-returns-11
+returns-11 c =
     let st = c .before .before .before .before .before in
     let l = st .args .items .now in
     let s = st .args .s in
-    of-bad l s _ (c .before .enum-told4 .given .1) (c .before .before .before .no-name .ensures) (c .make10 .ensures)
+    of-bad l s _ (c .before .enum-told4 .given .1) (c .before .before .before .no-name .ensures) (c .make11 .ensures)
 
 pub plan-of-spec : {M : Type 1} → statement M
 plan-of-spec =
@@ -167,8 +183,11 @@ plan-of-spec =
     make-requires-8
     enum-known-s-6
     make-requires-9
-    enum-told-4
+    enum-known-s-7
+    kind-of-requires
     make-requires-10
+    enum-told-4
+    make-requires-11
     returns
     returns-2
     returns-3
@@ -179,4 +198,5 @@ plan-of-spec =
     returns-7
     returns-8
     returns-9
-    returns-10)
+    returns-10
+    returns-11)

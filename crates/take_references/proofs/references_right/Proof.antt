@@ -13,18 +13,19 @@ use Rattle.take_references.proofs.references_right.Statement.{statement
 use Rattle.take_references.proofs.references_right.Tie as tie
 
 abbrev Inv-loop : tie.InvT-loop
-Inv-loop items table n at₀ at = Passing items table n at
+Inv-loop items listed table n at₀ at = Passing items listed table n at
 
 abbrev μ-loop : tie.MeasureT-loop
-μ-loop items table n at₀ at = length items - at
+μ-loop items listed table n at₀ at = length items - at
 
 loop-holds : tie.Need-loop-holds Inv-loop μ-loop
 loop-holds c =
     let st = c .before .before in
     let items = st .args .items .now in
+    let listed = st .args .listed in
     let t = st .args .table .now in
     let n = st .args .n in
-    passing-start items t n (st .pre .0)
+    passing-start items listed t n (st .pre .0)
 
 mul-right-item : tie.Need-mul-right-item Inv-loop μ-loop
 mul-right-item c = search needs
@@ -49,10 +50,11 @@ returns : tie.Need-returns Inv-loop μ-loop
 returns c =
     let st = c .before .before .before .before .before .before .before in
     let items = st .args .items .now in
+    let listed = st .args .listed in
     let t = st .args .table .now in
     let n = st .args .n in
     let lp = c .before .before .before .before .loop in
-    passing-no items t n (lp .at) (c .before .right-item .result) (lp .inv) (c .before .before .before .loop-test .taken) (subst (λ (x : List ℕ). RightItem x t n (c .before .right-item .result)) (lent items (lp .at)) (c .before .right-item .ensures)) (not-true _ (c .if1 .taken))
+    passing-no items listed t n (lp .at) (c .before .right-item .result) (lp .inv) (c .before .before .before .loop-test .taken) (subst (λ (x : List ℕ). RightItem x listed t n (c .before .right-item .result)) (lent items (lp .at)) (c .before .right-item .ensures)) (not-true _ (c .if1 .taken))
 
 mul-item-length : tie.Need-mul-item-length Inv-loop μ-loop
 mul-item-length c = search needs
@@ -83,21 +85,23 @@ loop-again : tie.Need-loop-again Inv-loop μ-loop
 loop-again c =
     let st = c .before .before .before .before .before .before .before .before .before in
     let items = st .args .items .now in
+    let listed = st .args .listed in
     let t = st .args .table .now in
     let n = st .args .n in
     let lp = c .before .before .before .before .before .before .loop in
     let ah = ahead items (lp .at) (lp .inv .worded) (c .before .before .before .before .before .loop-test .taken) in
-    subst (λ (k : ℕ). Passing items t n (lp .at + k)) (sym (c .item-length .ensures))
-    (passing-on items t n (lp .at) (c .before .before .before .right-item .result) (lp .inv) (c .before .before .before .before .before .loop-test .taken) (subst (λ (x : List ℕ). RightItem x t n (c .before .before .before .right-item .result)) (lent items (lp .at)) (c .before .before .before .right-item .ensures)) (not-false _ (c .before .before .if1 .left)) (ah .within) (ah .worded))
+    subst (λ (k : ℕ). Passing items listed t n (lp .at + k)) (sym (c .item-length .ensures))
+    (passing-on items listed t n (lp .at) (c .before .before .before .right-item .result) (lp .inv) (c .before .before .before .before .before .loop-test .taken) (subst (λ (x : List ℕ). RightItem x listed t n (c .before .before .before .right-item .result)) (lent items (lp .at)) (c .before .before .before .right-item .ensures)) (not-false _ (c .before .before .if1 .left)) (ah .within) (ah .worded))
 
 returns-2 : tie.Need-returns-2 Inv-loop μ-loop
 returns-2 c =
     let st = c .before .before .before .before in
     let items = st .args .items .now in
+    let listed = st .args .listed in
     let t = st .args .table .now in
     let n = st .args .n in
     let lp = c .before .loop in
-    passing-end items t n (lp .at) (lp .inv) (c .loop-test .left)
+    passing-end items listed t n (lp .at) (lp .inv) (c .loop-test .left)
 
 pub references-right-spec : {M : Type 1} → statement M
 references-right-spec =

@@ -13,15 +13,15 @@ use Rattle.whole_ranges.proofs.set_right.Statement.{statement}
 use Rattle.whole_ranges.proofs.set_right.Tie as tie
 
 abbrev Inv-loop : tie.InvT-loop
-Inv-loop rows count at loops dos i₀ i = (i ≤ loops .count) × (allFrom (λ d. leaves rows (doAt loops d) (lastAt loops d) (at .0)) (loops .count) 0 ≡ allFrom (λ d. leaves rows (doAt loops d) (lastAt loops d) (at .0)) (loops .count - i) i)
+Inv-loop rows count lists at loops dos i₀ i = (i ≤ loops .count) × (allFrom (λ d. leaves rows lists (doAt loops d) (lastAt loops d) (at .0)) (loops .count) 0 ≡ allFrom (λ d. leaves rows lists (doAt loops d) (lastAt loops d) (at .0)) (loops .count - i) i)
 
 abbrev μ-loop : tie.MeasureT-loop
-μ-loop rows count at loops dos i₀ i = loops .count - i
+μ-loop rows count lists at loops dos i₀ i = loops .count - i
 
 loop-holds : tie.Need-loop-holds Inv-loop μ-loop
 loop-holds c =
-    let D = c .before .args .t3 in
-    let test : ℕ → Bool = λ d. leaves (c .before .args .rows .now) (doAt D d) (lastAt D d) (c .before .args .at .0) in
+    let D = c .before .before .args .t4 in
+    let test : ℕ → Bool = λ d. leaves (c .before .before .args .rows .now) (c .before .before .args .lists .now) (doAt D d) (lastAt D d) (c .before .before .args .at .0) in
     let n = D .count in
     (omega arith, rw (all-left n))
 
@@ -39,16 +39,17 @@ element-copy-out-last c = search needs
 
 leaves-be-requires : tie.Need-leaves-be-requires Inv-loop μ-loop
 leaves-be-requires c κs =
-    let p = c .before .before .before .before .before .pre in
+    let s = c .before .before .before .before .before .before in
+    let p = s .pre .0 in
     let a = p .0 .from-one (c .before .before .before .loop .i) (c .before .before .loop-test .taken) in
     let b = p .0 .to-last (c .before .before .before .loop .i) (c .before .before .loop-test .taken) in
-    ((a .0, omega (arith, b .0, p .0 .rows-long)), (p .1 .0, omega (arith, p .1 .1, p .0 .rows-long)))
+    ((a .0, omega (arith, b .0, p .0 .rows-long)), (p .1 .0, s .pre .1 .fits (s .args .at .0 - 1) (omega (arith, p .1 .0, p .1 .1))))
 
 returns : tie.Need-returns Inv-loop μ-loop
 unfolding setRight
 returns c =
-    let D = c .before .before .before .before .before .before .before .args .t3 in
-    let test : ℕ → Bool = λ d. leaves (c .before .before .before .before .before .before .before .args .rows .now) (doAt D d) (lastAt D d) (c .before .before .before .before .before .before .before .args .at .0) in
+    let D = c .before .before .before .before .before .before .before .before .args .t4 in
+    let test : ℕ → Bool = λ d. leaves (c .before .before .before .before .before .before .before .before .args .rows .now) (c .before .before .before .before .before .before .before .before .args .lists .now) (doAt D d) (lastAt D d) (c .before .before .before .before .before .before .before .before .args .at .0) in
     let n = D .count in
     let i = c .before .before .before .before .before .loop .i in
     let inv = c .before .before .before .before .before .loop .inv in
@@ -63,8 +64,8 @@ loop-less c = search needs
 loop-again : tie.Need-loop-again Inv-loop μ-loop
 unfolding setRight
 loop-again c =
-    let D = c .before .before .before .before .before .before .before .args .t3 in
-    let test : ℕ → Bool = λ d. leaves (c .before .before .before .before .before .before .before .args .rows .now) (doAt D d) (lastAt D d) (c .before .before .before .before .before .before .before .args .at .0) in
+    let D = c .before .before .before .before .before .before .before .before .args .t4 in
+    let test : ℕ → Bool = λ d. leaves (c .before .before .before .before .before .before .before .before .args .rows .now) (c .before .before .before .before .before .before .before .before .args .lists .now) (doAt D d) (lastAt D d) (c .before .before .before .before .before .before .before .before .args .at .0) in
     let n = D .count in
     let i = c .before .before .before .before .before .loop .i in
     let inv = c .before .before .before .before .before .loop .inv in
@@ -73,8 +74,8 @@ loop-again c =
 returns-2 : tie.Need-returns-2 Inv-loop μ-loop
 unfolding setRight
 returns-2 c =
-    let D = c .before .before .before .args .t3 in
-    let test : ℕ → Bool = λ d. leaves (c .before .before .before .args .rows .now) (doAt D d) (lastAt D d) (c .before .before .before .args .at .0) in
+    let D = c .before .before .before .before .args .t4 in
+    let test : ℕ → Bool = λ d. leaves (c .before .before .before .before .args .rows .now) (c .before .before .before .before .args .lists .now) (doAt D d) (lastAt D d) (c .before .before .before .before .args .at .0) in
     let n = D .count in
     let i = c .before .loop .i in
     let inv = c .before .loop .inv in

@@ -13,17 +13,18 @@ use Rattle.whole_ranges.proofs.wrong_set.Statement.{statement}
 use Rattle.whole_ranges.proofs.wrong_set.Tie as tie
 
 abbrev Inv-loop : tie.InvT-loop
-Inv-loop rows count loops q₀ q = (q ≤ count) × (firstFrom (λ k. setRight rows loops (suc k)) suc count 0 ≡ firstFrom (λ k. setRight rows loops (suc k)) suc (count - q) q)
+Inv-loop rows count lists loops q₀ q = (q ≤ count) × (firstFrom (λ k. setRight rows lists loops (suc k)) suc count 0 ≡ firstFrom (λ k. setRight rows lists loops (suc k)) suc (count - q) q)
 
 abbrev μ-loop : tie.MeasureT-loop
-μ-loop rows count loops q₀ q = count - q
+μ-loop rows count lists loops q₀ q = count - q
 
 loop-holds : tie.Need-loop-holds Inv-loop μ-loop
 loop-holds c =
-    let n = c .before .args .count in
-    let R = c .before .args .rows .now in
-    let D = c .before .args .loops in
-    let test : ℕ → Bool = λ k. setRight R D (suc k) in
+    let n = c .before .before .args .count in
+    let R = c .before .before .args .rows .now in
+    let L = c .before .before .args .lists .now in
+    let D = c .before .before .args .loops in
+    let test : ℕ → Bool = λ k. setRight R L D (suc k) in
     (omega arith, first-starts test suc n)
 
 sequence-of-requires : tie.Need-sequence-of-requires Inv-loop μ-loop
@@ -31,18 +32,20 @@ sequence-of-requires c κs = search needs
 
 set-right-requires : tie.Need-set-right-requires Inv-loop μ-loop
 set-right-requires c κs =
-    (c .before .before .before .before .pre, (omega (arith, c .sequence-of .ensures), omega (arith, c .sequence-of .ensures, c .before .loop-test .taken)))
+    let p = c .before .before .before .before .before .pre in
+    ((p .0, (omega (arith, c .sequence-of .ensures), omega (arith, c .sequence-of .ensures, c .before .loop-test .taken))), p .1)
 
 returns : tie.Need-returns Inv-loop μ-loop
 unfolding foundOf
 returns c =
-    let n = c .before .before .before .before .before .before .args .count in
-    let R = c .before .before .before .before .before .before .args .rows .now in
-    let D = c .before .before .before .before .before .before .args .loops in
-    let test : ℕ → Bool = λ k. setRight R D (suc k) in
+    let n = c .before .before .before .before .before .before .before .args .count in
+    let R = c .before .before .before .before .before .before .before .args .rows .now in
+    let L = c .before .before .before .before .before .before .before .args .lists .now in
+    let D = c .before .before .before .before .before .before .before .args .loops in
+    let test : ℕ → Bool = λ k. setRight R L D (suc k) in
     let q = c .before .before .before .before .loop .q in
     let inv = c .before .before .before .before .loop .inv in
-    let right = c .before .set-right .ensures ∙ ap (setRight R D) (c .before .before .sequence-of .ensures) in
+    let right = c .before .set-right .ensures ∙ ap (setRight R L D) (c .before .before .sequence-of .ensures) in
     ap some (c .before .before .sequence-of .ensures) ∙ sym (inv .1 ∙ first-stops test suc n q (c .before .before .before .loop-test .taken) (sym right ∙ not-true _ (c .if1 .taken)))
 
 add-q : tie.Need-add-q Inv-loop μ-loop
@@ -53,22 +56,24 @@ loop-less c = search needs
 
 loop-again : tie.Need-loop-again Inv-loop μ-loop
 loop-again c =
-    let n = c .before .before .before .before .before .before .args .count in
-    let R = c .before .before .before .before .before .before .args .rows .now in
-    let D = c .before .before .before .before .before .before .args .loops in
-    let test : ℕ → Bool = λ k. setRight R D (suc k) in
+    let n = c .before .before .before .before .before .before .before .args .count in
+    let R = c .before .before .before .before .before .before .before .args .rows .now in
+    let L = c .before .before .before .before .before .before .before .args .lists .now in
+    let D = c .before .before .before .before .before .before .before .args .loops in
+    let test : ℕ → Bool = λ k. setRight R L D (suc k) in
     let q = c .before .before .before .before .loop .q in
     let inv = c .before .before .before .before .loop .inv in
-    let right = c .before .set-right .ensures ∙ ap (setRight R D) (c .before .before .sequence-of .ensures) in
+    let right = c .before .set-right .ensures ∙ ap (setRight R L D) (c .before .before .sequence-of .ensures) in
     (omega arith, inv .1 ∙ first-more test suc n q (c .before .before .before .loop-test .taken) (sym right ∙ not-false _ (c .if1 .left)))
 
 returns-2 : tie.Need-returns-2 Inv-loop μ-loop
 unfolding foundOf
 returns-2 c =
-    let n = c .before .before .before .args .count in
-    let R = c .before .before .before .args .rows .now in
-    let D = c .before .before .before .args .loops in
-    let test : ℕ → Bool = λ k. setRight R D (suc k) in
+    let n = c .before .before .before .before .args .count in
+    let R = c .before .before .before .before .args .rows .now in
+    let L = c .before .before .before .before .args .lists .now in
+    let D = c .before .before .before .before .args .loops in
+    let test : ℕ → Bool = λ k. setRight R L D (suc k) in
     let q = c .before .loop .q in
     let inv = c .before .loop .inv in
     sym (inv .1 ∙ first-ends test suc n q (c .loop-test .left))
