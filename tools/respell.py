@@ -123,7 +123,7 @@ def turned(text, taken, aliases, word, field, clauses_only=False):
                 return name
             if at and part[at - 1] == ".":
                 head = re.search(r"([^\s(){}.;,@\"]+)\.$", part[:at])
-                if head and head.group(1) in aliases:
+                if head and (head.group(1) in aliases or head.group(1)[0].isupper()):
                     return word.get(name, field.get(name, name))
                 return field.get(name, name)
             if name in word and not (clauses_only and "_" in name):

@@ -9,7 +9,7 @@ use read_tokens::Sizes;
 #[cycle(expression_factor_term)]
 pub fn expression(s: &[u8], items: &mut [u64], n: usize) -> Got
     requires { n + 5 * length s.now ≤ length items.old }
-    ensures { Parsed s.now items.old items.new n (parse Mode.anExpression s.now) result }
+    ensures { Parsed s.now items.old items.new n (parse Mode.an_expression s.now) result }
 {
     let c = read_tokens::byte(s, 0);
     let a = read_operators::sign_len(c);
@@ -49,7 +49,7 @@ pub fn expression(s: &[u8], items: &mut [u64], n: usize) -> Got
 #[cycle(expression_factor_term)]
 fn term(s: &[u8], items: &mut [u64], n: usize) -> Got
     requires { n + 5 * length s.now ≤ length items.old }
-    ensures { Parsed s.now items.old items.new n (parse Mode.aTerm s.now) result }
+    ensures { Parsed s.now items.old items.new n (parse Mode.a_term s.now) result }
 {
     let Got::Read {
         at: k,
@@ -87,7 +87,7 @@ fn term(s: &[u8], items: &mut [u64], n: usize) -> Got
 #[cycle(expression_factor_term)]
 fn factor(s: &[u8], items: &mut [u64], n: usize) -> Got
     requires { n + 5 * length s.now ≤ length items.old }
-    ensures { Parsed s.now items.old items.new n (parse Mode.aFactor s.now) result }
+    ensures { Parsed s.now items.old items.new n (parse Mode.a_factor s.now) result }
 {
     if read_tokens::byte(s, 0) != b'(' {
         return read_items::operand(s, items, n);

@@ -60,7 +60,7 @@ blanks_over [] e s = s
 blanks_over {b} {t} {f} (c ∷ h) e s = go (λ e'. blanks_over h e' s) (is_blank c) refl e
   where
     go : (without_blanks h ≡ [] → SpellsList b (h ++ t) f) → (a : Bool) → is_blank c ≡ a → cond a (without_blanks h) (c ∷ without_blanks h) ≡ [] → SpellsList b (c ∷ h ++ t) f
-    go less true p q = subst (λ (x : ℕ). SpellsList b (x ∷ h ++ t) f) (sym (eqb-true c blank p)) (SpellsList.over-blank (less q))
+    go less true p q = subst (λ (x : ℕ). SpellsList b (x ∷ h ++ t) f) (sym (eqb-true c blank p)) (SpellsList.over_blank (less q))
     go less false p q = let z : ◌≡◌ {A = ℕ} 0 1 = cc in absurd (omega arith)
 
 pub spelled_read : (cs : List ℕ) (f : Format) → Spells cs f → format_of cs ≡ some f
@@ -101,7 +101,7 @@ none_spelled cs = (one, λ h. other (format_of cs) refl h)
 
 makes_then : {a b c : ℕ} {s t : List ℕ} → Makes a s b → Makes b t c → Makes a (s ++ t) c
 makes_then no_more n = n
-makes_then (Makes.over-blank m) n = Makes.over-blank (makes_then m n)
+makes_then (Makes.over_blank m) n = Makes.over_blank (makes_then m n)
 makes_then (with_digit d l m) n = with_digit d l (makes_then m n)
 
 numeral_makes : (more q n : ℕ) → n ≤ more → q ≡ n / 10 → Makes 0 (numeral_from more q n) n
@@ -153,7 +153,7 @@ one_right : IsNumber 1
 one_right = record { least = omega arith; most = omega arith }
 
 list_punchable : {b : Before} {t : List ℕ} {f : Format} → SpellsList b t f → PunchableList f
-list_punchable (SpellsList.over-blank s) = list_punchable s
+list_punchable (SpellsList.over_blank s) = list_punchable s
 list_punchable the_end = tt
 list_punchable (a_slash s) = list_punchable s
 list_punchable (comma_between k s) = list_punchable s
@@ -185,7 +185,7 @@ stands_next : (columns : List ℕ) (c : ℕ) (u : List ℕ) → Stands columns (
 stands_next columns c u s = stands_right columns (c ∷ []) u s
 
 list_stands : {b : Before} {t : List ℕ} {f : Format} (columns : List ℕ) → SpellsList b t f → Stands columns t → TextsStand columns f
-list_stands cs (SpellsList.over-blank {t = t} s) h = list_stands cs s (stands_next cs _ t h)
+list_stands cs (SpellsList.over_blank {t = t} s) h = list_stands cs s (stands_next cs _ t h)
 list_stands cs the_end h = tt
 list_stands cs (a_slash {t = t} s) h = list_stands cs s (stands_next cs _ t h)
 list_stands cs (comma_between {t = t} k s) h = list_stands cs s (stands_next cs _ t h)

@@ -38,7 +38,7 @@ next_number n d cs l =
 
 number_through : {n v : ℕ} {t : List ℕ} → Makes n t v → (u : List ℕ) → number_from n (t ++ u) ≡ number_from v u
 number_through no_more u = refl
-number_through (Makes.over-blank m) u = number_through m u
+number_through (Makes.over_blank m) u = number_through m u
 number_through {n} {v} (with_digit {t = t} d l m) u = next_number n d (t ++ u) l ∙ number_through m u
 
 right_number_lem : (n : ℕ) → IsNumber n → right_number n ≡ true
@@ -126,7 +126,7 @@ count_reads : (p : Place) → may_field p ≡ true → {s : List ℕ} {z n : ℕ
     → is_blank c || is_digit c ≡ false → (f : Format) (rest : List ℕ)
     → ((m : ℕ) → length u ≤ m → counted (list_up_to m) n (mark_of c) u ≡ found f rest) → Reads p (s ++ (c ∷ u)) f rest
 count_reads p may e no_more r c u stop f rest h = absurd (omega (arith, r.least))
-count_reads p may e (Makes.over-blank m) r c u stop f rest h = blank_before p _ f rest (count_reads p may e m r c u stop f rest h)
+count_reads p may e (Makes.over_blank m) r c u stop f rest h = blank_before p _ f rest (count_reads p may e m r c u stop f rest h)
 count_reads p may {z = z} {n = n} e (with_digit {t = t} d l m) r c u stop f rest h =
     reads_column p (digit d) (t ++ (c ∷ u)) f rest (λ k g.
     ap (λ (x : Mark). column (list_up_to k) p x (t ++ (c ∷ u))) (digit_mark d l)
@@ -178,7 +178,7 @@ reads_counted p s c t u rest f h =
     subst (λ (x : List ℕ). Reads p x f rest) (sym (append_assoc s (c ∷ (t ++ u)) rest)) (reads_both p (λ x. s ++ (c ∷ x)) t u rest f h)
 
 takes : {b : Before} {t : List ℕ} {f : Format} → SpellsList b t f → (p : Place) → before_at p ≡ b → Fits p f → (rest : List ℕ) → Reads p (t ++ rest) f rest
-takes (SpellsList.over-blank s) p e b rest = blank_before p _ _ rest (takes s p e b rest)
+takes (SpellsList.over_blank s) p e b rest = blank_before p _ _ rest (takes s p e b rest)
 takes the_end p e b rest = reads_column p right_paren rest close rest (λ m l. ap (λ (a : Bool). provided a (found close rest)) (may_close_lem p b))
 takes (a_slash {t = t} {f = f} s) p e b rest =
     let h = takes s after_slash refl tt rest in

@@ -81,7 +81,7 @@ number_told n (c ∷ cs) = go (λ k. number_told k cs) (is_blank c) (is_digit c)
     go : ((k : ℕ) → ToldNumber k cs (number_from k cs)) → (b d : Bool) → is_blank c ≡ b → is_digit c ≡ d
         → ToldNumber n (c ∷ cs) (cond (b || d) (number_from (cond b n (n * 10 + (c - 48))) cs) (found n (c ∷ cs)))
     go less true d e f =
-        longer n _ (λ t v m. subst (λ (x : ℕ). Makes n (x ∷ t) v) (sym (eqb-true c blank e)) (Makes.over-blank m)) (less n)
+        longer n _ (λ t v m. subst (λ (x : ℕ). Makes n (x ∷ t) v) (sym (eqb-true c blank e)) (Makes.over_blank m)) (less n)
     go less false true e f =
         longer _ _
         (λ t v m. subst (λ (x : ℕ). Makes n (x ∷ t) v) (digit_of c f) (with_digit (c - 48) (omega (arith, digit_high c f)) m))
@@ -229,7 +229,7 @@ module _ (go : Place → List ℕ → Found Format) (goes : (p : Place) (cs : Li
   column_told p c a_blank cs marked_blank = blank_more (go p cs) (goes p cs)
     where
       blank_more : (o : Found Format) → Told p cs o → Told p (blank ∷ cs) o
-      blank_more (found f _) (told t rest e s b) = told (blank ∷ t) rest (ap (λ (l : List ℕ). blank ∷ l) e) (SpellsList.over-blank s) b
+      blank_more (found f _) (told t rest e s b) = told (blank ∷ t) rest (ap (λ (l : List ℕ). blank ∷ l) e) (SpellsList.over_blank s) b
       blank_more bad told_bad = told_bad
   column_told first c a_comma cs marked_comma = told_bad
   column_told after_comma c a_comma cs marked_comma = told_bad
