@@ -5,11 +5,9 @@ use mathlib.Core.List.{List, [], ◌∷◌}
 use Prim.Native.Nat.{ℕ, ◌^◌}
 use lib.Dec.{eqb, eqb→eq}
 use lib.ListN.{get_or}
-use borrow.Author.Rules.{rules}
 use Rattle.number.specs.Number.{Rule, digits_rule}
 use Rattle.number.proofs.Table.{at}
-use Rattle.number.proofs.of_digits.Statement.{statement}
-use Rattle.number.proofs.of_digits.Tie as tie
+use Rattle.number.proofs.of_digits.Goals as goal
 
 tens : List ℕ
 tens = 1 ∷ 10 ∷ 100 ∷ 1000 ∷ 10000 ∷ 100000 ∷ 1000000 ∷ 10000000 ∷ 100000000 ∷ 1000000000 ∷ []
@@ -20,15 +18,6 @@ power k x = eqb x (10 ^ k)
 abbrev below : ℕ → Rule
 below c = record { ceiling = c }
 
-mul-t3 : tie.Need-overflow-mul-t3
-mul-t3 c = search rules
-
-array-read-t6 : tie.Need-array-read-t6
-array-read-t6 c = search rules
-
-returns : tie.Need-returns
+pub returns : goal.returns
 unfolding tens digits_rule
 returns c = ap below (eqb→eq (get_or tens c.args.k 0) (10 ^ c.args.k) (at power tens tt c.args.k c.requires))
-
-pub of-digits-spec : {M : Type 1} → statement M
-of-digits-spec = tie.close (tie.spec mul-t3 array-read-t6 returns)
