@@ -81,7 +81,7 @@ passed_at {house} {q} {t} (x ∷ deck) (passed p h) zero s e =
     rw (add-zero q, ← same) p
 passed_at {house} {q} {t} (x ∷ deck) (passed p h) (suc j) s e =
     let n : q + suc j ≡ suc q + j = omega arith in
-    rw n (passed_at deck h j s e)
+    rw n (passed_at {q = suc q} {t = takes q x.form t} deck h j s e)
 
 judged_at : {house : House} {deck : List Statement} (q : ℕ) (s : Statement) → get_elem? deck q ≡ some s → Passed house q (taken_before deck q) s → JudgedAt house deck q s
 unfolding judge_form

@@ -133,6 +133,7 @@ appear_holds held v (w ∷ vs) here =
     appear_keeps (is_the_name v) (cond (holds (is_the_name v) held) held (held ++ (name v ∷ []))) vs
     (cases (λ (l : List Held). holds (is_the_name v) l ≡ true) (holds (is_the_name v) held) held (held ++ (name v ∷ [])) (λ x. x) (λ x. holds_last v held))
 appear_holds held v (w ∷ vs) (there a) = appear_holds (cond (holds (is_the_name w) held) held (held ++ (name w ∷ []))) v vs a
+appear_holds held v [] x' = elim x' [ ]
 
 -- what is held stays held, and a statement's plain names are held after it
 pub brings_keeps : (test : Held → Bool) (q : ℕ) (f : Form) (held : List Held) → holds test held ≡ true → holds test (brings q f held) ≡ true
@@ -146,3 +147,4 @@ no_array v (name w ∷ held) e a h = no_array v held e a h
 no_array v (array x ∷ held) e a here = (or_neither (same_name a.name v) (holds (is_array v) held) e).0
 no_array v (array x ∷ held) e a (there h) = no_array v held (or_neither (same_name x.name v) (holds (is_array v) held) e).1 a h
 no_array v (hidden q ∷ held) e a h = no_array v held e a h
+no_array v [] e a h = elim h [ ]

@@ -12,7 +12,7 @@ use lib.Dec.{leb}
 use lib.ListN.{length, get_elem?, take}
 use borrow.Author.Tests.{leb-true}
 use Rattle.rules_shared.specs.House.{House}
-use Rattle.rules_shared.specs.Lists.{all, Each, each_more}
+use Rattle.rules_shared.specs.Lists.{all, Each, each_more, each_none}
 use Rattle.rules_object.specs.Object.{Named}
 use Rattle.rules_object.specs.Check.{span, is_letter, is_digit}
 use Rattle.rules_shared.proofs.EachLaws.{each_map}
@@ -46,6 +46,7 @@ grown_holds {held} g test e = subst (λ (l : List Held). holds test l ≡ true) 
 declares : (arrays : List Array) {v : Name} → Among v (array_names arrays) → holds (is_array v) (map (λ a. Held.array (declare a)) arrays) ≡ true
 declares (array v r c ∷ arrays) here = ap (λ (b : Bool). b || holds (is_array v) (map (λ a. Held.array (declare a)) arrays)) (name_same v)
 declares (array w r c ∷ arrays) {v} (there a) = holds_right (is_array v) (Held.array (declare (array w r c)) ∷ []) (map (λ a. Held.array (declare a)) arrays) (declares arrays a)
+declares [] {v = v} x' = elim x' [ ]
 
 grown_take : (q : ℕ) (deck : List Statement) (held : List Held) (j : ℕ) → Grown (held_from q (take j deck) held) (held_from q deck held)
 grown_take q deck held zero = grown_held q deck held
@@ -155,6 +156,7 @@ held_name deck v a = go (names_from_lem 0 deck [] v a)
   where
     go : Among v [] ⊎ InDeck deck v → InDeck deck v
     go (inr i) = i
+    go (inl x') = elim x' [ ]
 
 -- ---- one entry
 
@@ -189,6 +191,7 @@ name_kind house deck c v i = go (form_covered i.statement.form i.among)
 pub each_here : {A : Type 0} {P : A → Type 0} {l : List A} {x : A} → Each P l → Among x l → P x
 each_here (each_more p ps) here = p
 each_here (each_more p ps) (there a) = each_here ps a
+each_here {A = A} {P = P} each_none x6 = elim x6 [ ]
 
 letter_or_digit : (c : ℕ) → is_letter_or_digit c ≡ true → c ≡ 32 → ⊥
 unfolding is_letter_or_digit

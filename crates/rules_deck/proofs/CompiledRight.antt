@@ -76,6 +76,7 @@ name_right {house} lawful v p = rw lawful.entries (go v p.name (omega (arith, p.
     go (c ∷ s) (is_name q qs) l h =
         let t = and_both (leb 73 c) (leb c 78) h in
         both (leb 73 c) _ t.0 (both (leb c 78) _ t.1 (tail_right 5 7 8 s (omega arith) qs))
+    go [] x3 l h = elim x3 [ ]
 
 -- ---- entries and operands of an object whose numbers stay below m, with n words of code and c cells
 

@@ -65,6 +65,7 @@ tail_bytes (c ∷ s) (each_more p ps) = each_more (go (or_one (is_letter c) (is_
 
 name_bytes : (v : Name) → IsName v → Each IsByte v
 name_bytes (c ∷ s) (is_name q qs) = each_more {x = c} (omega (arith, letter_bounds c q)) (tail_bytes s qs)
+name_bytes [] x' = elim x' [ ]
 
 -- ---- entries
 

@@ -3,8 +3,8 @@
 use mathlib.Core.Path.{◌≡◌, refl, ap}
 use mathlib.Core.Logic.{◌⊎◌, inl, inr}
 use mathlib.Core.List.{List, [], ◌∷◌, ◌++◌, map}
-use mathlib.Core.Option.{Option, some}
-use Rattle.rules_text.specs.Trees.{Name, Subscripts, subscripts_names, Expr, var, elm, neg, par, bin, expr_names, Target, cell, element, target_names, written, Array, array, array_names, Form, assign, computed, ifs, loop, dimension, form_names}
+use mathlib.Core.Option.{Option, some, none}
+use Rattle.rules_text.specs.Trees.{Name, Subscripts, subscripts_names, Expr, var, elm, neg, par, bin, expr_names, Target, cell, element, target_names, written, Array, array, array_names, Form, assign, computed, ifs, loop, dimension, form_names, con, go_to, continue, stop, end}
 use Rattle.rules_deck.specs.Deck.{declare, arrays_in}
 use Rattle.rules_deck.specs.Translation.{Held, expr_plain, target_plain, form_plain}
 use Rattle.rules_deck.specs.Judge.{Reference, expr_references, target_references, form_references}
@@ -48,9 +48,11 @@ expr_covered (neg e) a = expr_covered e a
 expr_covered (par e) a = expr_covered e a
 expr_covered (bin o x y) a =
     covered_both (expr_names x) (expr_names y) (expr_plain x) (expr_plain y) (expr_references x) (expr_references y) (expr_covered x) (expr_covered y) a
+expr_covered {v = v} (con _) a = elim a [ ]
 
 written_covered : {v : Name} (e : Option Expr) → Among v (written expr_names e) → Covered (written expr_plain e) (written expr_references e) v
 written_covered (some e) a = expr_covered e a
+written_covered {v = v} none a = elim a [ ]
 
 target_covered : {v : Name} (t : Target) → Among v (target_names t) → Covered (target_plain t) (target_references t) v
 target_covered (cell w) a = plainly a
@@ -82,6 +84,10 @@ form_covered (loop n w p₁ p₂ p₃) (there a) =
     (covered_both (expr_names p₂) (written expr_names p₃) (expr_plain p₂) (written expr_plain p₃) (expr_references p₂) (written expr_references p₃) (expr_covered p₂)
     (written_covered p₃)) a))
 form_covered (dimension arrays) a = inr a
+form_covered {v = v} (go_to _) a = elim a [ ]
+form_covered {v = v} continue a = elim a [ ]
+form_covered {v = v} stop a = elim a [ ]
+form_covered {v = v} end a = elim a [ ]
 
 -- ---- a name that stands plainly is one of the statement's
 
@@ -98,9 +104,11 @@ expr_plain_lem (elm w s) a = there a
 expr_plain_lem (neg e) a = expr_plain_lem e a
 expr_plain_lem (par e) a = expr_plain_lem e a
 expr_plain_lem (bin o x y) a = both (expr_plain x) (expr_plain y) (expr_names x) (expr_names y) (expr_plain_lem x) (expr_plain_lem y) a
+expr_plain_lem {v = v} (con _) a = elim a [ ]
 
 written_plain : {v : Name} (e : Option Expr) → Among v (written expr_plain e) → Among v (written expr_names e)
 written_plain (some e) a = expr_plain_lem e a
+written_plain {v = v} none a = elim a [ ]
 
 target_plain_lem : {v : Name} (t : Target) → Among v (target_plain t) → Among v (target_names t)
 target_plain_lem (cell w) a = a
@@ -115,11 +123,24 @@ plain_names (loop n w p₁ p₂ p₃) here = here
 plain_names (loop n w p₁ p₂ p₃) (there a) =
     there (both (expr_plain p₁) (expr_plain p₂ ++ written expr_plain p₃) (expr_names p₁) (expr_names p₂ ++ written expr_names p₃) (expr_plain_lem p₁)
     (both (expr_plain p₂) (written expr_plain p₃) (expr_names p₂) (written expr_names p₃) (expr_plain_lem p₂) (written_plain p₃)) a)
+plain_names {v = v} (go_to _) a = elim a [ ]
+plain_names {v = v} continue a = elim a [ ]
+plain_names {v = v} stop a = elim a [ ]
+plain_names {v = v} end a = elim a [ ]
+plain_names {v = v} (dimension _) a = elim a [ ]
 
 -- so is one that it declares
 pub array_names_lem : {v : Name} (f : Form) → Among v (array_names (arrays_in f)) → Among v (form_names f)
 unfolding form_names
 array_names_lem (dimension arrays) a = a
+array_names_lem {v = v} (assign _ _) a = elim a [ ]
+array_names_lem {v = v} (go_to _) a = elim a [ ]
+array_names_lem {v = v} (computed _ _) a = elim a [ ]
+array_names_lem {v = v} (ifs _ _ _ _) a = elim a [ ]
+array_names_lem {v = v} (loop _ _ _ _ _) a = elim a [ ]
+array_names_lem {v = v} continue a = elim a [ ]
+array_names_lem {v = v} stop a = elim a [ ]
+array_names_lem {v = v} end a = elim a [ ]
 
 pub declared_names : (arrays : List Array) → names_held (map (λ a. Held.array (declare a)) arrays) ≡ array_names arrays
 declared_names [] = refl

@@ -10,7 +10,7 @@ use native.Mathlib.Omega.{arith}
 use lib.ListN.{get_elem?}
 use borrow.Author.Tests.{eq-eqb}
 use Rattle.rules_shared.proofs.Places.{place_below}
-use Rattle.rules_text.specs.Trees.{Name, Subscripts, one, two, Form, loop, Statement}
+use Rattle.rules_text.specs.Trees.{Name, Subscripts, one, two, Form, loop, Statement, assign, go_to, computed, ifs, continue, stop, end, dimension}
 use Rattle.rules_deck.specs.Deck.{Do, do_of, dos_from, dos_of, dims_of, width}
 use Rattle.rules_deck.specs.Meaning.{plain, element_at, Values, place_in}
 use Rattle.rules_deck.specs.Translation.{Held, name, hidden, is_the_name, is_hidden, holds, appear, form_plain, brings, held_from, held_of}
@@ -64,6 +64,7 @@ appear_has (v ∷ vs) held here =
     grown_has (grown_appear vs (cond (holds (is_the_name v) held) held (held ++ (name v ∷ [])))) (key (plain v))
     (cases (λ l. holds (is_the_name v) l ≡ true) (holds (is_the_name v) held) held (held ++ (name v ∷ [])) (λ e. e) (λ e. holds_end (is_the_name v) held (name v) (name_same v)))
 appear_has (w ∷ vs) held (there a) = appear_has vs (cond (holds (is_the_name w) held) held (held ++ (name w ∷ []))) a
+appear_has [] held {v = v} x' = elim x' [ ]
 
 plain_from_lem : (q : ℕ) (deck : List Statement) (held : List Held) (j : ℕ) (s : Statement) (v : Name) → get_elem? deck j ≡ some s → Among v (form_plain s.form)
     → Has (held_from q deck held) (key (plain v))
@@ -85,6 +86,15 @@ plain_has deck j s v e a = plain_from_lem 0 deck [] j s v e a
 loop_has : (q : ℕ) (f : Form) (held : List Held) (d : Do) → Among d (do_of q f) → Has (brings q f held) (limit d.position) × Among d.variable (form_plain f)
 unfolding form_plain
 loop_has q (loop n v p₁ p₂ p₃) held d here = (holds_end (is_hidden q) (appear held (form_plain (loop n v p₁ p₂ p₃))) (hidden q) (eq-eqb q q refl), here)
+loop_has q (assign _ _) held d x3 = elim x3 [ ]
+loop_has q (go_to _) held d x3 = elim x3 [ ]
+loop_has q (computed _ _) held d x5 = elim x5 [ ]
+loop_has q (ifs _ _ _ _) held d x8 = elim x8 [ ]
+loop_has q (loop n v p₁ p₂ p₃) held d (there x8) = elim x8 [ ]
+loop_has q continue held d x6 = elim x6 [ ]
+loop_has q stop held d x7 = elim x7 [ ]
+loop_has q end held d x8 = elim x8 [ ]
+loop_has q (dimension _) held d x10 = elim x10 [ ]
 
 do_from : (q : ℕ) (deck : List Statement) (held : List Held) (d : Do) → Among d (dos_from q deck)
     → Has (held_from q deck held) (limit d.position) × Has (held_from q deck held) (key (plain d.variable))
@@ -101,6 +111,7 @@ do_from q (s ∷ deck) held d a = go (among_append (do_of q s.form) (dos_from (s
           grown_has g (limit d.position) h.0,
           plain_from_lem q (s ∷ deck) held 0 s d.variable refl h.1,
         )
+do_from q [] held d a = elim a [ ]
 
 pub hidden_has : (deck : List Statement) (d : Do) → Among d (dos_of deck) → Has (held_of deck) (limit d.position)
 unfolding held_of dos_of

@@ -13,7 +13,7 @@ use lib.ListN.{length, get_elem?}
 use borrow.Author.Tests.{leb-true, eqb-true, not-true}
 use Rattle.rules_shared.specs.House.{House}
 use Rattle.rules_shared.specs.Lists.{all}
-use Rattle.rules_text.specs.Trees.{Name, value_of, Subscripts, one, two, Array, array, Form, assign, computed, ifs, loop, Statement}
+use Rattle.rules_text.specs.Trees.{Name, value_of, Subscripts, one, two, Array, array, Form, assign, computed, ifs, loop, Statement, go_to, continue, stop, end, dimension}
 use Rattle.rules_deck.specs.Deck.{same_name, Dims, Declared, declare, arrays_in, arrays_of, dims_of}
 use Rattle.rules_deck.specs.Translation.{Held, is_the_name, is_array, holds, form_plain, brings}
 use Rattle.rules_deck.specs.Judge.{ends_in_f, seen, some_cells, right_arrays, right15, Reference, form_references, right_count, right_reference, right16, Taken, takes}
@@ -36,6 +36,7 @@ rows_in inF held (x ∷ arrays) e (there h) =
     let f = (and_both (some_cells x) _ e).1 in
     let g = (and_both (not (seen held (declare x).name)) _ f).1 in
     rows_in inF (held ++ (Held.array (declare x) ∷ [])) arrays (and_both (inF || not (ends_in_f (declare x).name)) _ g).1 h
+rows_in inF held [] e {a = a} x'' = elim x'' [ ]
 
 not_held : (held : List Held) (w v : Name) → holds (is_the_name w) held ≡ false → holds (is_the_name v) held ≡ true → (t : Bool) → same_name w v ≡ t → t ≡ false
 not_held held w v e h true s =
@@ -54,6 +55,7 @@ new_in inF held (x ∷ arrays) e (there b) v h =
     let f = (and_both (some_cells x) _ e).1 in
     let g = (and_both (not (seen held (declare x).name)) _ f).1 in
     new_in inF (held ++ (Held.array (declare x) ∷ [])) arrays (and_both (inF || not (ends_in_f (declare x).name)) _ g).1 b v (holds_left (is_the_name v) held _ h)
+new_in inF held [] e {a = a} x3 v h = elim x3 [ ]
 
 -- ---- 16, for one reference
 
@@ -73,6 +75,11 @@ plain_declares (assign t e) v a = refl
 plain_declares (computed ns w) v a = refl
 plain_declares (ifs e x y z) v a = refl
 plain_declares (loop n w p₁ p₂ p₃) v a = refl
+plain_declares (go_to _) v a = elim a [ ]
+plain_declares continue v a = elim a [ ]
+plain_declares stop v a = elim a [ ]
+plain_declares end v a = elim a [ ]
+plain_declares (dimension _) v a = elim a [ ]
 
 module _ {house : House} {deck : List Statement} (accepted : Accepted house deck) where
   -- the arrays before a position are the first of the deck's

@@ -11,7 +11,7 @@ use mathlib.Core.Option.{Option, some}
 use lib.Dec.{eqb}
 use lib.ListN.{get_elem?}
 use borrow.Author.Tests.{eqb-true}
-use Rattle.rules_text.specs.Trees.{Name, Digits, value_of, Expr, Form, loop, Statement, form_last}
+use Rattle.rules_text.specs.Trees.{Name, Digits, value_of, Expr, Form, loop, Statement, form_last, assign, go_to, computed, ifs, continue, stop, end, dimension}
 use Rattle.rules_deck.specs.Deck.{Do, do_of, dos_from, dos_of, ending_with, endings}
 use Rattle.rules_deck.specs.Accepted.{Among, here, there}
 use Rattle.rules_deck.proofs.TestLaws.{clash, only, among_left, among_right, among_append, among_reverse}
@@ -27,6 +27,14 @@ pub record DoAt (deck : List Statement) (d : Do) : Type 0 where
 
 is_do_of : {q : ℕ} {d : Do} (f : Form) → Among d (do_of q f) → IsDo q d f
 is_do_of (loop n v p₁ p₂ p₃) a = is_do (only a)
+is_do_of {q = q} {d = d} (assign _ _) a = elim a [ ]
+is_do_of {q = q} {d = d} (go_to _) a = elim a [ ]
+is_do_of {q = q} {d = d} (computed _ _) a = elim a [ ]
+is_do_of {q = q} {d = d} (ifs _ _ _ _) a = elim a [ ]
+is_do_of {q = q} {d = d} continue a = elim a [ ]
+is_do_of {q = q} {d = d} stop a = elim a [ ]
+is_do_of {q = q} {d = d} end a = elim a [ ]
+is_do_of {q = q} {d = d} (dimension _) a = elim a [ ]
 
 -- position j of what is left, counted from q
 record DoFrom (q : ℕ) (deck : List Statement) (d : Do) : Type 0 where
@@ -46,6 +54,7 @@ do_from q (s ∷ deck) d a = go (do_from (suc q) deck d) (among_append (do_of q 
     go : (Among d (dos_from (suc q) deck) → DoFrom (suc q) deck d) → Among d (do_of q s.form) ⊎ Among d (dos_from (suc q) deck) → DoFrom q (s ∷ deck) d
     go rest (inl b) = record { j = 0; statement = s; at = refl; is = subst (λ (m : ℕ). IsDo m d s.form) (sym (add-zero q)) (is_do_of s.form b) }
     go rest (inr b) = later (rest b)
+do_from q [] d a = elim a [ ]
 
 do_position : {q : ℕ} {d : Do} {f : Form} → IsDo q d f → d.position ≡ q
 do_position (is_do e) = ap (λ (d : Do). d.position) e
@@ -71,6 +80,14 @@ do_last (is_do {n} e) = (n, ap (λ (d : Do). d.last) e, here)
 
 among_do : {q : ℕ} {d : Do} (f : Form) → IsDo q d f → Among d (do_of q f)
 among_do (loop n v p₁ p₂ p₃) (is_do e) = rw e here
+among_do {q = q} {d = d} (assign _ _) x3 = elim x3 [ ]
+among_do {q = q} {d = d} (go_to _) x3 = elim x3 [ ]
+among_do {q = q} {d = d} (computed _ _) x5 = elim x5 [ ]
+among_do {q = q} {d = d} (ifs _ _ _ _) x8 = elim x8 [ ]
+among_do {q = q} {d = d} continue x5 = elim x5 [ ]
+among_do {q = q} {d = d} stop x6 = elim x6 [ ]
+among_do {q = q} {d = d} end x7 = elim x7 [ ]
+among_do {q = q} {d = d} (dimension _) x9 = elim x9 [ ]
 
 among_from : (q : ℕ) (deck : List Statement) (j : ℕ) (s : Statement) → get_elem? deck j ≡ some s → (d : Do) → IsDo (q + j) d s.form → Among d (dos_from q deck)
 among_from q [] j s e d h = absurd (clash (sym e))
@@ -102,6 +119,7 @@ ending n (x ∷ ds) d a = go (eqb x.last n) refl (ending n ds d) a
         Among d (x ∷ ds) × (d.last ≡ n)
     go true e rest b = first (eqb-true x.last n e) rest refl b
     go false e rest b = push (rest b)
+ending n [] d a = elim a [ ]
 
 pub among_endings : (deck : List Statement) (n : ℕ) (d : Do) → Among d (endings deck n) → Among d (dos_of deck) × (d.last ≡ n)
 unfolding endings

@@ -43,6 +43,7 @@ among_kind (array a ∷ held) {v} (there b) = go (among_kind held b)
     go (inl e) = inl e
     go (inr e) = inr (or_either (same_name a.name v) (holds (is_array v) held) (inr e))
 among_kind (hidden q ∷ held) a = among_kind held a
+among_kind [] {v = v} a = elim a [ ]
 
 pub name_among : (held : List Held) (v : Name) → holds (is_the_name v) held ≡ true → Among v (names_held held)
 name_among [] v e = absurd (false≢true e)

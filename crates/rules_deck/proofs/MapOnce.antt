@@ -34,6 +34,7 @@ array_named (array a ∷ held) here = here
 array_named (name v ∷ held) (there i) = there (array_named held i)
 array_named (array b ∷ held) (there i) = there (array_named held i)
 array_named (hidden q ∷ held) (there i) = array_named held i
+array_named {a = a} [] x' = elim x' [ ]
 
 -- what has no name
 once_quiet : (held more : List Held) → names_held more ≡ [] → Once held → Once (held ++ more)
@@ -76,6 +77,7 @@ once_array held b e r o =
     go : (a : Declared) → Among (array a) held ⊎ Among (array a) (array b ∷ []) → 1 ≤ a.dims.rows
     go a (inl i) = o.full.rows a i
     go a (inr here) = r
+    go a (inr (there x4)) = elim x4 [ ]
 
 -- ---- one statement keeps it
 

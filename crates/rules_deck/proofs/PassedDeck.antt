@@ -3,7 +3,7 @@
 use mathlib.Core.Path.{◌≡◌}
 use Prim.Native.Nat.{ℕ, suc}
 use mathlib.Core.Bool.{true, ◌||◌, not}
-use mathlib.Core.List.{List, ◌∷◌}
+use mathlib.Core.List.{List, ◌∷◌, []}
 use mathlib.Core.Option.{none, some}
 use lib.Dec.{eqb}
 use lib.ListN.{length, get_elem?}
@@ -43,6 +43,7 @@ passes {house} {deck} h =
 each_do : (deck : List Statement) (ds : List Do) → first_wrong_do deck ds ≡ none → {d : Do} → Among d ds → right_do deck d ≡ true
 each_do deck (x ∷ ds) e here = (cond_none (right_do deck x) (first_wrong_do deck ds) (suc x.position) e).0
 each_do deck (x ∷ ds) e (there a) = each_do deck ds (cond_none (right_do deck x) (first_wrong_do deck ds) (suc x.position) e).1 a
+each_do deck [] e {d = d} x'' = elim x'' [ ]
 
 module _ {house : House} {deck : List Statement} (accepted : Accepted house deck) where
   pub passes20 : (j : ℕ) (s : Statement) → get_elem? deck j ≡ some s → (not (is_end s.form) || eqb (suc j) (length deck)) ≡ true

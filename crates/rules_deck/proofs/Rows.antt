@@ -46,6 +46,7 @@ rising deck = rising_from 0 deck
 pub rising_least : {q : ℕ} {d : Do} {ds : List Do} → Rising q ds → Among d ds → q ≤ d.position
 rising_least (next k h) here = k
 rising_least (next k h) (there a) = omega (arith, rising_least h a)
+rising_least {d = d} (no_more {q = q}) x4 = elim x4 [ ]
 
 -- ---- numbers
 
@@ -56,6 +57,7 @@ number_none (d ∷ ds) p (next k h) l = rw (le-ltb d.position p (omega arith)) (
 number_row : {q : ℕ} (ds : List Do) (d : Do) → Rising q ds → Among d ds → get_elem? ds (do_number ds d.position) ≡ some d
 number_row (c ∷ ds) d (next k h) here = rw (le-ltb c.position c.position (omega arith), number_none ds c.position h (omega arith))
 number_row (c ∷ ds) d (next k h) (there a) = rw (lt-ltb c.position d.position (rising_least h a)) (number_row ds d h a)
+number_row {q = q} [] d _ x3 = elim x3 [ ]
 
 pub map_at : {A B : Type 0} (f : A → B) (l : List A) (a : ℕ) (x : A) → get_elem? l a ≡ some x → get_elem? (map f l) a ≡ some (f x)
 map_at f [] a x e = absurd (clash (sym e))

@@ -101,6 +101,7 @@ among_none = elim [ ]
 
 pub only : {A : Type 0} {x y : A} → Among x (y ∷ []) → x ≡ y
 only here = refl
+only {A = A} {y = y} (there x4) = elim x4 [ ]
 
 pub among_left : {A : Type 0} {x : A} {xs : List A} (ys : List A) → Among x xs → Among x (xs ++ ys)
 among_left ys here = here
@@ -122,6 +123,7 @@ among_append {x = x} (y ∷ xs) ys (there a) = go (among_append xs ys a)
 pub among_map : {A B : Type 0} (f : A → B) (xs : List A) {y : B} → Among y (map f xs) → (x : A) × Among x xs × (y ≡ f x)
 among_map f (x ∷ xs) here = (x, here, refl)
 among_map f (x ∷ xs) (there a) = let h = among_map f xs a in (h.0, there h.1, h.2)
+among_map {A = A} {B = B} f [] {y = y} x' = elim x' [ ]
 
 turn : {A : Type 0} {x y : A} {xs ys : List A} → Among x xs ⊎ Among x (y ∷ ys) → Among x (y ∷ xs) ⊎ Among x ys
 turn (inl b) = inl (there b)
@@ -137,6 +139,7 @@ among_reverse {x = x} xs a = go (among_turned xs [] a)
   where
     go : Among x xs ⊎ Among x [] → Among x xs
     go (inl b) = b
+    go (inr x'') = elim x'' [ ]
 
 pub at_before : {A : Type 0} (xs : List A) (j : ℕ) {x : A} → get_elem? xs j ≡ some x → j < length xs
 at_before [] j e = absurd (clash (sym e))

@@ -18,6 +18,7 @@ module _ (n : ℕ) where
   width_same : (k r : ℕ) (cs : List ℕ) (o : Found ℕ) → ToldNumber k cs o → length cs ≤ n → width_of (list_up_to n) r o ≡ width_of list r o
   width_same k r cs (found w _) (told_number t rest e m) l =
       ap (λ (x : Found Format). provided (right_number w) (before (number r w) x)) (enough n after_field rest (omega (arith, shorter cs t rest e)))
+  width_same k r cs bad x'' l = elim x'' [ ]
 
   group_same : (r : ℕ) (cs : List ℕ) → length cs ≤ n → group_of (list_up_to n) r (list_up_to n first cs) ≡ group_of list r (list first cs)
   group_same r cs l = go (list_up_to n first cs) (list_told n first cs) ∙ ap (group_of list r) (enough n first cs l)
@@ -44,6 +45,7 @@ module _ (n : ℕ) where
   count_same k cs (found v []) (told_number t rest e m) l = refl
   count_same k cs (found v (c ∷ left)) (told_number t rest e m) l =
       ap (provided (right_number v)) (counted_same v (mark_of c) left (omega (arith, shorter cs t (c ∷ left) e)))
+  count_same k cs bad x'' l = elim x'' [ ]
 
   column_same : (p : Place) (m : Mark) (cs : List ℕ) → length cs ≤ n → column (list_up_to n) p m cs ≡ column list p m cs
   column_same p a_blank cs l = enough n p cs l

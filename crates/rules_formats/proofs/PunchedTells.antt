@@ -77,6 +77,7 @@ number_told n (c ∷ cs) = go (λ k. number_told k cs) (is_blank c) (is_digit c)
   where
     longer : (k : ℕ) (o : Found ℕ) → ((t : List ℕ) (v : ℕ) → Makes k t v → Makes n (c ∷ t) v) → ToldNumber k cs o → ToldNumber n (c ∷ cs) o
     longer k (found v _) make (told_number t rest e m) = told_number (c ∷ t) rest (ap (λ (l : List ℕ). c ∷ l) e) (make t v m)
+    longer k bad make x'' = elim x'' [ ]
 
     go : ((k : ℕ) → ToldNumber k cs (number_from k cs)) → (b d : Bool) → is_blank c ≡ b → is_digit c ≡ d
         → ToldNumber n (c ∷ cs) (cond (b || d) (number_from (cond b n (n * 10 + (c - 48))) cs) (found n (c ∷ cs)))
@@ -170,6 +171,7 @@ module _ (go : Place → List ℕ → Found Format) (goes : (p : Place) (cs : Li
           when true g =
               follow_told wrap over cs t rest e (number r w) (λ u f s. h w t u f (record { digits = m; right = is_number w g }) s) (λ f. tt)
           when false g = told_bad
+      with_number bad x' = elim x' [ ]
 
   group_told : (wrap : List ℕ → List ℕ) → ((a b : List ℕ) → wrap (a ++ b) ≡ wrap a ++ b) → (r : ℕ)
       → ((t u : List ℕ) (inner f : Format) → NotEmpty inner → SpellsList no_field t inner → SpellsList a_field u f
@@ -224,6 +226,7 @@ module _ (go : Place → List ℕ → Found Format) (goes : (p : Place) (cs : Li
           when : (b : Bool) → right_number n ≡ b → Told after_comma (digit d ∷ (t ++ (c ∷ left))) (provided b (counted go n (mark_of c) left))
           when true g = counted_told (digit d ∷ t) n c (mark_of c) left (marked c) (first_digit d n t l m) (is_number n g)
           when false g = told_bad
+      with_number bad x' = elim x' [ ]
 
   column_told : (p : Place) (c : ℕ) (k : Mark) (cs : List ℕ) → Marked c k → Told p (c ∷ cs) (column go p k cs)
   column_told p c a_blank cs marked_blank = blank_more (go p cs) (goes p cs)

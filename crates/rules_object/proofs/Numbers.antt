@@ -49,6 +49,9 @@ module _ (o : Object) where
   sum_within : (i s l : ℤ) → T (positive s) → Within o i → Within o s → Within o l → T (le_z (i +ℤ s) l) → Within o (i +ℤ s)
   sum_within (pos a) (pos b) (pos c) p hi hs hl t = omega (arith, leb→le (a + b) c t)
   sum_within (negsuc a) (pos b) l p hi hs hl t = sub_within b (suc a) hs hi
+  sum_within (pos a) (pos b) (negsuc _) p hi hs hl t = elim t [ ]
+  sum_within (pos a) (negsuc _) l p hi hs hl t = elim p [ ]
+  sum_within (negsuc a) (negsuc _) l p hi hs hl t = elim p [ ]
 
   abbrev pub TurnWithin : Turn → Type 0
   TurnWithin (again v) = Within o v

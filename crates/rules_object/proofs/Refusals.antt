@@ -17,11 +17,11 @@ use Rattle.rules_formats.specs.Walk.{Trays, devices_of}
 use Rattle.rules_object.specs.Halts.{Out}
 use Rattle.rules_object.specs.Object.{Object}
 use Rattle.rules_object.specs.Check.{right41}
-use Rattle.rules_object.specs.Machine.{State, fresh, bench_step}
+use Rattle.rules_object.specs.Machine.{State, fresh, bench_step, step}
 use Rattle.rules_object.specs.Bytes.{read_object}
 use Rattle.rules_shared.specs.Refusals.{Refusal, refusal, accepted, or_else, unless, no_room}
 use Rattle.rules_shared.specs.Output.{Written, not_written, written_if, write}
-use Rattle.rules_object.specs.Calls.{refused, passed, checked, verdict, checking, Lent, right50, right51, Ran, not_run, ran, run_from, or_refused, run_checked, running, bench_object, benching, map_of, map_checked, mapping}
+use Rattle.rules_object.specs.Calls.{refused, passed, checked, verdict, checking, Lent, taken, right50, right51, Ran, not_run, ran, run_from, or_refused, run_checked, running, bench_object, benching, map_of, map_checked, mapping}
 use Rattle.rules_object.specs.Safe.{Unchanged, MapUnchanged, MapWritten, In}
 use Rattle.rules_object.proofs.Accepts.{If, or_if, unless_if, Why, unread, over, later, Verdict, bad, good, judge, refused_bench, Answer, refuses, runs, answer, BenchAnswer, bench_answer}
 
@@ -80,7 +80,7 @@ module _ (bytes : List ℕ) (store : List ℤ) (l : Lent) (trays : Trays) (a : �
     where
       by : Answer bytes store l → One l store trays (running bytes store l trays a)
       by (refuses r p q) = subst (One l store trays) (sym (q trays a)) (inl (p, refl))
-      by (runs x q) = inr (ap (λ z. z.refusal) (q trays a) ∙ from_accepts _ trays _ a _)
+      by (runs x q) = inr (ap (λ z. z.refusal) (q trays a) ∙ from_accepts x.object trays (step x.object) a (taken l store (devices_of trays)))
 
   pub run_refuses : 0 < (running bytes store l trays a).refusal.number → Unchanged l store trays (running bytes store l trays a)
   run_refuses p = one_refuses l store trays _ run_one p
@@ -96,7 +96,7 @@ module _ (bytes : List ℕ) (store : List ℤ) (l : Lent) (trays : Trays) (a : �
     where
       by : BenchAnswer bytes store → One l store trays (benching bytes store l trays a)
       by (refuses r p q) = subst (One l store trays) (sym (q l trays a)) (inl (p, refl))
-      by (runs x q) = inr (ap (λ z. z.refusal) (q l trays a) ∙ from_accepts _ trays _ a _)
+      by (runs x q) = inr (ap (λ z. z.refusal) (q l trays a) ∙ from_accepts x.object trays (bench_step x.object) a (fresh store (devices_of trays)))
 
   pub bench_refuses : 0 < (benching bytes store l trays a).refusal.number → Unchanged l store trays (benching bytes store l trays a)
   bench_refuses p = one_refuses l store trays _ bench_one p

@@ -26,6 +26,7 @@ use Rattle.rules_object.specs.Safe.{In, cells_from, list_cells}
 in_left : (a : ℕ) (xs ys : List ℕ) → In a xs → In a (xs ++ ys)
 in_left a (x ∷ xs) ys (inl e) = inl e
 in_left a (x ∷ xs) ys (inr h) = inr (in_left a xs ys h)
+in_left a [] ys x' = elim x' [ ]
 
 in_right : (a : ℕ) (xs ys : List ℕ) → In a ys → In a (xs ++ ys)
 in_right a [] ys h = h
@@ -39,6 +40,7 @@ in_span a (suc n) (suc p) l = let e : suc a + p ≡ a + suc p = omega arith in i
 pub each_in : {P : ℕ → Type 0} (a : ℕ) (cells : List ℕ) → Each P cells → In a cells → P a
 each_in {P} a (c ∷ cells) (each_more p ps) (inl e) = subst P (sym e) p
 each_in a (c ∷ cells) (each_more p ps) (inr h) = each_in a cells ps h
+each_in {P = P} a [] _ x3 = elim x3 [ ]
 
 -- ---- spots
 

@@ -106,10 +106,12 @@ run_stays test h (c ∷ s) (each_more p ps) = λ b o. comes_byte b c (h c p).no_
 number_stays : (n : Digits) → IsDigits n → Stays n
 number_stays (c ∷ s) (is_digits p ps) = λ b.
     comes_byte b c (plain_digit c p).no_plus (run_stays is_digit plain_digit s ps c (plain_digit c p).no_start)
+number_stays [] x' = elim x' [ ]
 
 name_stays : (v : Name) → IsName v → Stays v
 name_stays (c ∷ s) (is_name p ps) = λ b.
     comes_byte b c (plain_letter c p).no_plus (run_stays is_letter_or_digit plain_either s ps c (plain_letter c p).no_start)
+name_stays [] x' = elim x' [ ]
 
 -- two texts of which the second is not at the start of an expression
 stays_join : (t w : List ℕ) → Stays t → StaysInside w → Stays (t ++ w)

@@ -326,6 +326,7 @@ takes_array (array v r (some c)) rest (qv, qr, qc) =
 -- a name is no more digits
 name_clear : (v x y : List ℕ) → IsName v → Clear is_digit ((v ++ x) ++ y)
 name_clear (c ∷ s) x y (is_name p ps) = clear_byte (letter_no_digit c p)
+name_clear [] x y x3 = elim x3 [ ]
 
 by_ends : (r : Option Expr) → EndsSum (spell_by r ++ [])
 by_ends none = ends_text

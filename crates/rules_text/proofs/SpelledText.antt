@@ -103,6 +103,8 @@ unfolding signed
 signed_first [] t false e no_sign p = first p
 signed_first (c ∷ []) t false e plus_sign_lem p = after_plus p
 signed_first (c ∷ []) t true e minus_sign_lem p = after_minus p
+signed_first [] t true e x4 p = elim x4 [ ]
+signed_first (c ∷ (_ ∷ _)) t b e x7 p = elim x7 [ ]
 
 -- an operation between terms, and between factors
 sum_spelled : (c : ℕ) (l u : List ℕ) (a b : Expr) (o : Op) → sum_op c ≡ some o → SpellsPart a_sum l a → SpellsPart a_product u b → SpellsPart a_sum (l ++ c ∷ u) (bin o a b)

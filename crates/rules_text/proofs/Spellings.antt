@@ -10,7 +10,7 @@ use native.Mathlib.Omega.{arith}
 use Rattle.number.specs.Number.{Op, add, sub, mul, div}
 use Rattle.rules_shared.specs.Lists.{Each, each_none, each_more}
 use Rattle.rules_shared.proofs.EachLaws.{each_head, each_tail, each_left, each_right}
-use Rattle.rules_text.specs.Trees.{Expr, con, var, bin, expr_names, expr_constants, optional, written, element, target_names, target_constants, Array, array, array_names, array_constants, Form, assign, go_to, computed, ifs, loop, continue, stop, end, dimension, form_names, form_constants, form_exits, form_last}
+use Rattle.rules_text.specs.Trees.{Expr, con, var, elm, neg, par, bin, expr_names, expr_constants, optional, written, element, target_names, target_constants, Array, array, array_names, array_constants, Form, assign, go_to, computed, ifs, loop, continue, stop, end, dimension, form_names, form_constants, form_exits, form_last}
 use Rattle.rules_text.specs.Grammar.{form_of}
 use Rattle.rules_text.specs.Shaped.{IsSum, IsProduct, IsFactor, IsParameter, OptionalParameter}
 use Rattle.rules_text.specs.Spelling.{spell_expr, spell_form, Words, IsArray, IsNumberOrName, IsBy, a_sum, a_product, a_factor, SpellsPart, first, after_minus, added, less, only, times, over, a_number, a_name, element_factor, parens, Spells, an_assignment, a_go_to, a_computed, an_if, a_do_loop, a_continue, a_stop, an_end, a_dimension, SomeArray, Spellable, without_pluses}
@@ -52,6 +52,10 @@ mutual
 parameter_words_lem : (e : Expr) → IsParameter e → WordsOf e → IsNumberOrName e
 parameter_words_lem (con c) IsParameter.constant w = each_head w.1
 parameter_words_lem (var v) IsParameter.name w = each_head w.0
+parameter_words_lem (elm _ _) x4 w = elim x4 [ ]
+parameter_words_lem (neg _) x4 w = elim x4 [ ]
+parameter_words_lem (par _) x5 w = elim x5 [ ]
+parameter_words_lem (bin _ _ _) x8 w = elim x8 [ ]
 
 by_words : (r : Option Expr) → OptionalParameter r → Words (written expr_names r) (written expr_constants r) → IsBy r
 by_words none p w = tt

@@ -115,6 +115,7 @@ takes_number (c ∷ s) rest (is_digits p ps) k =
       is = refl;
       reads = taken_all s rest c _ (ap (λ (b : Bool). cond b (suc (run is_digit (s ++ rest))) 0) p ∙ ap suc (run_through is_digit s rest ps k));
     }
+takes_number [] rest x'' k = elim x'' [ ]
 
 pub takes_name : (v rest : List ℕ) → IsName v → Clear is_letter_or_digit rest → Takes name (v ++ rest) v rest
 unfolding name name_run
@@ -124,6 +125,7 @@ takes_name (c ∷ s) rest (is_name p ps) k =
       is = refl;
       reads = taken_all s rest c _ (ap (λ (b : Bool). cond b (suc (run is_letter_or_digit (s ++ rest))) 0) p ∙ ap suc (run_through is_letter_or_digit s rest ps k));
     }
+takes_name [] rest x'' k = elim x'' [ ]
 
 neither : (a b : Bool) → a || b ≡ false → b ≡ false
 neither true b e = cc
@@ -138,6 +140,7 @@ no_digit (clear_byte {c} e) = clear_byte (neither (is_letter c) (is_digit c) e)
 pub starts_digit_lem : (n rest : List ℕ) → IsDigits n → starts_digit (n ++ rest) ≡ true
 unfolding starts_digit
 starts_digit_lem (c ∷ s) rest (is_digits p ps) = p
+starts_digit_lem [] rest x' = elim x' [ ]
 
 pub letter_no_digit : (c : ℕ) → is_letter c ≡ true → is_digit c ≡ false
 letter_no_digit c p =
@@ -151,15 +154,18 @@ letter_no_digit c p =
 pub starts_no_digit : (v rest : List ℕ) → IsName v → starts_digit (v ++ rest) ≡ false
 unfolding starts_digit
 starts_no_digit (c ∷ s) rest (is_name p ps) = letter_no_digit c p
+starts_no_digit [] rest x' = elim x' [ ]
 
 -- a byte below the digits is not what a word starts with
 pub number_not : (b : ℕ) (n rest : List ℕ) → suc b ≤ 48 → IsDigits n → starts b (n ++ rest) ≡ false
 unfolding starts
 number_not b (c ∷ s) rest l (is_digits p ps) = let k = digit_bounds c p in ne_eqb c b (λ e. omega (arith, k.0))
+number_not b [] rest l x'' = elim x'' [ ]
 
 pub name_not : (b : ℕ) (v rest : List ℕ) → suc b ≤ 48 → IsName v → starts b (v ++ rest) ≡ false
 unfolding starts
 name_not b (c ∷ s) rest l (is_name p ps) = let k = letter_bounds c p in ne_eqb c b (λ e. omega (arith, k.0))
+name_not b [] rest l x'' = elim x'' [ ]
 
 -- ---- lists
 

@@ -37,3 +37,4 @@ ten_most k h = omega (arith, ten_grows k 9 h)
 pub value_within : (k : ℕ) (c : Digits) → IsDigits c → length c ≤ k → value_of c < 10 ^ k
 unfolding value_of
 value_within k (c ∷ s) (is_digits p ps) l = omega (arith, value_below 0 (c ∷ s) (each_more p ps), ten_grows (length (c ∷ s)) k l)
+value_within k [] x'' l = elim x'' [ ]
