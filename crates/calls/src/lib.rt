@@ -1,4 +1,6 @@
 // The calls that C and Rust make: compile, check, map, run and bench. Whatever is lent gets one outcome, the book's.
+#![tactic(auto)]
+
 ghost use Rattle.rules_object.specs.Calls.{running, benching};
 ghost use Rattle.run_registers.specs.Devices.{trays_of};
 ghost use Rattle.run_lent.specs.Lending.{lent};

@@ -1,4 +1,6 @@
 // Rules 41 and 42 on an object's bytes. Tests are joined by `&`, so each is made whatever the others say; the bytes are there in any case.
+#![tactic(auto)]
+
 ghost use Rattle.std.specs.Prelude.{◌≡◌, List, ℕ, ◌+◌, ◌≤◌, ◌<◌, ltb, length, get_or, take, pos, nat_abs};
 ghost use Rattle.number.specs.Number as number;
 ghost use Rattle.number.specs.Code.{ruled};

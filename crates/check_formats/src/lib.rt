@@ -1,4 +1,6 @@
 // 42 of the entries of bodies 8 to 10: words of FORMATs, list items and transfers. Tests are joined by `&`, as in `check_entries`.
+#![tactic(auto)]
+
 ghost use Rattle.std.specs.Prelude.{◌≡◌, ◌+◌, ◌≤◌, ◌<◌, eqb, get_or, drop};
 ghost use Rattle.rules_shared.specs.Lists.{first_from};
 ghost use Rattle.rules_formats.specs.Punched.{right_number};

@@ -1,4 +1,6 @@
 // 44: a height for each instruction, filled in by a worklist over control flow. The object has passed 40, 41 and 43.
+#![tactic(auto)]
+
 ghost use Rattle.std.specs.Prelude.{◌≡◌, ◌+◌, ◌<◌, length};
 ghost use Rattle.rules_object.specs.Operations.{flow_of};
 ghost use Rattle.rules_object.specs.Heights.{heights, waiting};

@@ -1,4 +1,6 @@
 // A height that comes to an instruction: the first there, the same again, or another.
+#![tactic(auto)]
+
 ghost use Rattle.std.specs.Prelude.{◌+◌, ◌≤◌, ◌<◌, length};
 ghost use Rattle.rules_object.specs.Filling.{nevers};
 ghost use Rattle.check_meeting.specs.Meeting.{Meets};

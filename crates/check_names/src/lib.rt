@@ -1,4 +1,6 @@
 // 42 of the entries of body 7, and spans of cells, worked exactly. Tests are joined by `&`, as in `judge`.
+#![tactic(auto)]
+
 ghost use Rattle.std.specs.Prelude.{◌≡◌, ◌||◌, ◌+◌, ◌*◌, ◌^◌, ◌≤◌, ◌<◌, leb, length, get_or, drop};
 ghost use Rattle.rules_object.specs.Check.{right_named, right_name, is_letter, is_digit, blanks, span};
 ghost use Rattle.object_contents.specs.Layout.{Placed, object_at};

@@ -1,4 +1,6 @@
 // The whole check of an object: 40, 41, 42, 43 and 44, in this order.
+#![tactic(auto)]
+
 ghost use Rattle.std.specs.Prelude.{◌≡◌, true, List, ℕ, ◌<◌};
 ghost use Rattle.rules_object.specs.Check.{right41};
 ghost use Rattle.rules_object.specs.Operations.{flow_of};

@@ -1,4 +1,6 @@
 // Rule 43 on an object's bytes, rule 42 of the entry that an instruction uses, and what an operation pops and pushes.
+#![tactic(auto)]
+
 ghost use Rattle.std.specs.Prelude.{◌≡◌, true, ◌+◌, ◌^◌, ◌≤◌, ◌<◌, take, drop};
 ghost use Rattle.number.specs.Code.{ruled};
 ghost use Rattle.rules_object.specs.Object.{rule_of};

@@ -1,4 +1,6 @@
 // Where control goes after an instruction whose operand passed 43: how many successors it has, and each of them.
+#![tactic(auto)]
+
 ghost use Rattle.std.specs.Prelude.{◌≡◌, true, ℕ, ◌<◌, length, get_or};
 ghost use Rattle.rules_object.specs.Operations.{meant, no_loop, successors};
 ghost use Rattle.object_contents.specs.Layout.{Placed, object_at};

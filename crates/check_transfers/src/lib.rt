@@ -1,4 +1,6 @@
 // 42 of all that a READ or PRINT uses: its transfer, every word of its FORMAT, and every item of its list with the element's entry.
+#![tactic(auto)]
+
 ghost use Rattle.std.specs.Prelude.{◌≡◌, ◌+◌, ◌≤◌, ◌<◌, get_or, take, drop};
 ghost use Rattle.number.specs.Code.{ruled};
 ghost use Rattle.rules_shared.specs.Lists.{all};

@@ -1,4 +1,6 @@
 // An object judged, and its map written. Whatever is lent gets one outcome, the book's.
+#![tactic(auto)]
+
 ghost use Rattle.std.specs.Prelude.{◌≤◌};
 ghost use Rattle.rules_object.specs.Calls.{map_of};
 ghost use Rattle.object_contents.specs.Layout.{Placed, object_at};

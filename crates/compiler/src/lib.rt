@@ -1,5 +1,7 @@
 // A deck compiled: its cards, its statements one by one, the deck as a whole, and then its object, or the first of them that refuses.
 // All that it works with is on the stack.
+#![tactic(auto)]
+
 ghost use Rattle.std.specs.Prelude.{◌≡◌, List};
 ghost use Rattle.rules_shared.specs.House.{house1401};
 ghost use Rattle.rules_text.specs.Trees.{Statement};

@@ -1,4 +1,5 @@
 // The program of 01 "Worked examples": a control card and a deck on standard input; what they come to on standard output.
+#![tactic(auto)]
 
 // More than a control card and the greatest deck: of a longer input the rest is not needed, for its length is wrong already.
 fn main() {

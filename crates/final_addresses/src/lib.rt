@@ -1,4 +1,6 @@
 // The address of every statement: the words of code before it, a DOE among them for each DO that ends there.
+#![tactic(auto)]
+
 ghost use Rattle.std.specs.Prelude.{◌≡◌, List, ◌+◌, ◌*◌, ◌^◌, ◌<◌, length};
 ghost use Rattle.rules_shared.specs.House.{House};
 ghost use Rattle.rules_text.specs.Trees.{Statement};

@@ -1,4 +1,6 @@
 // An object's bodies as bytes, one after the other, each in its own part of the output.
+#![tactic(auto)]
+
 ghost use Rattle.std.specs.Prelude.{◌≡◌, [], ◌∷◌, ◌+◌, ◌*◌, ◌≤◌, length, take};
 ghost use Rattle.rules_object.specs.Bytes.{bytes_of, concat};
 ghost use Rattle.object_bodies.specs.Edition.{count, head};

@@ -1,4 +1,6 @@
 // Bodies 3 and 5 of the object: the exits, and the code with its addresses and DOEs.
+#![tactic(auto)]
+
 ghost use Rattle.std.specs.Prelude.{List, ◌+◌, ◌<◌, ◌≤◌, length};
 ghost use Rattle.rules_shared.specs.House.{House};
 ghost use Rattle.rules_text.specs.Trees.{Statement};

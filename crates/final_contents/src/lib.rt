@@ -1,4 +1,6 @@
 // An object's contents: what stands before its bodies.
+#![tactic(auto)]
+
 ghost use Rattle.std.specs.Prelude.{◌≡◌, ◌^◌, ◌<◌};
 ghost use Rattle.object_bodies.specs.Edition.{count};
 ghost use Rattle.final_body.specs.Bodies.{start_of};

@@ -1,4 +1,6 @@
 // The words of one entry of bodies 6 and 7: a statement's line, a name.
+#![tactic(auto)]
+
 ghost use Rattle.std.specs.Prelude.{◌≡◌, [], ◌∷◌, ◌+◌, ◌*◌, ◌/◌, ◌≤◌, length};
 ghost use Rattle.read_items.specs.Parsed.{Put};
 ghost use Rattle.final_entries.specs.Lines.{line_of};

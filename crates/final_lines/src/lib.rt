@@ -1,4 +1,6 @@
 // Bodies 4, 6 and 7 of the object: the DOs with their bodies' addresses, the statements, the names.
+#![tactic(auto)]
+
 ghost use Rattle.std.specs.Prelude.{◌≡◌, List, map, ◌+◌, ◌*◌, ◌/◌, ◌<◌, ◌≤◌, length, take};
 ghost use Rattle.rules_shared.specs.House.{House};
 ghost use Rattle.rules_object.specs.Bytes.{concat, loop_words, line_words, name_words};

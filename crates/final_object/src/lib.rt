@@ -1,4 +1,6 @@
 // The object of a deck that nothing refuses, from its draft: addresses, code, exits, DO bodies, lines and names, and then all its bytes.
+#![tactic(auto)]
+
 ghost use Rattle.std.specs.Prelude.{◌≡◌, List};
 ghost use Rattle.rules_object.specs.Bytes.{object_bytes};
 ghost use Rattle.rules_shared.specs.Refusals.{no_room};

@@ -1,4 +1,6 @@
 // The words that one statement of an accepted deck gets: its own code with its target's address, its DOEs, its exits.
+#![tactic(auto)]
+
 ghost use Rattle.std.specs.Prelude.{◌≡◌, map, ◌+◌, ◌<◌, ◌≤◌, length, take, drop};
 ghost use Rattle.read_items.specs.Parsed.{Put};
 ghost use Rattle.final_addresses.specs.Ends.{ends_at, Lasts};

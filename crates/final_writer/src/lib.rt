@@ -1,4 +1,6 @@
 // The object writer: the contents, then the bodies.
+#![tactic(auto)]
+
 ghost use Rattle.std.specs.Prelude.{◌≡◌, [], ◌∷◌, ◌^◌, ◌<◌};
 ghost use Rattle.rules_object.specs.Bytes.{bytes_of};
 ghost use Rattle.rules_shared.specs.Refusals.{no_room};

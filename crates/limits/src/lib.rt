@@ -1,4 +1,5 @@
 // 01's and 02's limits by name, for tables and comparisons in code. The book's are in `rules_shared`, in `Limits.antt` and `House.antt`.
+#![tactic(auto)]
 
 // ---- of a deck's text
 

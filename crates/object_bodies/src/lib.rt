@@ -1,4 +1,6 @@
 // The kinds of an object's bodies, once for those who read, judge and write: how many an edition has, the words of an entry, and how many entries at most.
+#![tactic(auto)]
+
 ghost use Rattle.std.specs.Prelude.{◌≡◌, ◌≤◌, ◌<◌, length, get_or};
 ghost use Rattle.rules_object.specs.Kinds.{kinds_of, contents_length};
 ghost use Rattle.object_bodies.specs.Edition.{most_kinds, sizes, mosts};

@@ -1,4 +1,6 @@
 // The contents of an object: where its bodies stand and how many entries each has.
+#![tactic(auto)]
+
 ghost use Rattle.std.specs.Prelude.{◌≡◌, ◌+◌, ◌*◌, ◌/◌, ◌%◌, ◌≤◌, ◌<◌, length};
 ghost use Rattle.rules_object.specs.Kinds.{contents_length};
 ghost use Rattle.object_bodies.specs.Edition.{most_kinds};

@@ -1,4 +1,6 @@
 // The operations of the machine by number, and the halts that an instruction may give.
+#![tactic(auto)]
+
 pub const HLT: u32 = 0;
 
 pub const CON: u32 = 1;

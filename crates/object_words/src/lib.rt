@@ -1,4 +1,6 @@
 // Words in bytes: u32, little-endian; the top eight bits of an instruction name the operation, the low twenty-four the operand.
+#![tactic(auto)]
+
 ghost use Rattle.std.specs.Prelude.{◌≡◌, ◌+◌, ◌*◌, ◌/◌, ◌%◌, ◌^◌, ◌≤◌, ◌<◌, ◌++◌, length, take, drop};
 ghost use Rattle.rules_object.specs.Bytes.{word_bytes};
 ghost use Rattle.object_words.specs.Word.{word_at};

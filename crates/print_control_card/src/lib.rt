@@ -1,4 +1,6 @@
 // The program's control card.
+#![tactic(auto)]
+
 ghost use Rattle.std.specs.Prelude.{◌≡◌, ◌≤◌, ◌<◌, length, take, drop};
 ghost use Rattle.rules_shared.specs.Lists.{all};
 ghost use Rattle.rules_program.specs.Program.{is_blank, first_column, control_digits};

@@ -1,4 +1,6 @@
 // The lines that the program prints, written into a lent output from a place on. Each function answers the place after what it wrote.
+#![tactic(auto)]
+
 ghost use Rattle.std.specs.Prelude.{◌≡◌, ◌+◌, ◌*◌, ◌≤◌, ◌<◌, length, take, drop};
 ghost use Rattle.rules_object.specs.Check.{span};
 ghost use Rattle.rules_object.specs.Machine.{cell};

@@ -1,4 +1,6 @@
 // Words, numerals, signed numbers and subscripts, written into a lent output from a place on. Each function answers the place after what it wrote.
+#![tactic(auto)]
+
 ghost use Rattle.std.specs.Prelude.{◌≡◌, ◌+◌, ◌%◌, ◌<◌};
 ghost use Rattle.rules_program.specs.Text.{numeral, signed, stated, subscripts};
 ghost use Rattle.print_numbers.specs.Puts.{Room, Puts};

@@ -1,4 +1,6 @@
 // An object run from the start, with a zero store, and its run printed.
+#![tactic(auto)]
+
 ghost use Rattle.std.specs.Prelude.{◌≡◌, ◌≤◌, length};
 ghost use Rattle.rules_object.specs.Bytes.{read_object};
 ghost use Rattle.rules_program.specs.Text.{name_lines};

@@ -1,4 +1,6 @@
 // The program: what it prints of an input, a control card and a deck.
+#![tactic(auto)]
+
 ghost use Rattle.std.specs.Prelude.{◌≡◌, ◌≤◌, length, replicate};
 ghost use Rattle.rules_program.specs.Program.{most_bytes, compiled_lines, printed};
 ghost use Rattle.rules_shared.specs.House.{house1401};

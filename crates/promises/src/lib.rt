@@ -1,1 +1,2 @@
 // No code: the promises, and their proofs.
+#![tactic(auto)]

@@ -1,4 +1,6 @@
 // A deck's cards, and what stands in a card's columns.
+#![tactic(auto)]
+
 ghost use Rattle.std.specs.Prelude.{◌≡◌, ◌/◌, ◌<◌, length};
 ghost use Rattle.rules_object.specs.Check.{blanks, character};
 ghost use Rattle.rules_text.specs.Cards.{columns_read, number_columns, comment, first_card, characters};

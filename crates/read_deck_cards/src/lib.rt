@@ -1,4 +1,6 @@
 // A deck's cards judged: refused by 1 to 5 or 7, or how many statements they hold.
+#![tactic(auto)]
+
 ghost use Rattle.std.specs.Prelude.{◌≡◌, ℕ, ◌<◌, ◌≤◌, length};
 ghost use Rattle.rules_shared.specs.House.{house1401};
 ghost use Rattle.rules_text.specs.Cards.{cards_of, nothing_read, wrong_first, wrong_continuation, wrong_card, card_by_card, carded};

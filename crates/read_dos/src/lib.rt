@@ -1,4 +1,6 @@
 // DOnv=m,m and DOnv=m,m,m, each m an expression that is a constant or a variable.
+#![tactic(auto)]
+
 ghost use Rattle.std.specs.Prelude.{◌≡◌, ◌*◌, ◌≤◌, length, drop};
 ghost use Rattle.rules_text.specs.Grammar.{parameter, read_do};
 ghost use Rattle.read_forms.specs.Statements.{answer};

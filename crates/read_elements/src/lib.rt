@@ -1,4 +1,6 @@
 // Subscripts, elements and targets, each read from a place of the text on.
+#![tactic(auto)]
+
 ghost use Rattle.std.specs.Prelude.{◌≡◌, ◌≤◌, length, drop};
 ghost use Rattle.rules_text.specs.Grammar.{addend, subscript, subscripts, place};
 ghost use Rattle.read_elements.specs.Values.{sign_number, no_subscript, ReadsAddend, ReadsSubscript, ReadsLinear, ReadsSubscripts, ReadsPlace};

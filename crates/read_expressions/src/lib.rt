@@ -1,4 +1,6 @@
 // Readers of expressions: three functions that call each other in a cycle, each on a part of the text, and write postfix items.
+#![tactic(auto)]
+
 ghost use Rattle.std.specs.Prelude.{◌+◌, ◌*◌, ◌<◌, ◌≤◌, length};
 ghost use Rattle.rules_text.specs.Grammar.{parse, Mode};
 ghost use Rattle.read_items.specs.Parsed.{Parsed};

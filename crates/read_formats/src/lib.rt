@@ -1,4 +1,6 @@
 // A FORMAT read from its columns and written out to words of body 8, in one pass.
+#![tactic(auto)]
+
 ghost use Rattle.std.specs.Prelude.{◌≡◌, true, ◌||◌, [], ◌∷◌, ◌+◌, ◌≤◌, ◌<◌, length, take, drop, get_or};
 ghost use Rattle.std.proofs.Math.Option.{some};
 ghost use Rattle.rules_formats.specs.Words.{most_words};

@@ -1,4 +1,6 @@
 // The statement forms: assignment, GO TO, IF, and those that are a word. The others are in the crates above.
+#![tactic(auto)]
+
 ghost use Rattle.std.specs.Prelude.{◌≡◌, ◌*◌, ◌≤◌, length, drop};
 ghost use Rattle.rules_text.specs.Tokens.{comma, after, number};
 ghost use Rattle.rules_text.specs.Grammar.{read_assignment, read_go_to, read_if};

@@ -1,4 +1,6 @@
 // Operands, read from the start of a text and written as items.
+#![tactic(auto)]
+
 ghost use Rattle.std.specs.Prelude.{[], ◌∷◌, ◌+◌, ◌*◌, ◌<◌, ◌≤◌, length};
 ghost use Rattle.rules_text.specs.Tokens as book;
 ghost use Rattle.rules_text.specs.Grammar as grammar;

@@ -1,4 +1,6 @@
 // Forms with a list: GOTO(n,..,n),v and DIMENSIONv(c),v(c,c)..
+#![tactic(auto)]
+
 ghost use Rattle.std.specs.Prelude.{[], ◌∷◌, ◌++◌, ◌+◌, ◌*◌, ◌≤◌, length, drop};
 ghost use Rattle.rules_text.specs.Tokens.{listed, number};
 ghost use Rattle.rules_text.specs.Grammar.{array_shape, read_computed, read_dimension};

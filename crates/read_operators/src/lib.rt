@@ -1,4 +1,6 @@
 // The signs of an expression: a leading one, and operations between terms and between factors.
+#![tactic(auto)]
+
 ghost use Rattle.std.specs.Prelude.{◌≡◌, true, ◌+◌, ◌*◌, ◌<◌, length};
 ghost use Rattle.rules_text.specs.Grammar.{sum_op, product_op};
 ghost use Rattle.read_operators.specs.Signs.{Signed, op_number, sign_len};

@@ -1,4 +1,6 @@
 // The reader of a statement's text. No text is of two forms, so the order in which they are tried does not matter.
+#![tactic(auto)]
+
 ghost use Rattle.std.specs.Prelude.{◌≡◌, ◌*◌, ◌≤◌, length};
 ghost use Rattle.rules_text.specs.Grammar.{form_of};
 ghost use Rattle.read_forms.specs.Statements.{Reads};

@@ -1,5 +1,7 @@
 // A deck's statements, taken one after the other: number, what is punched, its text, and where the next one starts.
 // Columns 7-72 of a first card and nine continuations are 660 bytes.
+#![tactic(auto)]
+
 ghost use Rattle.std.specs.Prelude.{◌≡◌, ◌+◌, ◌≤◌, length, drop};
 ghost use Rattle.rules_text.specs.Cards.{cards_of, text_columns, read_as, following};
 ghost use Rattle.read_texts.specs.Taking.{Accepted, over, begins, skipped, added, punched_raw, punched_text, Follows, Takes, Written};

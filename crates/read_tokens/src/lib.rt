@@ -1,4 +1,6 @@
 // Tokens of a statement's text: bytes, runs, values and names, each read from a place of the text on; and what the limits are tested on.
+#![tactic(auto)]
+
 ghost use Rattle.std.specs.Prelude.{◌≡◌, [], ◌+◌, ◌-◌, ◌≤◌, ◌<◌, max, min, ◌&&◌, cond, not, eqb, leb, length, take, drop, get_or};
 ghost use Rattle.rules_object.specs.Check.{is_letter, is_digit};
 ghost use Rattle.rules_text.specs.Tokens.{is_letter_or_digit, run, digit_run, name_run, number, name};

@@ -1,4 +1,6 @@
 // The operations on the upper numbers of the stack. A place that is left free is made 0.
+#![tactic(auto)]
+
 ghost use Rattle.std.specs.Prelude.{◌≡◌, List, ◌+◌, ◌-◌, ◌^◌, ◌≤◌, ◌<◌, length, set, ℤ, nat_abs};
 ghost use Rattle.number.specs.Number.{add, sub, mul, div};
 ghost use Rattle.number.specs.Code.{ruled, result_of, Sized, Both};

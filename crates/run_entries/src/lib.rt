@@ -1,4 +1,6 @@
 // The operations that have an entry: exits, DOs and elements. Nothing is tested here that the check of an object has settled.
+#![tactic(auto)]
+
 ghost use Rattle.std.specs.Prelude.{◌≡◌, List, ◌+◌, ◌-◌, ◌*◌, ◌≤◌, ◌<◌, length, set, ℤ};
 ghost use Rattle.rules_shared.specs.Choose.{all_positive, positive};
 ghost use Rattle.rules_object.specs.Machine.{cell, place_of};

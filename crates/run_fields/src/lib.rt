@@ -1,4 +1,6 @@
 // One number in its columns: read from a card, printed into a line.
+#![tactic(auto)]
+
 ghost use Rattle.std.specs.Prelude.{◌≡◌, ◌++◌, ◌+◌, ◌-◌, ◌%◌, ◌≤◌, ◌<◌, ◌^◌, length, take, drop, replicate};
 ghost use Rattle.rules_formats.specs.Fields.{is_blank, is_digit, is_minus, zeros, digits, magnitude, number, field_read, blank, numeral, printed};
 ghost use Rattle.run_fields.specs.Read.{capped, positive, negative, read_of, First};

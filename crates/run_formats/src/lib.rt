@@ -1,4 +1,6 @@
 // A FORMAT's words, one after the other. Nothing is tested here that the check of an object has settled.
+#![tactic(auto)]
+
 ghost use Rattle.object_contents.specs.Layout.{object_at, Placed};
 ghost use Rattle.run_formats.specs.Scan.{Scanning, Says};
 

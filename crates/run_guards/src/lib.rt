@@ -1,4 +1,6 @@
 // The tests of a bench run, before each instruction: 8 where it is not right, 7 where the stack has too few numbers or too little room, else 0.
+#![tactic(auto)]
+
 ghost use Rattle.std.specs.Prelude.{◌≡◌, false, ◌+◌, ◌≤◌, ◌<◌};
 ghost use Rattle.number.specs.Code.{ruled};
 ghost use Rattle.rules_object.specs.Object.{rule_of};

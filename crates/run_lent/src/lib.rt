@@ -1,4 +1,6 @@
 // What is lent: 50 to 52, places made 0, the state that goes back, and bytes that are written.
+#![tactic(auto)]
+
 ghost use Rattle.std.specs.Prelude.{◌≡◌, List, ◌++◌, ℕ, ◌+◌, ◌≤◌, length, take, drop, ℤ};
 ghost use Rattle.number.specs.Number.{fits};
 ghost use Rattle.number.specs.Code.{ruled};

@@ -1,4 +1,6 @@
 // The list of a READ or PRINT, one number after the other. Nothing is tested here that the check of an object has settled.
+#![tactic(auto)]
+
 ghost use Rattle.std.specs.Prelude.{◌≡◌, true, ◌<◌};
 ghost use Rattle.rules_object.specs.Object.{Object};
 ghost use Rattle.rules_object.specs.Operations.{transfer_right};

@@ -1,4 +1,6 @@
 // The run of an object: a step, and the loops of a run and a bench run.
+#![tactic(auto)]
+
 ghost use Rattle.std.specs.Prelude.{◌≡◌, false, ◌≤◌, ◌<◌, length};
 ghost use Rattle.rules_formats.specs.Walk.{devices_of};
 ghost use Rattle.rules_object.specs.Object.{rule_of};

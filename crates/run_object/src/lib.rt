@@ -1,4 +1,6 @@
 // An object run from the state that is lent, or on the bench. Whatever is lent gets one outcome, the book's.
+#![tactic(auto)]
+
 ghost use Rattle.std.specs.Prelude.{◌≡◌, List, ℕ, ◌≤◌, take, ℤ};
 ghost use Rattle.std.proofs.Math.Option.{some};
 ghost use Rattle.rules_object.specs.Calls.{run_checked, running, bench_object, benching};

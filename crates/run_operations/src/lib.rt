@@ -1,5 +1,7 @@
 // The machine's operations, each with what its operand stands for. Nothing is tested here that the check of an object has settled.
 // READ and PRINT are left to the caller, which has the cards and the paper.
+#![tactic(auto)]
+
 ghost use Rattle.std.specs.Prelude.{◌≡◌, ◌+◌, ◌-◌, ◌*◌, ◌^◌, ◌<◌};
 ghost use Rattle.rules_object.specs.Object.{rule_of};
 ghost use Rattle.rules_object.specs.Operations.{meant};

@@ -1,4 +1,6 @@
 // PRINT: every line is tried before any is written, so that trouble leaves the paper as it was.
+#![tactic(auto)]
+
 ghost use Rattle.std.specs.Prelude.{◌≡◌, true, ◌-◌, ◌≤◌, ◌<◌, length, take};
 ghost use Rattle.rules_formats.specs.Format.{I};
 ghost use Rattle.rules_formats.specs.Walk.{room_of};

@@ -1,4 +1,6 @@
 // READ: the cells are kept before any is read, so that trouble leaves the store as it was.
+#![tactic(auto)]
+
 ghost use Rattle.std.specs.Prelude.{◌≡◌, true, ◌++◌, ◌≤◌, ◌<◌, length, take, drop};
 ghost use Rattle.rules_formats.specs.Format.{I};
 ghost use Rattle.rules_formats.specs.Walk.{cards_of};

@@ -1,4 +1,6 @@
 // The registers of the machine, and the only functions that make them.
+#![tactic(auto)]
+
 ghost use Rattle.std.specs.Prelude.{◌≡◌, ◌<◌};
 ghost use Rattle.number.specs.Code.{loss_of};
 ghost use Rattle.rules_shared.specs.Choose.{marked};

@@ -1,4 +1,6 @@
 // Numbers above 0, and the cell of an element: its subscripts worked out exactly, each from 1 to its dimension. Nothing is tested here that the check of an object has settled.
+#![tactic(auto)]
+
 ghost use Rattle.std.specs.Prelude.{◌≡◌};
 ghost use Rattle.rules_object.specs.Bytes.{signed_of};
 ghost use Rattle.rules_shared.specs.Choose.{in_dimension, right, positive, all_positive};

@@ -1,4 +1,6 @@
 // A READ or a PRINT, with the cards and the paper.
+#![tactic(auto)]
+
 ghost use Rattle.object_contents.specs.Layout.{object_at};
 ghost use Rattle.run_registers.specs.Devices.{trays_of, Counted};
 ghost use Rattle.run_transfers.specs.Transfers.{Ready, Transfers};

@@ -1,4 +1,6 @@
 // A DIMENSION's arrays, seven words each: dimensions, name, rows and columns. 15, and the cells that they take.
+#![tactic(auto)]
+
 ghost use Rattle.std.specs.Prelude.{◌≡◌, ◌+◌, ◌*◌, ◌≤◌, length};
 ghost use Rattle.rules_deck.specs.Deck as book;
 ghost use Rattle.take_arrays.specs.One.{EndsInF, is_named, some_words, IsNew, RightArray, TakesArray};

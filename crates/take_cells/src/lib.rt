@@ -1,4 +1,6 @@
 // A form's operands against the table of names: those that stand first, then the items. And a DO's hidden cells.
+#![tactic(auto)]
+
 ghost use Rattle.std.specs.Prelude.{◌*◌, ◌≤◌, ◌≡◌, length};
 ghost use Rattle.take_draft.specs.Parts.{Worded};
 ghost use Rattle.take_cells.specs.Operands.{RightBoth, TakesBoth, Hides};

@@ -1,4 +1,6 @@
 // A deck's statements, one after the other, kept as a draft in the tables that are lent, or the first that is refused.
+#![tactic(auto)]
+
 ghost use Rattle.std.specs.Prelude.{◌≡◌, List};
 ghost use Rattle.rules_shared.specs.House.{house1401};
 ghost use Rattle.rules_text.specs.Cards.{Punched, statements, carded};

@@ -1,4 +1,6 @@
 // What compiling has kept of the statements so far, counted. The tables themselves are lent: see specs/Kept.antt.
+#![tactic(auto)]
+
 ghost use Rattle.std.specs.Prelude.{◌≡◌, ◌≤◌};
 ghost use Rattle.take_draft.specs.Counts.{with_names, with_do, with_marks};
 

@@ -1,4 +1,6 @@
 // Entries of a draft's tables: pooled constants, and elements of nine words.
+#![tactic(auto)]
+
 ghost use Rattle.std.specs.Prelude.{◌≡◌, [], ◌∷◌, ◌+◌, ◌*◌, ◌%◌, ◌^◌, ◌≤◌, length, take};
 ghost use Rattle.rules_deck.specs.Deck as deck;
 ghost use Rattle.rules_deck.specs.Translation.{pool_at};

@@ -1,4 +1,6 @@
 // Instructions put at the end of a draft's code: any one, and those that end a form and have no operand.
+#![tactic(auto)]
+
 ghost use Rattle.std.specs.Prelude.{◌≡◌, ◌<◌, length};
 ghost use Rattle.take_draft.specs.Kept.{Fit};
 ghost use Rattle.take_instructions.specs.Emits.{Grows, Appends};

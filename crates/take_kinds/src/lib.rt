@@ -1,4 +1,6 @@
 // The kinds of statements, as a plan and a row have them.
+#![tactic(auto)]
+
 pub const ASSIGNMENT: u64 = 0;
 
 pub const GO_TO: u64 = 1;

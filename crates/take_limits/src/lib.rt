@@ -1,4 +1,6 @@
 // 11 to 14: tests of what the reader gives back.
+#![tactic(auto)]
+
 ghost use Rattle.std.specs.Prelude.{◌≡◌, ◌&&◌, ◌≤◌, length, take};
 ghost use Rattle.rules_shared.specs.Lists.{all};
 ghost use Rattle.take_limits.specs.Tests.{right_number, of_number, of_sizes, of_statement, exits_in};

@@ -1,4 +1,6 @@
 // What the whole deck is judged by, of one statement: its row, the numbers that it jumps to, and a DO's entries.
+#![tactic(auto)]
+
 ghost use Rattle.std.specs.Prelude.{◌≡◌, [], ◌∷◌, ◌+◌, ◌*◌, ◌≤◌, ◌<◌, length, take};
 ghost use Rattle.rules_shared.specs.Lists.{Each};
 ghost use Rattle.read_items.specs.Parsed.{Put};

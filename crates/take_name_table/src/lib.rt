@@ -1,4 +1,6 @@
 // The table of names, seven words an entry: a name's four, its first cell, rows and columns. Lookups, and an entry written.
+#![tactic(auto)]
+
 ghost use Rattle.std.specs.Prelude.{◌≡◌, [], ◌∷◌, ◌++◌, ◌+◌, ◌*◌, ◌≤◌, length, drop};
 ghost use Rattle.read_tokens.specs.Words.{name_words};
 ghost use Rattle.read_items.specs.Parsed.{Put};

@@ -1,4 +1,6 @@
 // The plain names of a statement's operands take cells, each where it first appears.
+#![tactic(auto)]
+
 ghost use Rattle.std.specs.Prelude.{◌≡◌, ◌≤◌, ◌<◌, length};
 ghost use Rattle.take_draft.specs.Parts.{Worded};
 ghost use Rattle.take_names.specs.Takes.{TakesName, TakesAny, TakesItem, Appears};

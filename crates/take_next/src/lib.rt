@@ -1,4 +1,6 @@
 // A deck's next statement: taken from the cards, read, judged by 6 and 10 to 18, and kept in the tables that are lent.
+#![tactic(auto)]
+
 ghost use Rattle.take_draft.specs.Kept.{as_words};
 ghost use Rattle.take_next.specs.Steps.{Ahead, Continues};
 

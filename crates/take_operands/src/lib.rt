@@ -1,4 +1,6 @@
 // The instructions of operands, put at the end of a draft's code: those of an expression's items, and of a target.
+#![tactic(auto)]
+
 ghost use Rattle.std.specs.Prelude.{◌≡◌, ◌+◌, ◌<◌, ◌≤◌, length};
 ghost use Rattle.take_draft.specs.Parts.{Worded};
 ghost use Rattle.take_draft.specs.Kept.{Fit};

@@ -1,4 +1,6 @@
 // The parts of taking a statement: cells and code, a DO's entries, the row and the jumps.
+#![tactic(auto)]
+
 ghost use Rattle.std.specs.Prelude.{◌+◌, ◌*◌, ◌≤◌, length};
 ghost use Rattle.take_draft.specs.Kept.{Fit};
 ghost use Rattle.take_instructions.specs.Emitting.{Lent};

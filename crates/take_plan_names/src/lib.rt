@@ -1,4 +1,6 @@
 // A form's plan against the table of names: 15, 16, and the cells that it takes.
+#![tactic(auto)]
+
 ghost use Rattle.std.specs.Prelude.{◌*◌, ◌≤◌, ◌≡◌, length};
 ghost use Rattle.take_plans.specs.Plans.{Readied};
 ghost use Rattle.take_plan_names.specs.Naming.{RightArrays, RightOperands, TakesCells};

@@ -1,4 +1,6 @@
 // A planned statement: refused by 15, 16 or 18, or taken into the draft.
+#![tactic(auto)]
+
 ghost use Rattle.take_draft.specs.Draft.{Draft};
 ghost use Rattle.take_draft.specs.Kept.{as_words, Kept};
 ghost use Rattle.take_planned.specs.Planned.{Planning, ComesPlanned};

@@ -1,4 +1,6 @@
 // What a statement asks of the draft, in one shape for all forms.
+#![tactic(auto)]
+
 ghost use Rattle.std.specs.Prelude.{◌≡◌, ◌+◌, ◌≤◌, length};
 ghost use Rattle.read_items.specs.Parsed.{Put};
 ghost use Rattle.take_draft.specs.Parts.{parameter_words};

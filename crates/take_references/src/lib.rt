@@ -1,4 +1,6 @@
 // 16: references of a statement's operands, by the table of names.
+#![tactic(auto)]
+
 ghost use Rattle.std.specs.Prelude.{◌≡◌, ◌*◌, ◌≤◌, ◌<◌, length};
 ghost use Rattle.take_draft.specs.Parts.{Worded};
 ghost use Rattle.take_references.specs.Rights.{right_words, RightPlace, RightItem, References};

@@ -1,4 +1,6 @@
 // One statement that was read: refused by 11 to 18, the lowest number first, or taken into the draft.
+#![tactic(auto)]
+
 ghost use Rattle.take_draft.specs.Draft.{Draft};
 ghost use Rattle.take_draft.specs.Kept.{as_words, Kept};
 ghost use Rattle.take_statement.specs.Taking.{Ready, Comes};

@@ -1,4 +1,6 @@
 // A deck as a whole, 20 to 25, judged on what was kept of its statements.
+#![tactic(auto)]
+
 ghost use Rattle.std.specs.Prelude.{◌≡◌, List, ◌≤◌, length};
 ghost use Rattle.rules_shared.specs.Refusals.{or_else};
 ghost use Rattle.rules_text.specs.Trees.{Statement};

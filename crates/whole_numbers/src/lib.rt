@@ -1,4 +1,6 @@
 // 20 to 22 on what was kept of a deck's statements; the numbers that are jumped to become places.
+#![tactic(auto)]
+
 ghost use Rattle.std.specs.Prelude.{◌≡◌, suc, ◌*◌, ◌≤◌, ◌<◌, length};
 ghost use Rattle.whole_tables.specs.Rows.{start_of};
 ghost use Rattle.whole_numbers.specs.Numbers.{first_from, found_of, place_of, end_right, last_ends, misplaced_end, own_right, number_right, past, Resolves};

@@ -1,4 +1,6 @@
 // 23 to 25 for one DO and its range, by sequence numbers.
+#![tactic(auto)]
+
 ghost use Rattle.std.specs.Prelude.{◌≡◌, ◌*◌, ◌≤◌, ◌<◌, length};
 ghost use Rattle.whole_range.specs.Range.{covering, may_end_kind, uncrossed, outside, leaves};
 

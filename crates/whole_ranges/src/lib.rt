@@ -1,4 +1,6 @@
 // 23 to 25 on what was kept of a deck's statements, by places.
+#![tactic(auto)]
+
 ghost use Rattle.std.specs.Prelude.{◌≡◌, cond, suc, ◌+◌, ◌*◌, ◌≤◌, ◌<◌, length};
 ghost use Rattle.whole_numbers.specs.Numbers.{all_from, count_from, first_from, found_of};
 ghost use Rattle.whole_ranges.specs.Ranges.{do_at, Ranged, covers, apart, do_right, exits_at, stays_out, jumps_right, set_right};

@@ -1,4 +1,6 @@
 // A deck's statement numbers and sequence numbers in tables of their own types, by value, made from the words that drafting keeps.
+#![tactic(auto)]
+
 ghost use Rattle.std.specs.Prelude.{◌≡◌, suc, ◌+◌, ◌*◌, ◌^◌, ◌≤◌, ◌<◌, length};
 ghost use Rattle.whole_tables.specs.Rows.{number_at, kind_at, set_at, jumps_at, sets_at};
 ghost use Rattle.whole_tables.specs.Tables.{RowsFit, NumbersOf, Wanted, LoopsFit, LoopsOf};
