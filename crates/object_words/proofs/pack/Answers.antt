@@ -4,13 +4,9 @@ use Prim.Native.Nat.{ℕ, ◌*◌, ◌<◌}
 use native.Mathlib.Nat.{mod-eq_of_lt}
 use native.Mathlib.Omega.{arith}
 use lib.Bits.{bit_or, or_shifted}
-use Rattle.object_words.proofs.pack.Statement.{statement}
-use Rattle.object_words.proofs.pack.Tie as tie
+use Rattle.object_words.proofs.pack.Goals as goal
 
-returns : tie.Need-returns
+pub returns : goal.returns
 returns c =
     let small : c.args.op * 16777216 < 4294967296 = omega arith in
     ap (λ (x : ℕ). bit_or x c.args.operand) (mod-eq_of_lt small) ∙ or_shifted c.args.op 24 c.args.operand c.requires.1
-
-pub pack-spec : {M : Type 1} → statement M
-pack-spec = tie.close (tie.spec returns)
