@@ -223,6 +223,7 @@ among_in (s ∷ deck) v a = by (among_append (form_names s.form) (names_in deck)
     by : Among v (form_names s.form) ⊎ Among v (names_in deck) → (Among v (names_in deck) → InDeck deck v) → InDeck (s ∷ deck) v
     by (inl b) f = record { position = 0; statement = s; at = refl; among = b }
     by (inr b) f = let i = f b in record { position = suc i.position; statement = i.statement; at = i.at; among = i.among }
+among_in [] v a = elim a [ ]
 
 in_among : (deck : List Statement) (v : Name) → InDeck deck v → Among v (names_in deck)
 in_among deck v i = by deck i.position i.at

@@ -24,7 +24,7 @@ use Rattle.rules_shared.specs.Refusals.{refusal, accepted, Refusal}
 use Rattle.rules_shared.specs.Output.{not_written}
 use Rattle.rules_object.specs.Calls.{checking, Lent, taken, Ran, not_run, running, benching, mapping}
 use Rattle.rules_object.specs.Safe.{Right, NoFaultHalt, ran_with_cells, fresh_lent, rest, after_run, In}
-use Rattle.rules_object.specs.Small.{word_hLT, word_cON, word_aDD, word_jMP, object, code_only}
+use Rattle.rules_object.specs.Small.{word_hlt, word_con, word_add, word_jmp, object, code_only}
 use Rattle.rules_shared.specs.Lists.{Each}
 use Rattle.rules_object.specs.Promised.{Judged, right_store, Runnable, TouchesOnly, StepsOf}
 use Rattle.rules_text.specs.Trees.{Name, Statement, Form}
@@ -316,10 +316,10 @@ TenExactly = (house : House) (deck output : List ℕ) (q : ℕ) → ((compiling 
 -- P1 to P8 as decks through the meaning and through compiling and running, P9 to P12 as objects' bytes through the check
 pub record Table : Type 0 where
   pub decks : DecksRight decks
-  pub p9 : checking (object_bytes (code_only (word_aDD 0 ∷ word_hLT 0 ∷ []))) ≡ refusal 44 0 0
-  pub p10 : checking (object_bytes (code_only (word_hLT 0 ∷ word_aDD 0 ∷ []))) ≡ accepted
-  pub p11 : checking (object_bytes (object 0 (1 ∷ []) [] [] [] (word_cON 0 ∷ word_jMP 0 ∷ []))) ≡ refusal 44 0 0
-  pub p12 : checking (object_bytes (code_only (word_jMP 0 ∷ []))) ≡ accepted
+  pub p9 : checking (object_bytes (code_only (word_add 0 ∷ word_hlt 0 ∷ []))) ≡ refusal 44 0 0
+  pub p10 : checking (object_bytes (code_only (word_hlt 0 ∷ word_add 0 ∷ []))) ≡ accepted
+  pub p11 : checking (object_bytes (object 0 (1 ∷ []) [] [] [] (word_con 0 ∷ word_jmp 0 ∷ []))) ≡ refusal 44 0 0
+  pub p12 : checking (object_bytes (code_only (word_jmp 0 ∷ []))) ≡ accepted
 
 -- ---- 12. The program
 

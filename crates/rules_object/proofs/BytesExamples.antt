@@ -6,7 +6,7 @@ use mathlib.Core.List.{List, [], ◌∷◌, ◌++◌}
 use mathlib.Core.Option.{none, some}
 use lib.ListN.{length, take, drop, set}
 use Rattle.rules_object.specs.Object.{Object}
-use Rattle.rules_object.specs.Small.{word_hLT, word_rEAD, object, code_only, line, with_lines, with_transfers}
+use Rattle.rules_object.specs.Small.{word_hlt, word_read, object, code_only, line, with_lines, with_transfers}
 use Rattle.rules_object.specs.Bytes.{bytes_of, words_of, object_words, object_bytes, read_object}
 use Rattle.rules_object.specs.Writable.{IsByte, Writable}
 use Rattle.rules_shared.specs.Lists.{Each}
@@ -92,7 +92,7 @@ halt_bytes =
     0 ∷ 0 ∷ 0 ∷ 0 ∷ []
 
 abbrev pub halting : Object
-halting = code_only (word_hLT 0 ∷ [])
+halting = code_only (word_hlt 0 ∷ [])
 
 -- with word i changed to w
 abbrev changed : ℕ → ℕ → List ℕ
@@ -166,7 +166,7 @@ two_words =
 abbrev two : Object
 two =
     with_transfers (16777221 ∷ 83886080 ∷ []) (record { first = 0; count = 1 } ∷ []) (record { format = 0; first = 0; count = 1 } ∷ [])
-    (object 1 [] [] [] [] (word_rEAD 0 ∷ word_hLT 0 ∷ []))
+    (object 1 [] [] [] [] (word_read 0 ∷ word_hlt 0 ∷ []))
 
 pub two_read : read_object (bytes_of two_words) ≡ some two
 unfolding read_object

@@ -14,14 +14,14 @@ use Rattle.rules_object.specs.Heights.{heights}
 use Rattle.rules_shared.specs.Refusals.{Refusal, refusal, accepted}
 use Rattle.rules_shared.specs.Output.{Written, write}
 use Rattle.rules_object.specs.Calls.{refused42, refused43, checked, checking, map_of, mapping}
-use Rattle.rules_object.specs.Small.{word_hLT, word_cON, word_lOD, word_sTO, word_lDE, word_sTE, word_aDD, word_sUB, word_mUL, word_dIV, word_nEG, word_jMP, word_bR3, word_bRC, word_dOI, word_dOE, object, code_only, element, loop, line, named, with_lines, with_names}
+use Rattle.rules_object.specs.Small.{word_hlt, word_con, word_lod, word_sto, word_lde, word_ste, word_add, word_sub, word_mul, word_div, word_neg, word_jmp, word_br3, word_brc, word_doi, word_doe, object, code_only, element, loop, line, named, with_lines, with_names}
 use Rattle.rules_object.proofs.ObjectExamples.{Agree}
 
 abbrev judges : Object → Refusal
 judges o = checking (object_bytes o)
 
 abbrev stop : List ℕ
-stop = word_hLT 0 ∷ []
+stop = word_hlt 0 ∷ []
 
 -- one cell, and an element, a DO, a line and a name of it
 abbrev constants : ℕ → Object
@@ -37,7 +37,7 @@ abbrev dos : ℕ → Object
 dos n = object 1 [] [] [] (replicate n (loop 0 0 0 0)) stop
 
 abbrev codes : ℕ → Object
-codes n = code_only (replicate n (word_hLT 0))
+codes n = code_only (replicate n (word_hlt 0))
 
 abbrev lines : ℕ → Object
 lines n = with_lines (replicate n (line 1 0 0)) (code_only stop)
@@ -68,39 +68,39 @@ limits_41 = refl
 
 -- one of everything, and the word second, where it is never reached
 abbrev second : ℕ → Refusal
-second word = judges (object 1 (7 ∷ []) (element 0 1 1 0 0 (pos 1) 0 0 (pos 1) ∷ []) (2 ∷ 0 ∷ 1 ∷ []) (loop 0 0 0 1 ∷ []) (word_hLT 0 ∷ word ∷ []))
+second word = judges (object 1 (7 ∷ []) (element 0 1 1 0 0 (pos 1) 0 0 (pos 1) ∷ []) (2 ∷ 0 ∷ 1 ∷ []) (loop 0 0 0 1 ∷ []) (word_hlt 0 ∷ word ∷ []))
 
 operands_43 : Agree
-    ((second (word_hLT 1), accepted)
-    ∷ (second (word_hLT 2), refusal 43 1 5)
-    ∷ (second (word_cON 0), accepted)
-    ∷ (second (word_cON 1), refusal 43 1 5)
-    ∷ (second (word_lOD 0), accepted)
-    ∷ (second (word_lOD 1), refusal 43 1 5)
-    ∷ (second (word_sTO 0), accepted)
-    ∷ (second (word_sTO 1), refusal 43 1 5)
-    ∷ (second (word_lDE 0), accepted)
-    ∷ (second (word_lDE 1), refusal 43 1 5)
-    ∷ (second (word_sTE 0), accepted)
-    ∷ (second (word_sTE 1), refusal 43 1 5)
-    ∷ (second (word_aDD 0), accepted)
-    ∷ (second (word_aDD 1), refusal 43 1 5)
-    ∷ (second (word_sUB 0), accepted)
-    ∷ (second (word_sUB 1), refusal 43 1 5)
-    ∷ (second (word_mUL 0), accepted)
-    ∷ (second (word_mUL 1), refusal 43 1 5)
-    ∷ (second (word_dIV 0), accepted)
-    ∷ (second (word_dIV 1), refusal 43 1 5)
-    ∷ (second (word_nEG 0), accepted)
-    ∷ (second (word_nEG 1), refusal 43 1 5)
-    ∷ (second (word_jMP 1), accepted)
-    ∷ (second (word_jMP 2), refusal 43 1 5)
-    ∷ (second (word_bR3 0), refusal 43 1 5)
-    ∷ (second (word_bRC 0), accepted)
-    ∷ (second (word_dOI 0), accepted)
-    ∷ (second (word_dOI 1), refusal 43 1 5)
-    ∷ (second (word_dOE 0), accepted)
-    ∷ (second (word_dOE 1), refusal 43 1 5)
+    ((second (word_hlt 1), accepted)
+    ∷ (second (word_hlt 2), refusal 43 1 5)
+    ∷ (second (word_con 0), accepted)
+    ∷ (second (word_con 1), refusal 43 1 5)
+    ∷ (second (word_lod 0), accepted)
+    ∷ (second (word_lod 1), refusal 43 1 5)
+    ∷ (second (word_sto 0), accepted)
+    ∷ (second (word_sto 1), refusal 43 1 5)
+    ∷ (second (word_lde 0), accepted)
+    ∷ (second (word_lde 1), refusal 43 1 5)
+    ∷ (second (word_ste 0), accepted)
+    ∷ (second (word_ste 1), refusal 43 1 5)
+    ∷ (second (word_add 0), accepted)
+    ∷ (second (word_add 1), refusal 43 1 5)
+    ∷ (second (word_sub 0), accepted)
+    ∷ (second (word_sub 1), refusal 43 1 5)
+    ∷ (second (word_mul 0), accepted)
+    ∷ (second (word_mul 1), refusal 43 1 5)
+    ∷ (second (word_div 0), accepted)
+    ∷ (second (word_div 1), refusal 43 1 5)
+    ∷ (second (word_neg 0), accepted)
+    ∷ (second (word_neg 1), refusal 43 1 5)
+    ∷ (second (word_jmp 1), accepted)
+    ∷ (second (word_jmp 2), refusal 43 1 5)
+    ∷ (second (word_br3 0), refusal 43 1 5)
+    ∷ (second (word_brc 0), accepted)
+    ∷ (second (word_doi 0), accepted)
+    ∷ (second (word_doi 1), refusal 43 1 5)
+    ∷ (second (word_doe 0), accepted)
+    ∷ (second (word_doe 1), refusal 43 1 5)
     ∷ [])
 unfolding checking checked object_bytes object_words signed_word read_object signed_of right41 refused42 refused43 right_constant right_element right_loop right_line right_named right43 flow_of heights decode operation_of operand_of fits digits_rule
 operands_43 = refl
@@ -123,7 +123,7 @@ maps : Agree
     ∷ (mapping (object_bytes two) (replicate 45 9), answered accepted 40 (entries ++ replicate 5 9))
     ∷ (mapping (object_bytes two) (replicate 39 9), answered (refusal 30 0 0) 0 (replicate 39 9))
     ∷ (mapping (object_bytes (code_only stop)) [], answered accepted 0 [])
-    ∷ (mapping (object_bytes (code_only (word_jMP 1 ∷ []))) (replicate 3 9), answered (refusal 43 0 5) 0 (replicate 3 9))
+    ∷ (mapping (object_bytes (code_only (word_jmp 1 ∷ []))) (replicate 3 9), answered (refusal 43 0 5) 0 (replicate 3 9))
     ∷ [])
 unfolding mapping write map_of checked object_bytes object_words signed_word read_object signed_of right41 refused42 refused43 right_constant right_element right_loop right_line right_named right43 flow_of heights decode operation_of operand_of fits digits_rule
 maps = refl

@@ -13,7 +13,7 @@ use Rattle.rules_formats.specs.Words.{field_word, end_word, is_end}
 use Rattle.rules_object.specs.Object.{ListItem, Transfer, Object}
 use Rattle.rules_object.specs.Check.{right41, right_constant, right_element, right_loop, right_line, right_named, character, right_field, right_format, right_item, right_transfer}
 use Rattle.rules_object.specs.Operations.{operation_of, operand_of, decode, right43, flow_of}
-use Rattle.rules_object.specs.Small.{does, word_hLT, word_rEAD, word_pRINT, object, code_only, element, line, named, with_lines, with_names, with_transfers}
+use Rattle.rules_object.specs.Small.{does, word_hlt, word_read, word_print, object, code_only, element, line, named, with_lines, with_names, with_transfers}
 use Rattle.rules_object.specs.Bytes.{signed_of, signed_word, object_words, object_bytes, read_object}
 use Rattle.rules_object.specs.Heights.{heights}
 use Rattle.rules_object.specs.Calls.{refused42, refused43, checked, checking}
@@ -30,7 +30,7 @@ transfer format first count = record { format = format; first = first; count = c
 
 -- one cell, one element of it, and HLT 0
 abbrev stops : Object
-stops = object 1 [] (element 0 1 1 0 0 (pos 1) 0 0 (pos 1) ∷ []) [] [] (word_hLT 0 ∷ [])
+stops = object 1 [] (element 0 1 1 0 0 (pos 1) 0 0 (pos 1) ∷ []) [] [] (word_hlt 0 ∷ [])
 
 -- with these words of FORMATs, and no transfer
 abbrev formats : List ℕ → Refusal
@@ -39,11 +39,11 @@ formats words = judges (with_transfers words [] [] stops)
 -- ---- 1.2: in edition 1, operations 16 and 17 are unknown
 
 editions : Agree
-    ((judges (code_only (word_hLT 0 ∷ [])), accepted)
-    ∷ (judges (code_only (word_hLT 0 ∷ word_rEAD 0 ∷ [])), refusal 43 1 5)
-    ∷ (judges (code_only (word_hLT 0 ∷ word_pRINT 0 ∷ [])), refusal 43 1 5)
-    ∷ (judges (with_transfers [] [] [] (code_only (word_hLT 0 ∷ []))), accepted)
-    ∷ (judges (with_transfers [] [] [] (code_only (word_hLT 0 ∷ word_rEAD 0 ∷ []))), refusal 43 1 5)
+    ((judges (code_only (word_hlt 0 ∷ [])), accepted)
+    ∷ (judges (code_only (word_hlt 0 ∷ word_read 0 ∷ [])), refusal 43 1 5)
+    ∷ (judges (code_only (word_hlt 0 ∷ word_print 0 ∷ [])), refusal 43 1 5)
+    ∷ (judges (with_transfers [] [] [] (code_only (word_hlt 0 ∷ []))), accepted)
+    ∷ (judges (with_transfers [] [] [] (code_only (word_hlt 0 ∷ word_read 0 ∷ []))), refusal 43 1 5)
     ∷ [])
 unfolding checking checked object_bytes object_words signed_word read_object signed_of right41 refused42 refused43 right_constant right_element right_loop right_line right_named right_format right_field right_item right_transfer is_end character right43 flow_of heights decode operation_of operand_of fits digits_rule
 editions = refl
@@ -57,7 +57,7 @@ whole =
     ∷ field_word (H 32) ∷ field_word (H 65) ∷ end_word 8 ∷ [])
     (item 3 1 ∷ item 0 3 ∷ item 0 0 ∷ []) (transfer 0 0 3 ∷ transfer 8 3 0 ∷ [])
     (with_names (named (76 ∷ []) 0 3 0 ∷ named (73 ∷ []) 3 0 0 ∷ []) (with_lines (line 2 0 0 ∷ line 3 0 1 ∷ line 6 0 2 ∷ [])
-    (object 4 [] (element 0 3 1 1 3 (pos 0) 0 0 (pos 1) ∷ []) [] [] (word_rEAD 0 ∷ word_pRINT 1 ∷ word_hLT 1 ∷ []))))
+    (object 4 [] (element 0 3 1 1 3 (pos 0) 0 0 (pos 1) ∷ []) [] [] (word_read 0 ∷ word_print 1 ∷ word_hlt 1 ∷ []))))
 
 whole_accepted : judges whole ≡ accepted
 unfolding checking checked object_bytes object_words signed_word read_object signed_of right41 refused42 refused43 right_constant right_element right_loop right_line right_named right_format right_field right_item right_transfer is_end character right43 flow_of heights decode operation_of operand_of fits digits_rule
@@ -138,11 +138,11 @@ abbrev doing : List ℕ → Refusal
 doing code = judges (with_transfers (field_word (I 5) ∷ end_word 0 ∷ []) [] (transfer 0 0 0 ∷ []) (code_only code))
 
 operands_43 : Agree
-    ((doing (word_rEAD 0 ∷ word_pRINT 0 ∷ word_hLT 0 ∷ []), accepted)
-    ∷ (doing (word_hLT 0 ∷ word_pRINT 1 ∷ []), refusal 43 1 5)
-    ∷ (doing (word_hLT 0 ∷ word_rEAD 1 ∷ []), refusal 43 1 5)
-    ∷ (doing (word_hLT 0 ∷ does 18 0 ∷ []), refusal 43 1 5)
-    ∷ (doing (word_rEAD 0 ∷ []), refusal 44 0 0)
+    ((doing (word_read 0 ∷ word_print 0 ∷ word_hlt 0 ∷ []), accepted)
+    ∷ (doing (word_hlt 0 ∷ word_print 1 ∷ []), refusal 43 1 5)
+    ∷ (doing (word_hlt 0 ∷ word_read 1 ∷ []), refusal 43 1 5)
+    ∷ (doing (word_hlt 0 ∷ does 18 0 ∷ []), refusal 43 1 5)
+    ∷ (doing (word_read 0 ∷ []), refusal 44 0 0)
     ∷ [])
 unfolding checking checked object_bytes object_words signed_word read_object signed_of right41 refused42 refused43 right_constant right_element right_loop right_line right_named right_format right_field right_item right_transfer is_end character right43 flow_of heights decode operation_of operand_of fits digits_rule
 operands_43 = refl

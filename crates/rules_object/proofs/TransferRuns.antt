@@ -23,7 +23,7 @@ use Rattle.rules_object.specs.Bytes.{signed_of, signed_word, object_words, objec
 use Rattle.rules_object.specs.Heights.{heights}
 use Rattle.rules_object.specs.Calls.{refused42, refused43, checked, Lent, taken, given, right50, right51, right52, sequence_of, Ran, running, benching}
 use Rattle.rules_object.specs.Safe.{fresh_lent, rest}
-use Rattle.rules_object.specs.Small.{word_hLT, word_rEAD, word_pRINT, word_jMP, object, element, with_transfers}
+use Rattle.rules_object.specs.Small.{word_hlt, word_read, word_print, word_jmp, object, element, with_transfers}
 use Rattle.rules_object.proofs.ObjectExamples.{Agree}
 use Rattle.rules_object.proofs.TransferExamples.{item, transfer}
 
@@ -57,19 +57,19 @@ plain cells = map (λ c. item c 1) cells
 -- one FORMAT without groups, one transfer with a list, and END
 abbrev transfers : ℕ → ℕ → List Element → List Field → List ListItem → Object
 transfers word cells elements fields items =
-    with_transfers (map field_word fields ++ (end_word 0 ∷ [])) items (transfer 0 0 (length items) ∷ []) (object cells [] elements [] [] (word ∷ word_hLT 1 ∷ []))
+    with_transfers (map field_word fields ++ (end_word 0 ∷ [])) items (transfer 0 0 (length items) ∷ []) (object cells [] elements [] [] (word ∷ word_hlt 1 ∷ []))
 
 -- READ of plain names into a store, and PRINT of the one at cell 0
 abbrev read : List String → List Field → List ℕ → List ℤ → Ran
-read cards fields cells store = running (object_bytes (transfers (word_rEAD 0) (length store) [] fields (plain cells))) store fresh_lent (trays cards 0) 9
+read cards fields cells store = running (object_bytes (transfers (word_read 0) (length store) [] fields (plain cells))) store fresh_lent (trays cards 0) 9
 
 abbrev print : ℕ → List Field → List ℕ → ℤ → Ran
-print room fields cells v = running (object_bytes (transfers (word_pRINT 0) 1 [] fields (plain cells))) (v ∷ []) fresh_lent (trays [] room) 9
+print room fields cells v = running (object_bytes (transfers (word_print 0) 1 [] fields (plain cells))) (v ∷ []) fresh_lent (trays [] room) 9
 
 -- ---- 1.7: a word of the FORMAT that breaks 42
 
 benches_7 : Agree
-    ((benching (object_bytes (transfers (word_pRINT 0) 1 [] (I 1 ∷ I 0 ∷ []) (plain (0 ∷ [])))) (pos 0 ∷ []) fresh_lent (trays [] 1) 9, ended 8 1 0 (pos 0 ∷ []) 0 [] (unprinted 1))
+    ((benching (object_bytes (transfers (word_print 0) 1 [] (I 1 ∷ I 0 ∷ []) (plain (0 ∷ [])))) (pos 0 ∷ []) fresh_lent (trays [] 1) 9, ended 8 1 0 (pos 0 ∷ []) 0 [] (unprinted 1))
     ∷ [])
 unfolding checked object_bytes object_words signed_word read_object signed_of right41 refused42 refused43 right_constant right_element right_loop right_line right_named right_format right_field right_item right_transfer is_end character right43 entry_right flow_of heights decode operation_of operand_of fits digits_rule place step bench_step taken given right50 right51 right52 sequence_of halt_number running benching devices_of cards_of room_of lines_after format_from fields_of word_field field_of spot_get spot_set prints reads new_scan printed holds signed numeral field_read
 benches_7 = refl
@@ -93,7 +93,7 @@ element_k = element 0 3 1 1 3 (pos 0) 0 0 (pos 1) ∷ []
 -- of L(K) alone, or of K before it
 abbrev reads_L : List String → List Field → List ℕ → Ran
 reads_L cards fields before =
-    running (object_bytes (transfers (word_rEAD 0) 4 element_k fields (plain before ++ (item 0 0 ∷ [])))) (replicate 4 (pos 0)) fresh_lent (trays cards 0) 9
+    running (object_bytes (transfers (word_read 0) 4 element_k fields (plain before ++ (item 0 0 ∷ [])))) (replicate 4 (pos 0)) fresh_lent (trays cards 0) 9
 
 reads_18 : Agree
     ((reads_L (" 2 9" ∷ []) (I 2 ∷ I 2 ∷ []) (3 ∷ []), ended 1 2 1 (pos 0 ∷ pos 9 ∷ pos 0 ∷ pos 2 ∷ []) 1 [] [])
@@ -134,7 +134,7 @@ reads_20 = refl
 abbrev copies : Object
 copies =
     with_transfers (map field_word (I 2 ∷ []) ++ (end_word 0 ∷ [])) (plain (0 ∷ [])) (transfer 0 0 1 ∷ [])
-    (object 1 [] [] [] [] (word_rEAD 0 ∷ word_pRINT 0 ∷ word_jMP 0 ∷ []))
+    (object 1 [] [] [] [] (word_read 0 ∷ word_print 0 ∷ word_jmp 0 ∷ []))
 
 -- two cards and a column more, room for two lines less a column
 abbrev lent : Trays

@@ -7,59 +7,59 @@ use Rattle.rules_object.specs.Object.{Element, Loop, Line, Named, ListItem, Tran
 abbrev pub does : ℕ → ℕ → ℕ
 does operation operand = operation * 2 ^ 24 + operand
 
-abbrev pub word_hLT : ℕ → ℕ
-word_hLT x = does 0 x
+abbrev pub word_hlt : ℕ → ℕ
+word_hlt x = does 0 x
 
-abbrev pub word_cON : ℕ → ℕ
-word_cON x = does 1 x
+abbrev pub word_con : ℕ → ℕ
+word_con x = does 1 x
 
-abbrev pub word_lOD : ℕ → ℕ
-word_lOD x = does 2 x
+abbrev pub word_lod : ℕ → ℕ
+word_lod x = does 2 x
 
-abbrev pub word_sTO : ℕ → ℕ
-word_sTO x = does 3 x
+abbrev pub word_sto : ℕ → ℕ
+word_sto x = does 3 x
 
-abbrev pub word_lDE : ℕ → ℕ
-word_lDE x = does 4 x
+abbrev pub word_lde : ℕ → ℕ
+word_lde x = does 4 x
 
-abbrev pub word_sTE : ℕ → ℕ
-word_sTE x = does 5 x
+abbrev pub word_ste : ℕ → ℕ
+word_ste x = does 5 x
 
-abbrev pub word_aDD : ℕ → ℕ
-word_aDD x = does 6 x
+abbrev pub word_add : ℕ → ℕ
+word_add x = does 6 x
 
-abbrev pub word_sUB : ℕ → ℕ
-word_sUB x = does 7 x
+abbrev pub word_sub : ℕ → ℕ
+word_sub x = does 7 x
 
-abbrev pub word_mUL : ℕ → ℕ
-word_mUL x = does 8 x
+abbrev pub word_mul : ℕ → ℕ
+word_mul x = does 8 x
 
-abbrev pub word_dIV : ℕ → ℕ
-word_dIV x = does 9 x
+abbrev pub word_div : ℕ → ℕ
+word_div x = does 9 x
 
-abbrev pub word_nEG : ℕ → ℕ
-word_nEG x = does 10 x
+abbrev pub word_neg : ℕ → ℕ
+word_neg x = does 10 x
 
-abbrev pub word_jMP : ℕ → ℕ
-word_jMP x = does 11 x
+abbrev pub word_jmp : ℕ → ℕ
+word_jmp x = does 11 x
 
-abbrev pub word_bR3 : ℕ → ℕ
-word_bR3 x = does 12 x
+abbrev pub word_br3 : ℕ → ℕ
+word_br3 x = does 12 x
 
-abbrev pub word_bRC : ℕ → ℕ
-word_bRC x = does 13 x
+abbrev pub word_brc : ℕ → ℕ
+word_brc x = does 13 x
 
-abbrev pub word_dOI : ℕ → ℕ
-word_dOI x = does 14 x
+abbrev pub word_doi : ℕ → ℕ
+word_doi x = does 14 x
 
-abbrev pub word_dOE : ℕ → ℕ
-word_dOE x = does 15 x
+abbrev pub word_doe : ℕ → ℕ
+word_doe x = does 15 x
 
-abbrev pub word_rEAD : ℕ → ℕ
-word_rEAD x = does 16 x
+abbrev pub word_read : ℕ → ℕ
+word_read x = does 16 x
 
-abbrev pub word_pRINT : ℕ → ℕ
-word_pRINT x = does 17 x
+abbrev pub word_print : ℕ → ℕ
+word_print x = does 17 x
 
 abbrev pub object : ℕ → List ℕ → List Element → List ℕ → List Loop → List ℕ → Object
 object cells constants elements exits dos code =
