@@ -33,7 +33,7 @@ def files(end):
 
 
 def snake(name):
-    return re.sub(r"(?<=[a-z0-9])([A-Z])", lambda m: "_" + m.group(1).lower(), name).replace("-", "_")
+    return re.sub(r"(?<=[a-z0-9])([A-Z]+(?![a-z])\d*|[A-Z])", lambda m: "_" + m.group(1).lower(), name).replace("-", "_")
 
 
 def of_a_function(path):
