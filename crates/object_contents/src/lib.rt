@@ -8,7 +8,7 @@ ghost use Rattle.object_contents.specs.Opened.{Opened};
 ghost use Rattle.object_contents.specs.Bodies.{first_in, length_in, size_of, body_fits, AllFit, layout_in, Begun};
 
 // Of each body the byte that it starts at and how many entries it has.
-#[derive(Drop)]
+#[derive(Clone, Copy)]
 pub struct Layout {
     pub edition: u32,
     pub digits: u32,
