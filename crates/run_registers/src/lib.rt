@@ -9,7 +9,7 @@ ghost use Rattle.run_registers.specs.Registers.{regs, going_to, onward, marking}
 use number::Loss;
 
 // The instruction to be done, how many places of the stack are used, and the drop mark.
-#[derive(Drop)]
+#[derive(Clone, Copy)]
 pub struct Regs {
     pub index: usize,
     pub height: usize,
