@@ -9,7 +9,7 @@ use mathlib.Core.List.{List, [], ◌∷◌, ◌++◌, append_assoc}
 use lib.ListN.{length, get_or, set, take, length-set}
 use lib.Seq.{take-suc-set, take_all}
 use Rattle.rules_object.specs.Kinds.{edition}
-use Rattle.object_bodies.specs.Edition.{count, head}
+use Rattle.object_bodies.specs.Edition.{count}
 use Rattle.final_body.specs.Bodies.{start_of}
 use Rattle.final_contents.specs.Contents.{table_from, contents_words}
 
