@@ -7,11 +7,11 @@ ghost use Rattle.rules_text.specs.Cards.{columns_read, number_columns, comment, 
 ghost use Rattle.read_cards.specs.Columns.{digits_of, punched_of, CardAt};
 
 // A statement's number as punched, 0 where none is.
-#[derive(Drop)]
+#[derive(Clone, Copy)]
 pub struct Number(pub u32);
 
 // A statement's place in card order, from 1 on.
-#[derive(Drop)]
+#[derive(Clone, Copy)]
 pub struct Sequence(pub u32);
 
 // ---- a card's columns: column c is the byte at c - 1
