@@ -4,12 +4,8 @@ use lib.IntN.{pos}
 use mir.Facts.{to_z-of_z}
 use lib.Signed.{lt_z}
 use Rattle.run_subscripts.proofs.Laws.{above}
-use Rattle.run_subscripts.proofs.above_zero.Statement.{statement}
-use Rattle.run_subscripts.proofs.above_zero.Tie as tie
+use Rattle.run_subscripts.proofs.above_zero.Goals as goal
 
-returns : tie.Need-returns
+pub returns : goal.returns
 returns c =
     ap (λ z. lt_z (pos 0) z) (to_z-of_z c.ranges.z) ∙ above c.args.z
-
-pub above-zero-spec : {M : Type 1} → statement M
-above-zero-spec = tie.close (tie.spec returns)
