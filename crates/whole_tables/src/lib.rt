@@ -93,7 +93,7 @@ pub fn wanted(words: &[u32], many: usize) -> [Number; JUMPS]
 }
 
 // The DOs and their last statements.
-#[derive(Drop)]
+#[derive(Clone, Copy)]
 pub struct Loops {
     pub at: [Sequence; DOS],
     pub last: [Sequence; DOS],
