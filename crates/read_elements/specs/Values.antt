@@ -13,7 +13,6 @@ use Rattle.read_tokens.specs.Reading.{Reads}
 use Rattle.read_elements.specs.declared.Addend.{Addend}
 use Rattle.read_elements.specs.declared.Subscript.{Subscript}
 use Rattle.read_elements.specs.declared.Subscripts.{Subscripts}
-use Rattle.read_elements.specs.declared.Element.{Element}
 use Rattle.read_elements.specs.declared.Target.{Target}
 use Rattle.read_elements.specs.declared.Target.TheVariants as target
 use Rattle.read_elements.specs.declared.GotAddend.{GotAddend}
