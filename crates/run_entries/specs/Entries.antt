@@ -1,6 +1,6 @@
 -- What the entries of exits and DOs give the code of an instruction.
 -- Assumes nothing.
-use Rattle.std.specs.Prelude.{Bool, true, false, List, ℕ, zero, suc, ◌+◌, ◌-◌, ◌*◌, ◌≤◌, ltb, length, ℤ, pos, negsuc}
+use Rattle.std.specs.Prelude.{Bool, true, false, List, ℕ, zero, suc, ◌+◌, ◌*◌, ◌≤◌, ltb, length, ℤ, pos, negsuc}
 use Rattle.std.proofs.Math.Option.{Option, none, some}
 use Rattle.rules_shared.specs.Choose.{sign3}
 use Rattle.object_words.specs.Word.{word_at}
