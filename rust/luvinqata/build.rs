@@ -16,7 +16,7 @@ fn main() {
     println!("cargo:rerun-if-changed={}", archive.display());
     let Ok(archive) = archive.canonicalize() else {
         fail(&format!(
-            "there is no archive {}\n`rt staticlib calls`, run at the repository's top, makes it",
+            "there is no archive {}\n`tools/archive`, run at the repository's top, makes it",
             archive.display()
         ));
     };
