@@ -11,7 +11,7 @@ use object_contents::Layout;
 use run_subscripts::Place;
 
 // What is left of a list: so many cells from one on, then so many items from one on.
-#[derive(Drop)]
+#[derive(Clone, Copy)]
 pub struct Cursor {
     pub cell: usize,
     pub cells: usize,
