@@ -1,0 +1,13 @@
+-- `check_heights::fill` meets its contract. Assumes nothing.
+use Prim.Native.Nat.{◌+◌}
+use Rattle.rules_object.specs.Operations.{flow_of}
+use Rattle.rules_object.specs.Filling.{nevers}
+use Rattle.object_contents.specs.Layout.{object_at}
+use Rattle.check_heights.proofs.Loops.{Round}
+use Rattle.check_heights.proofs.fill.Given as goal
+
+abbrev pub invariant-loop-top : goal.invariant-loop-top
+invariant-loop-top l = Round (flow_of (object_at l.e l.o)) l.table l.work l.top
+
+abbrev pub decreases-loop-top : goal.decreases-loop-top
+decreases-loop-top l = nevers l.table + l.top
