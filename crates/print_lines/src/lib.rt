@@ -35,7 +35,7 @@ pub fn put_refused(out: &mut [u8], at: usize, number: u32, place: u32) -> usize
 // ---- names with values
 
 // A name of body 7: where its eight bytes stand, its first cell, its rows and columns.
-#[derive(Drop)]
+#[derive(Clone, Copy)]
 pub struct Entry {
     pub text: usize,
     pub first: usize,
