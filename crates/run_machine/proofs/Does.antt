@@ -6,7 +6,7 @@ use mathlib.Core.List.{List, ◌∷◌, reverse}
 use mathlib.Core.Option.{Option, none, some}
 use Prim.Native.Nat.{ℕ, zero, suc, ◌+◌, ◌-◌, ◌*◌, ◌≤◌, ◌<◌}
 use native.Mathlib.Omega.{arith}
-use lib.Dec.{T, ltb, leb, leb→le, ltb→lt, nltb→le}
+use lib.Dec.{T, ltb, leb→le, ltb→lt, nltb→le}
 use lib.ListN.{length, set, take, length-set}
 use lib.Seq.{get_or-set_other}
 use lib.IntN.{ℤ, pos, negsuc, nat_abs, neg_ℤ, sub_ℕ, ◌+ℤ◌}
@@ -84,7 +84,10 @@ sub_within p b a h g = by (ltb b a) (ltb→lt b a) (nltb→le b a)
 
 sum_within : (p : ℕ) (i s l : ℤ) → T (positive s) → nat_abs i < p → nat_abs s < p → nat_abs l < p → T (le_z (i +ℤ s) l) → nat_abs (i +ℤ s) < p
 sum_within p (pos a) (pos b) (pos c) q hi hs hl t = omega (arith, leb→le (a + b) c t)
+sum_within p (pos a) (pos b) (negsuc _) q hi hs hl t = elim t [ ]
+sum_within p (pos a) (negsuc _) l q hi hs hl t = elim q [ ]
 sum_within p (negsuc a) (pos b) l q hi hs hl t = sub_within p b (suc a) hs hi
+sum_within p (negsuc a) (negsuc _) l q hi hs hl t = elim q [ ]
 
 abbrev TurnWithin : ℕ → choose.Turn → Type 0
 TurnWithin p (again v) = nat_abs v < p

@@ -16,7 +16,6 @@ use Rattle.rules_object.specs.Object.{Element, Loop, Object, rule_of}
 use Rattle.rules_object.specs.Check.{right_constant, right_element, right_loop}
 use Rattle.rules_object.specs.Operations.{meant, no_element, no_loop, operation_at}
 use Rattle.rules_object.specs.Machine.{cell, act}
-use Rattle.rules_object.specs.Machine as book
 use Rattle.object_contents.specs.declared.Layout.{Layout}
 use Rattle.object_contents.specs.Layout.{object_at}
 use Rattle.run_registers.specs.declared.Regs.{Regs}
