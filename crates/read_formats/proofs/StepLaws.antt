@@ -9,7 +9,7 @@ use borrow.Author.Tests.{le-leb, lt-leb, ne_eqb}
 use lib.Dec.{leb, eqb}
 use lib.ListN.{length, take, drop, get_or, replicate, drop_of_length-le, length-drop, length-map, length-replicate}
 use lib.Seq.{drop-drop}
-use Rattle.rules_formats.specs.Format.{Format, close, number, skip, text, slash, group, I, X, H, new_record, times, again_from, has_number}
+use Rattle.rules_formats.specs.Format.{Format, close, number, skip, text, slash, I, X, H, new_record, times, again_from, has_number}
 use Rattle.rules_formats.specs.Words.{field_word}
 use Rattle.rules_formats.specs.Fields.{is_blank, is_digit}
 use Rattle.rules_formats.specs.Punched.{left_paren, right_paren, comma, stroke, letter_i, letter_x, letter_h, Mark, a_blank, a_comma, a_stroke, a_left, a_right, an_i, an_x, an_h, other, a_digit, mark_of, Found, found, bad, provided, before, number_from, right_number, Place, after_comma, after_slash, after_field, may_field, may_comma, may_slash, may_close, width_of, counted, after_count, column, list}

@@ -34,7 +34,7 @@ pub enum Place {
 }
 
 // How far reading is: the next column, the number of words, the word where a new scan begins, whether a number was among the fields.
-#[derive(Drop)]
+#[derive(Clone, Copy)]
 pub struct Sofar {
     pub at: usize,
     pub top: usize,
