@@ -6,7 +6,7 @@ use mathlib.Core.Bool.{Bool, true, false, ◌&&◌, not}
 use mathlib.Core.List.{List, [], ◌∷◌, ◌++◌, append-nil}
 use mathlib.Core.Option.{Option, none, some}
 use Rattle.rules_shared.specs.Lists.{all}
-use Rattle.rules_text.specs.Trees.{Name, Digits, Expr, con, var, expr_names, expr_constants, Target, cell, element, target_names, target_constants, written, Form, assign, go_to, computed, ifs, loop, continue, stop, end, dimension, form_names, form_constants}
+use Rattle.rules_text.specs.Trees.{Name, Digits, Expr, con, var, expr_names, expr_constants, Target, cell, element, target_names, target_constants, written, Form, assign, go_to, computed, ifs, loop, continue, stop, end, dimension, form_names, form_constants, bin, elm, neg, par}
 use Rattle.rules_deck.specs.Meaning.{third}
 use Rattle.rules_deck.specs.Translation.{Held, is_array, holds, expr_plain, target_plain, form_plain}
 use Rattle.rules_deck.specs.Judge.{Reference, expr_references, target_references, form_references, right_reference, right16}
@@ -28,6 +28,10 @@ target_words_lem (element v s) = refl
 
 pub parameter_words_lem : (p : Expr) → IsParameter p → parameter_words (parameter_value p) ≡ items_words (items_of p)
 unfolding parameter_value parameter_words
+parameter_words_lem (elm _ _) x3 = elim x3 [ ]
+parameter_words_lem (neg _) x3 = elim x3 [ ]
+parameter_words_lem (par _) x4 = elim x4 [ ]
+parameter_words_lem (bin _ _ _) x7 = elim x7 [ ]
 parameter_words_lem (con c) IsParameter.constant = refl
 parameter_words_lem (var v) IsParameter.name = refl
 
@@ -119,6 +123,13 @@ form_right16 held f =
 
 pub first_names : {v : Name} (f : Form) → Among v (items_names (form_first f)) → Among v (form_names f)
 unfolding form_names
+first_names {v = v} (go_to _) a = elim a [ ]
+first_names {v = v} (ifs _ _ _ _) a = elim a [ ]
+first_names {v = v} (loop n w p q r) (there x5) = elim x5 [ ]
+first_names {v = v} continue a = elim a [ ]
+first_names {v = v} stop a = elim a [ ]
+first_names {v = v} end a = elim a [ ]
+first_names {v = v} (dimension _) a = elim a [ ]
 first_names {v} (assign t e) a = among_left (expr_names e) (subst (Among v) (append-nil (item_names (target_item t)) ∙ sym (target_names_lem t)) a)
 first_names (computed ns w) a = a
 first_names (loop n w p q r) here = here
@@ -133,17 +144,37 @@ loop_names p q r =
 
 pub items_names_lem : {v : Name} (f : Form) → Among v (items_names (form_items f)) → Among v (form_names f)
 unfolding form_names
+items_names_lem {v = v} (go_to _) a = elim a [ ]
+items_names_lem {v = v} (computed _ _) a = elim a [ ]
+items_names_lem {v = v} continue a = elim a [ ]
+items_names_lem {v = v} stop a = elim a [ ]
+items_names_lem {v = v} end a = elim a [ ]
+items_names_lem {v = v} (dimension _) a = elim a [ ]
 items_names_lem {v} (assign t e) a = among_right (target_names t) (subst (Among v) (sym (expr_names_lem e)) a)
 items_names_lem {v} (ifs e x y z) a = subst (Among v) (sym (expr_names_lem e)) a
 items_names_lem {v} (loop n w p q r) a = there (subst (Among v) (loop_names p q r) a)
 
 pub first_constants : {c : Digits} (f : Form) → Among c (items_constants (form_first f)) → Among c (form_constants f)
 unfolding form_constants
+first_constants {c = c} (go_to _) a = elim a [ ]
+first_constants {c = c} (computed _ _) a = elim a [ ]
+first_constants {c = c} (ifs _ _ _ _) a = elim a [ ]
+first_constants {c = c} (loop _ _ _ _ _) a = elim a [ ]
+first_constants {c = c} continue a = elim a [ ]
+first_constants {c = c} stop a = elim a [ ]
+first_constants {c = c} end a = elim a [ ]
+first_constants {c = c} (dimension _) a = elim a [ ]
 first_constants {c} (assign t e) a = among_left (expr_constants e) (subst (Among c) (append-nil (item_constants (target_item t)) ∙ sym (target_constants_lem t)) a)
 
 -- a missing third parameter's 1 is no constant of the form
 pub items_constants_lem : {c : Digits} (f : Form) → Among c (items_constants (form_items f)) → Among c (form_constants f) ⊎ (c ≡ 49 ∷ [])
 unfolding form_constants
+items_constants_lem {c = c} (go_to _) a = elim a [ ]
+items_constants_lem {c = c} (computed _ _) a = elim a [ ]
+items_constants_lem {c = c} continue a = elim a [ ]
+items_constants_lem {c = c} stop a = elim a [ ]
+items_constants_lem {c = c} end a = elim a [ ]
+items_constants_lem {c = c} (dimension _) a = elim a [ ]
 items_constants_lem {c} (assign t e) a = inl (among_right (target_constants t) (subst (Among c) (sym (expr_constants_lem e)) a))
 items_constants_lem {c} (ifs e x y z) a = inl (subst (Among c) (sym (expr_constants_lem e)) a)
 items_constants_lem {c} (loop n w p q r) a = go (among_append (expr_constants p) _ (subst (Among c) is a))

@@ -1,6 +1,6 @@
 -- What the tables hold once every statement of an accepted deck is taken: its translation, but for addresses, exits, DOEs and bodies.
 -- Assumes nothing.
-use Rattle.std.specs.Prelude.{◌≡◌, ℕ, ◌*◌, List, map, length, take}
+use Rattle.std.specs.Prelude.{◌≡◌, ◌*◌, List, map, length, take}
 use Rattle.rules_shared.specs.House.{House}
 use Rattle.rules_object.specs.Bytes.{concat, element_words, loop_words}
 use Rattle.rules_text.specs.Trees.{Statement}

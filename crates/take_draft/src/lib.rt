@@ -4,7 +4,7 @@
 ghost use Rattle.std.specs.Prelude.{◌≡◌, ◌≤◌};
 ghost use Rattle.take_draft.specs.Counts.{with_names, with_do, with_marks};
 
-#[derive(Drop)]
+#[derive(Clone, Copy)]
 pub struct Counts {
     pub names: usize,
     pub cells: usize,
