@@ -1,7 +1,6 @@
 -- `check_entries::first_bad` meets its contract. Assumes nothing.
 use mathlib.Core.Path.{refl, sym, ap, ◌∙◌}
 use native.Mathlib.Omega.{arith}
-use borrow.Author.Tests.{not-true, not-false}
 use Rattle.rules_shared.specs.Refusals.{at_entry}
 use Rattle.object_contents.specs.Layout.{object_at}
 use Rattle.check_entries.specs.Judge.{refusal_of, passes}
@@ -27,7 +26,7 @@ returns-then-not-entry_passes c =
     let n = c.args.n in
     let i = c.loop-i.i in
     let inv = c.loop-i.invariant in
-    sym (ap (at_entry 42 kind) (inv.1 ∙ first_stops test n i c.loop-i-test.true (sym c.entry_passes.ensures ∙ not-true _ c.if-not-entry_passes.true-raw)))
+    sym (ap (at_entry 42 kind) (inv.1 ∙ first_stops test n i c.loop-i-test.true (sym c.entry_passes.ensures ∙ c.if-not-entry_passes.true)))
 
 pub loop-i-preserved : goal.loop-i-preserved
 loop-i-preserved c =
@@ -36,7 +35,7 @@ loop-i-preserved c =
     let n = c.args.n in
     let i = c.loop-i.i in
     let inv = c.loop-i.invariant in
-    (omega arith, inv.1 ∙ first_more test n i c.loop-i-test.true (sym c.entry_passes.ensures ∙ not-false _ c.if-not-entry_passes.false-raw))
+    (omega arith, inv.1 ∙ first_more test n i c.loop-i-test.true (sym c.entry_passes.ensures ∙ c.if-not-entry_passes.false))
 
 pub returns : goal.returns
 unfolding refusal_of

@@ -1,7 +1,6 @@
 -- `check_formats::first_bad` meets its contract. Assumes nothing.
 use mathlib.Core.Path.{refl, sym, ◌∙◌}
 use native.Mathlib.Omega.{arith}
-use borrow.Author.Tests.{not-true, not-false}
 use Rattle.rules_object.specs.Check.{right_format}
 use Rattle.object_contents.specs.Layout.{object_at}
 use Rattle.check_formats.specs.Formats.{place_of}
@@ -25,7 +24,7 @@ returns-then-not-format_right c =
     let n = c.args.e.format_count in
     let i = c.loop-i.i in
     let inv = c.loop-i.invariant in
-    sym (inv.2 ∙ first_stops test n i c.loop-i-test.true (sym c.format_right.ensures ∙ not-true _ c.if-not-format_right.true-raw))
+    sym (inv.2 ∙ first_stops test n i c.loop-i-test.true (sym c.format_right.ensures ∙ c.if-not-format_right.true))
 
 pub start_after-start-requires : goal.start_after-start-requires
 start_after-start-requires c =
@@ -37,7 +36,7 @@ loop-i-preserved c =
     let n = c.args.e.format_count in
     let i = c.loop-i.i in
     let inv = c.loop-i.invariant in
-    (omega arith, c.start_after-start.ensures, inv.2 ∙ first_more test n i c.loop-i-test.true (sym c.format_right.ensures ∙ not-false _ c.if-not-format_right.false-raw))
+    (omega arith, c.start_after-start.ensures, inv.2 ∙ first_more test n i c.loop-i-test.true (sym c.format_right.ensures ∙ c.if-not-format_right.false))
 
 pub returns : goal.returns
 unfolding place_of

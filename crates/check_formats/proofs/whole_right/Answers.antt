@@ -3,7 +3,6 @@ use mathlib.Core.Path.{refl, sym, ap, ◌∙◌}
 use Prim.Native.Nat.{ℕ, ◌<◌}
 use native.Mathlib.Omega.{arith}
 use lib.ListN.{length}
-use borrow.Author.Tests.{not-true, not-false}
 use Rattle.rules_formats.specs.Words.{is_end}
 use Rattle.object_contents.specs.Layout.{object_at}
 use Rattle.object_contents.proofs.Entries.{format_length}
@@ -24,7 +23,7 @@ returns-then-not-format_right c =
     let i = c.loop-i.i in
     let there : i < length object.formats = omega (arith, c.loop-i-test.true, format_length c.args.e c.args.o.now) in
     let right = sym c.format_right.ensures in
-    sym (c.loop-i.invariant.2 ∙ whole_bad object i there (right ∙ not-true _ c.if-not-format_right.true-raw))
+    sym (c.loop-i.invariant.2 ∙ whole_bad object i there (right ∙ c.if-not-format_right.true))
 
 pub format_word-requires : goal.format_word-requires
 format_word-requires c =
@@ -37,7 +36,7 @@ returns-then-is_end c =
     let there : i < length object.formats = omega (arith, c.loop-i-test.true, format_length c.args.e c.args.o.now) in
     let right = sym c.format_right.ensures in
     let end = sym (c.is_end.ensures ∙ ap (λ (w : ℕ). is_end w) c.format_word.ensures) in
-    sym (c.loop-i.invariant.2 ∙ whole_end object i there (right ∙ not-false _ c.if-not-format_right.false-raw) (end ∙ c.if-is_end.true))
+    sym (c.loop-i.invariant.2 ∙ whole_end object i there (right ∙ c.if-not-format_right.false) (end ∙ c.if-is_end.true))
 
 pub loop-i-preserved : goal.loop-i-preserved
 loop-i-preserved c =
@@ -46,7 +45,7 @@ loop-i-preserved c =
     let there : i < length object.formats = omega (arith, c.loop-i-test.true, format_length c.args.e c.args.o.now) in
     let right = sym c.format_right.ensures in
     let end = sym (c.is_end.ensures ∙ ap (λ (w : ℕ). is_end w) c.format_word.ensures) in
-    (omega arith, c.loop-i.invariant.1 ∙ goes_on object i (end ∙ c.if-is_end.false), c.loop-i.invariant.2 ∙ whole_more object i there (right ∙ not-false _ c.if-not-format_right.false-raw) (end ∙ c.if-is_end.false))
+    (omega arith, c.loop-i.invariant.1 ∙ goes_on object i (end ∙ c.if-is_end.false), c.loop-i.invariant.2 ∙ whole_more object i there (right ∙ c.if-not-format_right.false) (end ∙ c.if-is_end.false))
 
 pub returns : goal.returns
 returns c =

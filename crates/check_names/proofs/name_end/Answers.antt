@@ -1,7 +1,6 @@
 -- `check_names::name_end` meets its contract. Assumes nothing.
 use mathlib.Core.Path.{◌≡◌, refl, sym, ◌∙◌}
 use native.Mathlib.Omega.{arith}
-use borrow.Author.Tests.{not-true, not-false}
 use Rattle.check_names.proofs.Names.{tail_more, tail_stops, tail_ends}
 use Rattle.check_names.proofs.name_end.Goals as goal
 
@@ -18,7 +17,7 @@ returns-then-not-letter_or_digit c =
     record {
       some = inv.0;
       most = inv.1.0;
-      rest = inv.1.1 ∙ tail_stops s b c.requires k c.loop-k-test.true (sym c.letter_or_digit.ensures ∙ not-true _ c.if-not-letter_or_digit.true-raw);
+      rest = inv.1.1 ∙ tail_stops s b c.requires k c.loop-k-test.true (sym c.letter_or_digit.ensures ∙ c.if-not-letter_or_digit.true);
     }
 
 pub loop-k-preserved : goal.loop-k-preserved
@@ -27,7 +26,7 @@ loop-k-preserved c =
     let b = c.args.b in
     let k = c.loop-k.k in
     let inv = c.loop-k.invariant in
-    (omega arith, (omega arith, inv.1.1 ∙ tail_more s b c.requires k c.loop-k-test.true (sym c.letter_or_digit.ensures ∙ not-false _ c.if-not-letter_or_digit.false-raw)))
+    (omega arith, (omega arith, inv.1.1 ∙ tail_more s b c.requires k c.loop-k-test.true (sym c.letter_or_digit.ensures ∙ c.if-not-letter_or_digit.false)))
 
 pub returns : goal.returns
 returns c =

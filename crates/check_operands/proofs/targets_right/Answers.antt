@@ -2,7 +2,6 @@
 use mathlib.Core.Path.{refl, sym, ◌∙◌}
 use Prim.Native.Nat.{◌+◌}
 use native.Mathlib.Omega.{arith}
-use borrow.Author.Tests.{not-true, not-false}
 use Rattle.object_contents.proofs.Entries.{exit_inside}
 use Rattle.check_operands.proofs.Exits.{led_starts, led_more, led_stops, led_ends}
 use Rattle.check_operands.proofs.targets_right.Goals as goal
@@ -25,7 +24,7 @@ returns-then-not-in_code c =
     let n = c.args.n in
     let k = c.loop-k.k in
     let inv = c.loop-k.invariant in
-    led_stops e s at n k c.loop-k-test.true c.requires.1 (sym c.in_code.ensures ∙ not-true _ c.if-not-in_code.true-raw) ∙ sym inv.1
+    led_stops e s at n k c.loop-k-test.true c.requires.1 (sym c.in_code.ensures ∙ c.if-not-in_code.true) ∙ sym inv.1
 
 pub loop-k-preserved : goal.loop-k-preserved
 loop-k-preserved c =
@@ -35,7 +34,7 @@ loop-k-preserved c =
     let n = c.args.n in
     let k = c.loop-k.k in
     let inv = c.loop-k.invariant in
-    (omega arith, inv.1 ∙ led_more e s at n k c.loop-k-test.true c.requires.1 (sym c.in_code.ensures ∙ not-false _ c.if-not-in_code.false-raw))
+    (omega arith, inv.1 ∙ led_more e s at n k c.loop-k-test.true c.requires.1 (sym c.in_code.ensures ∙ c.if-not-in_code.false))
 
 pub returns : goal.returns
 returns c =

@@ -1,7 +1,6 @@
 -- `check_operands::words` meets its contract. Assumes nothing.
 use mathlib.Core.Path.{refl, sym, ap, ◌∙◌}
 use native.Mathlib.Omega.{arith}
-use borrow.Author.Tests.{not-true, not-false}
 use Rattle.rules_shared.specs.Refusals.{at_entry}
 use Rattle.rules_object.specs.Calls.{refused43}
 use Rattle.check_entries.specs.Judge.{refusal_of}
@@ -31,7 +30,7 @@ returns-then-not-word_right c =
     let i = c.loop-i.i in
     let inv = c.loop-i.invariant in
     let said = word_test e s i c.load.result c.loop-i-test.true c.load.ensures ∙ sym c.word_right.ensures in
-    sym (ap (at_entry 43 5) (words_are e s ∙ inv.1 ∙ first_stops (word_test_lem e s) n i c.loop-i-test.true (said ∙ not-true _ c.if-not-word_right.true-raw)))
+    sym (ap (at_entry 43 5) (words_are e s ∙ inv.1 ∙ first_stops (word_test_lem e s) n i c.loop-i-test.true (said ∙ c.if-not-word_right.true)))
 
 pub loop-i-preserved : goal.loop-i-preserved
 loop-i-preserved c =
@@ -41,7 +40,7 @@ loop-i-preserved c =
     let i = c.loop-i.i in
     let inv = c.loop-i.invariant in
     let said = word_test e s i c.load.result c.loop-i-test.true c.load.ensures ∙ sym c.word_right.ensures in
-    (omega arith, inv.1 ∙ first_more (word_test_lem e s) n i c.loop-i-test.true (said ∙ not-false _ c.if-not-word_right.false-raw))
+    (omega arith, inv.1 ∙ first_more (word_test_lem e s) n i c.loop-i-test.true (said ∙ c.if-not-word_right.false))
 
 pub returns : goal.returns
 unfolding refusal_of refused43

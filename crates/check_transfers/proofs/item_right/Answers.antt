@@ -2,7 +2,6 @@
 use mathlib.Core.Path.{sym, ap, ◌∙◌}
 use Prim.Native.Nat.{ℕ}
 use native.Mathlib.Omega.{arith}
-use borrow.Author.Tests.{not-true, not-false}
 use lib.ListN.{get_or}
 use Rattle.rules_object.specs.Object.{ListItem}
 use Rattle.rules_object.specs.Check.{right_element}
@@ -23,7 +22,7 @@ returns-then-not-item_right c =
     let i = c.args.i in
     let object = object_at c.args.e c.args.o.now in
     let item : ListItem = get_or object.items i no_item in
-    item_not object item (sym c.item_right.ensures ∙ not-true _ c.if-not-item_right.true-raw)
+    item_not object item (sym c.item_right.ensures ∙ c.if-not-item_right.true)
 
 pub load-requires : goal.load-requires
 load-requires c =
@@ -37,7 +36,7 @@ returns-then-load-ne0 c =
     let h = c.requires.placed.1 in
     let object = object_at c.args.e c.args.o.now in
     let item : ListItem = get_or object.items i no_item in
-    let right = sym c.item_right.ensures ∙ not-false _ c.if-not-item_right.false-raw in
+    let right = sym c.item_right.ensures ∙ c.if-not-item_right.false in
     item_cells object item right (λ q. c.if-load-ne0.true (c.load.ensures ∙ sym (item_count e s i h) ∙ q))
 
 pub load-requires-2 : goal.load-requires-2
@@ -52,7 +51,7 @@ element_right-requires c =
     let h = c.requires.placed.1 in
     let object = object_at c.args.e c.args.o.now in
     let item : ListItem = get_or object.items i no_item in
-    let right = sym c.item_right.ensures ∙ not-false _ c.if-not-item_right.false-raw in
+    let right = sym c.item_right.ensures ∙ c.if-not-item_right.false in
     let count = item_count e s i h ∙ sym c.load.ensures ∙ c.if-load-ne0.false in
     let first = item_first e s i h ∙ sym c.load-2.ensures ∙ sym c.index.ensures in
     record { rule_value = c.requires.rule_value; placed = (c.requires.placed.0, omega (arith, element_inside object item right count, first, element_length e s)) }
@@ -65,7 +64,7 @@ returns c =
     let h = c.requires.placed.1 in
     let object = object_at c.args.e c.args.o.now in
     let item : ListItem = get_or object.items i no_item in
-    let right = sym c.item_right.ensures ∙ not-false _ c.if-not-item_right.false-raw in
+    let right = sym c.item_right.ensures ∙ c.if-not-item_right.false in
     let count = item_count e s i h ∙ sym c.load.ensures ∙ c.if-load-ne0.false in
     let first = item_first e s i h ∙ sym c.load-2.ensures ∙ sym c.index.ensures in
     c.element_right.ensures ∙ ap (λ (x : ℕ). right_element object (get_or object.elements x no_element)) (sym first) ∙ item_element object item right count

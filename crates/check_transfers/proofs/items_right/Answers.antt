@@ -1,7 +1,6 @@
 -- `check_transfers::items_right` meets its contract. Assumes nothing.
 use mathlib.Core.Path.{refl, sym, ◌∙◌}
 use native.Mathlib.Omega.{arith}
-use borrow.Author.Tests.{not-true, not-false}
 use Rattle.check_transfers.proofs.Items.{used_starts, used_more, used_stops, used_ends}
 use Rattle.check_transfers.proofs.items_right.Goals as goal
 
@@ -21,7 +20,7 @@ returns-then-not-item_right c =
     let n = c.args.n in
     let k = c.loop-k.k in
     let inv = c.loop-k.invariant in
-    sym (inv.1 ∙ used_stops e s at n k c.loop-k-test.true c.requires.placed.1 (sym c.item_right.ensures ∙ not-true _ c.if-not-item_right.true-raw))
+    sym (inv.1 ∙ used_stops e s at n k c.loop-k-test.true c.requires.placed.1 (sym c.item_right.ensures ∙ c.if-not-item_right.true))
 
 pub loop-k-preserved : goal.loop-k-preserved
 loop-k-preserved c =
@@ -31,7 +30,7 @@ loop-k-preserved c =
     let n = c.args.n in
     let k = c.loop-k.k in
     let inv = c.loop-k.invariant in
-    (omega arith, inv.1 ∙ used_more e s at n k c.loop-k-test.true c.requires.placed.1 (sym c.item_right.ensures ∙ not-false _ c.if-not-item_right.false-raw))
+    (omega arith, inv.1 ∙ used_more e s at n k c.loop-k-test.true c.requires.placed.1 (sym c.item_right.ensures ∙ c.if-not-item_right.false))
 
 pub returns : goal.returns
 returns c =

@@ -2,7 +2,6 @@
 use mathlib.Core.Path.{◌≡◌, sym, ap, subst, ◌∙◌}
 use Prim.Native.Nat.{ℕ}
 use native.Mathlib.Omega.{arith}
-use borrow.Author.Tests.{not-true, not-false}
 use lib.ListN.{take, drop}
 use Rattle.rules_shared.specs.Lists.{all}
 use Rattle.rules_object.specs.Check.{format_start}
@@ -21,7 +20,7 @@ returns-then-not-transfer_right c =
     let e = c.args.e in
     let x = c.args.x in
     let object = object_at c.args.e c.args.o.now in
-    transfer_not object x (sym c.transfer_right.ensures ∙ not-true _ c.if-not-transfer_right.true-raw)
+    transfer_not object x (sym c.transfer_right.ensures ∙ c.if-not-transfer_right.true)
 
 pub load-requires : goal.load-requires
 load-requires c =
@@ -35,7 +34,7 @@ whole_right-requires c =
     let h = c.requires.placed.1 in
     let object = object_at c.args.e c.args.o.now in
     let transfer = transfer_at object x in
-    let passes = sym c.transfer_right.ensures ∙ not-false _ c.if-not-transfer_right.false-raw in
+    let passes = sym c.transfer_right.ensures ∙ c.if-not-transfer_right.false in
     let format = format_is e s x h ∙ sym c.load.ensures ∙ sym c.index.ensures in
     (c.requires.placed.0, omega (arith, (right object transfer passes).format, format, format_length e s), subst (λ (n : ℕ). n ≡ format_start object n) format (right object transfer passes).begins)
 
@@ -46,10 +45,10 @@ returns-then-not-whole_right c =
     let x = c.args.x in
     let h = c.requires.placed.1 in
     let object = object_at c.args.e c.args.o.now in
-    let passes = sym c.transfer_right.ensures ∙ not-false _ c.if-not-transfer_right.false-raw in
+    let passes = sym c.transfer_right.ensures ∙ c.if-not-transfer_right.false in
     let format = format_is e s x h ∙ sym c.load.ensures ∙ sym c.index.ensures in
     let words = ap (λ (n : ℕ). format_right object n (drop n object.formats)) format ∙ sym c.whole_right.ensures in
-    format_not object x passes (words ∙ not-true _ c.if-not-whole_right.true-raw)
+    format_not object x passes (words ∙ c.if-not-whole_right.true)
 
 pub load-requires-2 : goal.load-requires-2
 load-requires-2 c =
@@ -67,7 +66,7 @@ items_right-requires c =
     let h = c.requires.placed.1 in
     let object = object_at c.args.e c.args.o.now in
     let transfer = transfer_at object x in
-    let passes = sym c.transfer_right.ensures ∙ not-false _ c.if-not-transfer_right.false-raw in
+    let passes = sym c.transfer_right.ensures ∙ c.if-not-transfer_right.false in
     let first = first_is e s x h ∙ sym c.load-2.ensures ∙ sym c.index-first.ensures in
     let count = count_is e s x h ∙ sym c.load-3.ensures ∙ sym c.index-count.ensures in
     record { rule_value = c.requires.rule_value; placed = (c.requires.placed.0, omega (arith, (right object transfer passes).items, first, count, item_length_lem e s)) }
@@ -80,10 +79,10 @@ returns c =
     let h = c.requires.placed.1 in
     let object = object_at c.args.e c.args.o.now in
     let transfer = transfer_at object x in
-    let passes = sym c.transfer_right.ensures ∙ not-false _ c.if-not-transfer_right.false-raw in
+    let passes = sym c.transfer_right.ensures ∙ c.if-not-transfer_right.false in
     let format = format_is e s x h ∙ sym c.load.ensures ∙ sym c.index.ensures in
     let words = ap (λ (n : ℕ). format_right object n (drop n object.formats)) format ∙ sym c.whole_right.ensures in
     let first = first_is e s x h ∙ sym c.load-2.ensures ∙ sym c.index-first.ensures in
     let count = count_is e s x h ∙ sym c.load-3.ensures ∙ sym c.index-count.ensures in
     c.items_right.ensures ∙ ap (λ (n : ℕ). all (item_right object) (take n (drop c.index-first.result object.items))) (sym count) ∙ ap (λ (n : ℕ). all (item_right object) (take transfer.count (drop n object.items))) (sym first)
-    ∙ items_say object x passes (words ∙ not-false _ c.if-not-whole_right.false-raw)
+    ∙ items_say object x passes (words ∙ c.if-not-whole_right.false)

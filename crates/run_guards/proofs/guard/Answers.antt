@@ -1,7 +1,6 @@
 -- `run_guards::guard` meets its contract. Assumes nothing.
 use mathlib.Core.Path.{sym, ◌∙◌}
 use native.Mathlib.Omega.{arith}
-use borrow.Author.Tests.{not-true, not-false}
 use Rattle.object_contents.specs.Layout.{object_at}
 use Rattle.object_contents.proofs.Entries.{code_inside}
 use Rattle.run_guards.proofs.Guards.{word_in_table, guard_past, guard_43, guard_42, guard_room}
@@ -50,12 +49,12 @@ returns-then-not-word_right c =
     let r = c.args.r in
     let i = c.args.r.index in
     let h = c.args.r.height in
-    guard_43 e s i h c.if-e-index.false c.load-w.result c.load-w.ensures (sym c.word_right.ensures ∙ not-true _ c.if-not-word_right.true-raw)
+    guard_43 e s i h c.if-e-index.false c.load-w.result c.load-w.ensures (sym c.word_right.ensures ∙ c.if-not-word_right.true)
 
 pub entry_right-requires : goal.entry_right-requires
 entry_right-requires c =
     let pl = c.requires.placed.0 in
-    record { rule_value = c.requires.placed.1; placed = (pl, (sym c.word_right.ensures ∙ not-false _ c.if-not-word_right.false-raw)) }
+    record { rule_value = c.requires.placed.1; placed = (pl, (sym c.word_right.ensures ∙ c.if-not-word_right.false)) }
 
 pub returns-then-not-entry_right : goal.returns-then-not-entry_right
 returns-then-not-entry_right c =
@@ -64,13 +63,13 @@ returns-then-not-entry_right c =
     let r = c.args.r in
     let i = c.args.r.index in
     let h = c.args.r.height in
-    guard_42 e s i h c.if-e-index.false c.load-w.result c.load-w.ensures (sym c.word_right.ensures ∙ not-false _ c.if-not-word_right.false-raw) (sym c.entry_right.ensures ∙ not-true _ c.if-not-entry_right.true-raw)
+    guard_42 e s i h c.if-e-index.false c.load-w.result c.load-w.ensures (sym c.word_right.ensures ∙ c.if-not-word_right.false) (sym c.entry_right.ensures ∙ c.if-not-entry_right.true)
 
 pub room-requires : goal.room-requires
 room-requires c =
     let e = c.args.e in
     let s = c.args.o.now in
-    let w = (word_in_table (object_at e s) c.load-w.result (sym c.word_right.ensures ∙ not-false _ c.if-not-word_right.false-raw)).0 in
+    let w = (word_in_table (object_at e s) c.load-w.result (sym c.word_right.ensures ∙ c.if-not-word_right.false)).0 in
     (omega (arith, w, c.index.ensures, c.operation.ensures.0), c.requires.height_bound)
 
 pub returns : goal.returns
@@ -80,4 +79,4 @@ returns c =
     let r = c.args.r in
     let i = c.args.r.index in
     let h = c.args.r.height in
-    c.room.ensures ∙ guard_room e s i h c.if-e-index.false c.load-w.result c.load-w.ensures (sym c.word_right.ensures ∙ not-false _ c.if-not-word_right.false-raw) (sym c.entry_right.ensures ∙ not-false _ c.if-not-entry_right.false-raw) c.index.result (c.index.ensures ∙ c.operation.ensures.0)
+    c.room.ensures ∙ guard_room e s i h c.if-e-index.false c.load-w.result c.load-w.ensures (sym c.word_right.ensures ∙ c.if-not-word_right.false) (sym c.entry_right.ensures ∙ c.if-not-entry_right.false) c.index.result (c.index.ensures ∙ c.operation.ensures.0)

@@ -6,7 +6,6 @@ use mir.Syntax.{w64}
 use mir.Val.{SFits}
 use mir.Facts.{to_z-of_z}
 use native.Mathlib.Omega.{arith}
-use borrow.Author.Tests.{not-true, not-false}
 use Rattle.number.specs.Number.{fits}
 use Rattle.number.specs.Code.{ruled}
 use Rattle.run_lent.proofs.Lent.{fitting_none, fitting_more, not_fitting, all_fitting}
@@ -38,7 +37,7 @@ returns-then-not-fits c =
     let z = get_or l lp.i (pos 0) in
     let known : SFits w64 z = record { sfits = c.fits-arg-1.given } in
     let told = c.fits.ensures ∙ ap (fits k) (to_z-of_z {w = w64} {z = z} known) in
-    not_fitting l n k lp.i c.loop-i-test.true c.requires lp.invariant.1 _ told (not-true _ c.if-not-fits.true-raw)
+    not_fitting l n k lp.i c.loop-i-test.true c.requires lp.invariant.1 _ told c.if-not-fits.true
 
 pub overflow_add-i : goal.overflow_add-i
 overflow_add-i c =
@@ -59,7 +58,7 @@ loop-i-preserved c =
     let z = get_or l lp.i (pos 0) in
     let known : SFits w64 z = record { sfits = c.fits-arg-1.given } in
     let told = c.fits.ensures ∙ ap (fits k) (to_z-of_z {w = w64} {z = z} known) in
-    (omega (arith, lp.invariant.0, c.loop-i-test.true), fitting_more l n k lp.i c.loop-i-test.true c.requires lp.invariant.1 _ told (not-false _ c.if-not-fits.false-raw))
+    (omega (arith, lp.invariant.0, c.loop-i-test.true), fitting_more l n k lp.i c.loop-i-test.true c.requires lp.invariant.1 _ told c.if-not-fits.false)
 
 pub returns : goal.returns
 returns c =
