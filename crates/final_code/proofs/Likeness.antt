@@ -116,11 +116,11 @@ likes_after (i ∷ is) l = more (same i) (likes_after is l)
 pub emit_like : {T U : Tables} {is js : List Instr} → Alike T U → Likes is js → emit T is ≡ emit U js
 emit_like a no_more = refl
 emit_like {T} {U} a (more {i} {j} {is} {js} l ls) =
-    ap (λ (w : ℕ). w ∷ emit (tables_after T i) is) (word_like a l) ∙ ap (λ (ws : List ℕ). word_of U j ∷ ws) (emit_like (after_like a l) ls)
+    ap (λ (w : ℕ). w ∷ emit (tables_after T i) is) (word_like a l) ∙ ap (λ (ws : List ℕ). word_of U j ∷ ws) (emit_like {T = tables_after T i} {U = tables_after U j} (after_like a l) ls)
 
 pub tables_like : {T U : Tables} {is js : List Instr} → Alike T U → Likes is js → Alike (tables_of T is) (tables_of U js)
 tables_like a no_more = a
-tables_like a (more l ls) = tables_like (after_like a l) ls
+tables_like {T = T} {U = U} a (more {i = i} {j = j} l ls) = tables_like {T = tables_after T i} {U = tables_after U j} (after_like a l) ls
 
 pub emit_append : (T : Tables) (is js : List Instr) → emit T (is ++ js) ≡ emit T is ++ emit (tables_of T is) js
 emit_append T [] js = refl
