@@ -1,0 +1,7 @@
+-- `take_instructions::jump` meets its contract. Assumes nothing.
+use Rattle.take_instructions.proofs.Ends.{jumped}
+use Rattle.take_instructions.proofs.jump.Goals as goal
+
+pub returns : goal.returns
+returns c =
+    jumped c.requires.1 c.append.ensures
