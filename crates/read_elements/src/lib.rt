@@ -13,7 +13,7 @@ pub struct Addend {
     pub value: u64,
 }
 
-#[derive(Drop)]
+#[derive(Clone, Copy)]
 pub struct Subscript {
     pub times: u64,
     // `no_name` for none
@@ -22,21 +22,21 @@ pub struct Subscript {
     pub addend: u64,
 }
 
-#[derive(Drop)]
+#[derive(Clone, Copy)]
 pub struct Subscripts {
     pub count: u64,
     pub first: Subscript,
     pub second: Subscript,
 }
 
-#[derive(Drop)]
+#[derive(Clone, Copy)]
 pub struct Element {
     pub name: Name,
     pub subscripts: Subscripts,
 }
 
 // A plain cell or an element.
-#[derive(Drop)]
+#[derive(Clone, Copy)]
 pub enum Target {
     Cell(Name),
     Element(Element),

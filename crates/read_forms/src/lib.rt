@@ -13,7 +13,7 @@ use read_elements::{GotPlace, Target};
 use read_items::Got;
 use read_tokens::{Name, Sizes, Token};
 
-#[derive(Drop)]
+#[derive(Clone, Copy)]
 pub struct Assignment {
     pub target: Target,
     // words of the expression's items in the table
@@ -21,7 +21,7 @@ pub struct Assignment {
     pub sizes: Sizes,
 }
 
-#[derive(Drop)]
+#[derive(Clone, Copy)]
 pub struct Computed {
     // numbers in the table
     pub exits: usize,
@@ -29,7 +29,7 @@ pub struct Computed {
     pub sizes: Sizes,
 }
 
-#[derive(Drop)]
+#[derive(Clone, Copy)]
 pub struct If {
     pub count: usize,
     pub below: Number,
@@ -39,13 +39,13 @@ pub struct If {
 }
 
 // A constant's value, or a variable.
-#[derive(Drop)]
+#[derive(Clone, Copy)]
 pub enum Parameter {
     Constant(u64),
     Variable(Name),
 }
 
-#[derive(Drop)]
+#[derive(Clone, Copy)]
 pub struct Do {
     pub last: Number,
     pub name: Name,
@@ -56,7 +56,7 @@ pub struct Do {
     pub sizes: Sizes,
 }
 
-#[derive(Drop)]
+#[derive(Clone, Copy)]
 pub struct Dimension {
     // arrays in the table, seven words each
     pub arrays: usize,
@@ -64,7 +64,7 @@ pub struct Dimension {
 }
 
 // Bad is refused 10.
-#[derive(Drop)]
+#[derive(Clone, Copy)]
 pub enum Statement {
     Assign(Assignment),
     GoTo(Number),

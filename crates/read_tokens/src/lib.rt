@@ -9,7 +9,7 @@ ghost use Rattle.read_tokens.specs.Sizes.{sizes_of, both, constant_sizes, name_s
 ghost use Rattle.read_tokens.specs.Reading.{ReadsNumber, ReadsName};
 
 // What 11, 12 and 14 are tested on.
-#[derive(Drop)]
+#[derive(Clone, Copy)]
 pub struct Sizes {
     pub name: usize,
     // 1 where a name starts with another letter than I to N
@@ -22,7 +22,7 @@ pub struct Sizes {
 pub const NAME_WORDS: usize = 4;
 
 // A name of at most thirty-two bytes, blank-filled: eight bytes in a word, the first of them highest.
-#[derive(Drop)]
+#[derive(Clone, Copy)]
 pub struct Name(pub u64, pub u64, pub u64, pub u64);
 
 // The byte at a place, and 0, which no form has, past the end.
