@@ -5,6 +5,7 @@ use Rattle.object_contents.specs.declared.Layout.{Layout}
 use Rattle.rules_object.specs.Object.{Object}
 use Rattle.check_entries.specs.Judge.{count_of, passes}
 use Rattle.check_entries.proofs.Firsts.{other_kind}
+use native.Mathlib.Omega.{arith}
 use Rattle.check_entries.proofs.entry_passes.Goals as goal
 
 within : (e : Layout) (i kind k : ℕ) → kind ≡ k → i < count_of e kind → i < count_of e k
@@ -85,5 +86,4 @@ returns-in-10 c =
 
 pub returns-in_default : goal.returns-in_default
 returns-in_default c =
-    let n = c.in_default.in_default-own.rest in
-    other_kind _ _ _ n.0.0.0.0.0.0.1 n.0.0.0.0.0.1 n.0.0.0.0.1 n.0.0.0.1 n.0.0.1 n.0.1 n.1
+    other_kind _ _ _ (omega arith) (omega arith) (omega arith) (omega arith) (omega arith) (omega arith) (omega arith)

@@ -4,6 +4,7 @@ use Prim.Native.Nat.{ℕ}
 use Rattle.rules_object.specs.Check.{right_field}
 use Rattle.rules_formats.specs.Words.{word_kind, word_operand}
 use Rattle.check_formats.proofs.Words.{number_field, skip_field, character_field, slash_field, no_field}
+use native.Mathlib.Omega.{arith}
 use Rattle.check_formats.proofs.field_right.Goals as goal
 
 -- of the word's own kind and operand
@@ -43,5 +44,4 @@ returns-in_default c =
     let k = c.operation-kind.result in
     let n = c.operand-n.result in
     let same = said k n c.args.w c.operation-kind.ensures.0 c.operand-n.ensures.0 in
-    let other = c.in_default.in_default-own.rest in
-    no_field k n other.0.0.0.1 other.0.0.1 other.0.1 other.1 ∙ same
+    no_field k n (omega arith) (omega arith) (omega arith) (omega arith) ∙ same

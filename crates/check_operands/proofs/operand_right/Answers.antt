@@ -104,6 +104,5 @@ returns-in-17 c =
 
 pub returns-in_default : goal.returns-in_default
 returns-in_default c =
-    let n = c.in_default.in_default-own.rest in
     let op = c.args.operation in
-    no_operation _ op _ (above op 17 (above op 16 (above op 15 (above op 14 (above op 13 (above op 12 (above op 11 (above op 10 (above op 9 (above op 8 (above op 7 (above op 6 (above op 5 (above op 4 (above op 3 (above op 2 (above op 1 (above op 0 (omega arith) n.0.0.0.0.0.0.0.0.0.0.0.0.0.0.0.0.0.1) n.0.0.0.0.0.0.0.0.0.0.0.0.0.0.0.0.1) n.0.0.0.0.0.0.0.0.0.0.0.0.0.0.0.1) n.0.0.0.0.0.0.0.0.0.0.0.0.0.0.1) n.0.0.0.0.0.0.0.0.0.0.0.0.0.1) n.0.0.0.0.0.0.0.0.0.0.0.0.1) n.0.0.0.0.0.0.0.0.0.0.0.1) n.0.0.0.0.0.0.0.0.0.0.1) n.0.0.0.0.0.0.0.0.0.1) n.0.0.0.0.0.0.0.0.1) n.0.0.0.0.0.0.0.1) n.0.0.0.0.0.0.1) n.0.0.0.0.0.1) n.0.0.0.0.1) n.0.0.0.1) n.0.0.1) n.0.1) n.1)
+    no_operation _ op _ (above op 17 (above op 16 (above op 15 (above op 14 (above op 13 (above op 12 (above op 11 (above op 10 (above op 9 (above op 8 (above op 7 (above op 6 (above op 5 (above op 4 (above op 3 (above op 2 (above op 1 (above op 0 (omega arith) (omega arith)) (omega arith)) (omega arith)) (omega arith)) (omega arith)) (omega arith)) (omega arith)) (omega arith)) (omega arith)) (omega arith)) (omega arith)) (omega arith)) (omega arith)) (omega arith)) (omega arith)) (omega arith)) (omega arith)) (omega arith))

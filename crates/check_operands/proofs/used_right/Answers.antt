@@ -9,6 +9,7 @@ use Rattle.rules_object.specs.Object.{Object}
 use Rattle.check_operands.specs.Operands.{entry_right_at}
 use Rattle.check_operands.proofs.Exits.{right_at}
 use Rattle.check_operands.proofs.Tests.{constant_in, element_in_lem, do_in, transfer_in, no_use}
+use native.Mathlib.Omega.{arith}
 use Rattle.check_operands.proofs.used_right.Goals as goal
 
 right : (e : Layout) (o : List ℕ) (x operation k : ℕ) → operation ≡ k → right_at e o x operation ≡ true → right_at e o x k ≡ true
@@ -82,5 +83,4 @@ returns-in-17 c =
 
 pub returns-in_default : goal.returns-in_default
 returns-in_default c =
-    let n = c.in_default.in_default-own.rest in
-    no_use _ _ _ n.0.0.0.0.0.0.1 n.0.0.0.0.0.1 n.0.0.0.0.1 n.0.0.0.1 n.0.0.1 n.0.1 n.1
+    no_use _ _ _ (omega arith) (omega arith) (omega arith) (omega arith) (omega arith) (omega arith) (omega arith)

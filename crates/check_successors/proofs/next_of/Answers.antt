@@ -138,5 +138,4 @@ returns-in_default c =
     let a = c.args.a in
     let k = c.args.k in
     let l = c.requires.a_bound.1 in
-    let n = c.in_default.in_default-own.rest in
-    next_else o op x r a k l n.0.0.0.1 n.0.0.1 n.0.1 n.1
+    next_else o op x r a k l (omega arith) (omega arith) (omega arith) (omega arith)

@@ -52,5 +52,4 @@ returns-in_default c =
     let op = c.args.operation in
     let x = c.args.x in
     let r = c.requires.1 in
-    let n = c.in_default.in_default-own.rest in
-    width_else o op x r n.0.0.0.1 n.0.0.1 n.0.1 n.1
+    width_else o op x r (omega arith) (omega arith) (omega arith) (omega arith)

@@ -9,6 +9,7 @@ use native.Mathlib.Omega.{arith}
 use Rattle.number.specs.Number.{fits}
 use Rattle.number.specs.Code.{ruled}
 use Rattle.run_lent.proofs.Lent.{fitting_none, fitting_more, not_fitting, all_fitting}
+use borrow.Author.Rules.{rules}
 use Rattle.run_lent.proofs.fit.Goals as goal
 
 pub loop-i-init : goal.loop-i-init
@@ -35,7 +36,7 @@ returns-then-not-fits c =
     let k = ruled c.args.rule in
     let lp = c.loop-i in
     let z = get_or l lp.i (pos 0) in
-    let known : SFits w64 z = record { sfits = c.fits-arg-1.given } in
+    let known : SFits w64 z = record { sfits = search rules } in
     let told = c.fits.ensures ∙ ap (fits k) (to_z-of_z {w = w64} {z = z} known) in
     not_fitting l n k lp.i c.loop-i-test.true c.requires lp.invariant.1 _ told c.if-not-fits.true
 
@@ -56,7 +57,7 @@ loop-i-preserved c =
     let k = ruled c.args.rule in
     let lp = c.loop-i in
     let z = get_or l lp.i (pos 0) in
-    let known : SFits w64 z = record { sfits = c.fits-arg-1.given } in
+    let known : SFits w64 z = record { sfits = search rules } in
     let told = c.fits.ensures ∙ ap (fits k) (to_z-of_z {w = w64} {z = z} known) in
     (omega (arith, lp.invariant.0, c.loop-i-test.true), fitting_more l n k lp.i c.loop-i-test.true c.requires lp.invariant.1 _ told c.if-not-fits.false)
 

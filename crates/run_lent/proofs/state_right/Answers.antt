@@ -5,7 +5,6 @@ use Prim.Native.Nat.{ℕ}
 use native.Mathlib.Omega.{arith}
 use lib.Dec.{leb}
 use lib.ListN.{get_or, take}
-use borrow.Author.Tests.{not-true, not-false}
 use Rattle.run_lent.proofs.Lent.{fit_same, outside, too_high, other_height, at_height}
 use Rattle.run_lent.proofs.state_right.Goals as goal
 
@@ -54,7 +53,7 @@ returns-then-not-fit c =
     let places = c.args.places.now in
     let same : c.index-i.result ≡ i = c.index-i.ensures in
     let height = c.wide-h.ensures ∙ ap (λ (k : ℕ). get_or table k 0) same in
-    λ s q. sym (at_height e s table i h m places (omega (arith, same, c.if-e-i.false)) (omega (arith, height, c.if-h-gt-HIGHEST.false)) (c.if-height-h.false ∙ height) _ _ c.index.ensures (fit_same (take c.index.result places) c.fit.ensures q) ∙ ap (λ (b : Bool). b && leb m e.code_count) (not-true c.fit.result c.if-not-fit.true-raw))
+    λ s q. sym (at_height e s table i h m places (omega (arith, same, c.if-e-i.false)) (omega (arith, height, c.if-h-gt-HIGHEST.false)) (c.if-height-h.false ∙ height) _ _ c.index.ensures (fit_same (take c.index.result places) c.fit.ensures q) ∙ ap (λ (b : Bool). b && leb m e.code_count) c.if-not-fit.true)
 
 pub returns : goal.returns
 returns c =
@@ -66,4 +65,4 @@ returns c =
     let places = c.args.places.now in
     let same : c.index-i.result ≡ i = c.index-i.ensures in
     let height = c.wide-h.ensures ∙ ap (λ (k : ℕ). get_or table k 0) same in
-    λ s q. ap (λ (k : ℕ). leb k e.code_count) c.index-2.ensures ∙ sym (at_height e s table i h m places (omega (arith, same, c.if-e-i.false)) (omega (arith, height, c.if-h-gt-HIGHEST.false)) (c.if-height-h.false ∙ height) _ _ c.index.ensures (fit_same (take c.index.result places) c.fit.ensures q) ∙ ap (λ (b : Bool). b && leb m e.code_count) (not-false c.fit.result c.if-not-fit.false-raw))
+    λ s q. ap (λ (k : ℕ). leb k e.code_count) c.index-2.ensures ∙ sym (at_height e s table i h m places (omega (arith, same, c.if-e-i.false)) (omega (arith, height, c.if-h-gt-HIGHEST.false)) (c.if-height-h.false ∙ height) _ _ c.index.ensures (fit_same (take c.index.result places) c.fit.ensures q) ∙ ap (λ (b : Bool). b && leb m e.code_count) c.if-not-fit.false)
