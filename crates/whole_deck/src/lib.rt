@@ -17,7 +17,7 @@ use read_cards::{Number, Sequence};
 use whole_numbers::Found;
 use whole_tables::Loops;
 
-#[derive(Drop)]
+#[derive(Clone, Copy)]
 pub enum Verdict {
     Right,
     // The place is a statement's sequence number; 0 for a deck of no statement.
