@@ -11,7 +11,7 @@ use read_elements::Target;
 use read_forms::{Do, Parameter, Statement};
 use take_kinds::{ASSIGNMENT, COMPUTED, CONTINUE, DIMENSION, DO, END, GO_TO, IF, NO_FORM, STOP};
 
-#[derive(Drop)]
+#[derive(Clone, Copy)]
 pub struct Plan {
     // one of `kinds`
     pub kind: u64,
