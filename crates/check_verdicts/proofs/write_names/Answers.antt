@@ -10,8 +10,7 @@ pub returns-then-output-n : goal.returns-then-output-n
 returns-then-output-n c =
     let s = c.args.object.now in
     let e = c.args.e in
-    let known = c.shared_slice_known-1.given in
-    let bytes : (i : ℕ) → get_or s i 0 < 256 = λ i. (omega (arith, known i)) in
+    let bytes : (i : ℕ) → get_or s i 0 < 256 = λ i. (omega (arith, c.type_inv.object i)) in
     let placed = c.requires.0 in
     too_short e s bytes placed _ c.if-output-n.true
 
@@ -19,7 +18,6 @@ pub returns : goal.returns
 returns c =
     let s = c.args.object.now in
     let e = c.args.e in
-    let known = c.shared_slice_known-1.given in
-    let bytes : (i : ℕ) → get_or s i 0 < 256 = λ i. (omega (arith, known i)) in
+    let bytes : (i : ℕ) → get_or s i 0 < 256 = λ i. (omega (arith, c.type_inv.object i)) in
     let placed = c.requires.0 in
     written e s bytes placed _ _ _ refl c.if-output-n.false c.copy.ensures
