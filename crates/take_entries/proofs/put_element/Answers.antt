@@ -1,0 +1,7 @@
+-- `take_entries::put_element` meets its contract. Assumes nothing.
+use Rattle.take_entries.proofs.Entered.{entered}
+use Rattle.take_entries.proofs.put_element.Goals as goal
+
+pub returns : goal.returns
+returns c =
+    entered c.args.table.now c.args.count c.args.n c.array_of-array.ensures c.width-columns.ensures c.linear_of-first.ensures c.second_of-second.ensures c.put_entry.ensures
