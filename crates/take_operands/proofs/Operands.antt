@@ -18,7 +18,7 @@ use Rattle.read_elements.specs.declared.Target.{Target}
 use Rattle.read_elements.specs.Values.{subscripts_value, target_value}
 use Rattle.take_draft.specs.declared.Counts.{Counts}
 use Rattle.take_draft.specs.Counts.{with_constants, with_elements}
-use Rattle.take_draft.specs.Parts.{Item, place, item_names, item_constants, item_plain, item_references}
+use Rattle.take_draft.specs.Parts.{Item, item_names, item_constants, item_plain, item_references}
 use Rattle.take_draft.specs.Names.{dims_held, Exact, Known}
 use Rattle.take_draft.specs.Kept.{Tabled, Fit}
 use Rattle.take_name_table.specs.Lookups.{CellOf}

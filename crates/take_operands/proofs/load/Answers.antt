@@ -1,0 +1,7 @@
+-- `take_operands::load` meets its contract. Assumes nothing.
+use Rattle.take_operands.proofs.Operands.{loaded}
+use Rattle.take_operands.proofs.load.Goals as goal
+
+pub returns : goal.returns
+returns c =
+    loaded c.requires.1.1 c.cell_of-cell.ensures c.append.ensures
