@@ -1,6 +1,5 @@
 -- `final_addresses::ending` meets its contract: the count is of the DOs passed. Assumes nothing.
 use mathlib.Core.Path.{◌≡◌, sym, ap, ◌∙◌}
-use mathlib.Core.Logic.{⊎_elim}
 use native.Mathlib.Omega.{arith}
 use Prim.Native.Nat.{ℕ}
 use lib.ListN.{length}
@@ -8,6 +7,7 @@ use Rattle.final_addresses.specs.Ends.{ends_at}
 use Rattle.final_addresses.proofs.Ends.{ends_most, ends_one, ends_same}
 use borrow.Author.Rules.{rules}
 use Rattle.final_addresses.proofs.ending.Goals as goal
+use Rattle.final_addresses.proofs.ending.Goals.{then-last-i, else-last-i}
 
 pub last-requires : goal.last-requires
 last-requires c =
@@ -25,10 +25,7 @@ loop-d-preserved c =
     let d = c.loop-d.d in
     let same = c.last.ensures in (
       search rules,
-      ⊎_elim
-          (λ w. let e = ends_one l j i d (sym same ∙ w.if-last-i.true) in omega (arith, ap length e, w.count-is, c.loop-d.invariant.1))
-          (λ w. let e = ends_same l j i d (λ h. w.if-last-i.false (same ∙ h)) in omega (arith, ap length e, w.count-is, c.loop-d.invariant.1))
-          c.if-last-i.branch-raw,
+      elim c.if-last-i.branch [ then-last-i w ↦ let e = ends_one l j i d (sym same ∙ w.if-last-i.true) in omega (arith, ap length e, w.count-is, c.loop-d.invariant.1) | else-last-i w ↦ let e = ends_same l j i d (λ h. w.if-last-i.false (same ∙ h)) in omega (arith, ap length e, w.count-is, c.loop-d.invariant.1) ],
     )
 
 pub returns : goal.returns

@@ -4,7 +4,6 @@ use mathlib.Core.Bool.{Bool, cond}
 use mathlib.Core.Option.{none}
 use native.Mathlib.Omega.{arith}
 use lib.ListN.{get_or}
-use borrow.Author.Tests.{not-true, not-false}
 use Rattle.rules_program.specs.Program.{first_column}
 use Rattle.print_control_card.proofs.CardLaws.{control_short, control_is}
 use Rattle.print_control_card.proofs.control.Goals as goal
@@ -18,11 +17,11 @@ returns-then-not-blank_after_first c =
     let s = c.args.input.now in
     let b = c.blank_after_first.result in
     let is = control_is s c.if-input-lt-CARD.false b c.blank_after_first.ensures in
-    (is ∙ ap (λ (x : Bool). cond x (first_column (get_or s 0 0)) none) (not-true b c.if-not-blank_after_first.true-raw), λ h. c.if-input-lt-CARD.false)
+    (is ∙ ap (λ (x : Bool). cond x (first_column (get_or s 0 0)) none) (c.if-not-blank_after_first.true), λ h. c.if-input-lt-CARD.false)
 
 pub returns : goal.returns
 returns c =
     let s = c.args.input.now in
     let b = c.blank_after_first.result in
     let is = control_is s c.if-input-lt-CARD.false b c.blank_after_first.ensures in
-    (is ∙ ap (λ (x : Bool). cond x (first_column (get_or s 0 0)) none) (not-false b c.if-not-blank_after_first.false-raw) ∙ c.first_column.ensures, λ h. c.if-input-lt-CARD.false)
+    (is ∙ ap (λ (x : Bool). cond x (first_column (get_or s 0 0)) none) (c.if-not-blank_after_first.false) ∙ c.first_column.ensures, λ h. c.if-input-lt-CARD.false)

@@ -1,8 +1,8 @@
 -- `print_lines::put_name` meets its contract. Assumes nothing.
-use mathlib.Core.Logic.{⊎_elim}
 use native.Mathlib.Omega.{arith}
 use Rattle.print_lines.proofs.Going.{naming_start, naming_end, naming_room, naming_blank, naming_solid}
 use Rattle.print_lines.proofs.put_name.Goals as goal
+use Rattle.print_lines.proofs.put_name.Goals.{then-c-ne32, else-c-ne32}
 
 pub loop-i-init : goal.loop-i-init
 loop-i-init c =
@@ -47,10 +47,7 @@ loop-i-preserved c =
     let o = c.args.out.now in
     let lp = c.loop-i in
     let h = c.loop-i-test.true in
-    ⊎_elim
-    (λ t. naming_solid s f l at o lp.out lp.n lp.i lp.invariant h _ _ t.if-c-ne32.true t.out-is t.n-is)
-    (λ t. naming_blank s f l at o lp.out lp.n lp.i lp.invariant h _ _ t.if-c-ne32.false t.out-is t.n-is)
-    c.if-c-ne32.branch-raw
+    elim c.if-c-ne32.branch [ then-c-ne32 t ↦ naming_solid s f l at o lp.out lp.n lp.i lp.invariant h _ _ t.if-c-ne32.true t.out-is t.n-is | else-c-ne32 t ↦ naming_blank s f l at o lp.out lp.n lp.i lp.invariant h _ _ t.if-c-ne32.false t.out-is t.n-is ]
 
 pub shape_of-out : goal.shape_of-out
 shape_of-out c =

@@ -3,7 +3,6 @@ use mathlib.Core.Path.{sym, ap, ◌∙◌}
 use Prim.Native.Nat.{suc}
 use native.Mathlib.Omega.{arith}
 use mathlib.Core.Option.{some}
-use borrow.Author.Tests.{not-true, not-false}
 use Rattle.whole_numbers.specs.Numbers.{found_of, end_right}
 use Rattle.whole_numbers.proofs.Tests.{first_starts, first_more, first_stops, first_ends}
 use Rattle.whole_numbers.proofs.first_early_end.Goals as goal
@@ -21,7 +20,7 @@ returns-then-not-end_right c =
     let test = end_right c.args.rows.now n in
     let q = c.loop-q.q in
     let inv = c.loop-q.invariant in
-    ap some c.sequence_of.ensures ∙ sym (inv.1 ∙ first_stops test suc n q c.loop-q-test.true (sym c.end_right.ensures ∙ not-true _ c.if-not-end_right.true-raw))
+    ap some c.sequence_of.ensures ∙ sym (inv.1 ∙ first_stops test suc n q c.loop-q-test.true (sym c.end_right.ensures ∙ c.if-not-end_right.true))
 
 pub loop-q-preserved : goal.loop-q-preserved
 loop-q-preserved c =
@@ -29,7 +28,7 @@ loop-q-preserved c =
     let test = end_right c.args.rows.now n in
     let q = c.loop-q.q in
     let inv = c.loop-q.invariant in
-    (omega arith, inv.1 ∙ first_more test suc n q c.loop-q-test.true (sym c.end_right.ensures ∙ not-false _ c.if-not-end_right.false-raw))
+    (omega arith, inv.1 ∙ first_more test suc n q c.loop-q-test.true (sym c.end_right.ensures ∙ c.if-not-end_right.false))
 
 pub returns : goal.returns
 unfolding found_of

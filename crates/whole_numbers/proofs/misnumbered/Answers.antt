@@ -1,14 +1,13 @@
 -- `whole_numbers::misnumbered` meets its contract. Assumes nothing.
 use mathlib.Core.Path.{sym, ap, ◌∙◌}
-use mathlib.Core.Logic.{⊎_elim}
 use Prim.Native.Nat.{suc}
 use native.Mathlib.Omega.{arith}
 use mathlib.Core.Option.{some}
-use borrow.Author.Tests.{not-true, not-false}
 use Rattle.whole_numbers.specs.Numbers.{found_of, number_right}
 use Rattle.whole_numbers.proofs.Tests.{first_starts, first_more, first_stops, first_ends}
 use Rattle.whole_numbers.proofs.Own.{unnumbered, numbered}
 use Rattle.whole_numbers.proofs.misnumbered.Goals as goal
+use Rattle.whole_numbers.proofs.misnumbered.Goals.{then-number-ne0+else-not-own_right, else-number-ne0}
 
 pub loop-q-init : goal.loop-q-init
 loop-q-init c =
@@ -28,7 +27,7 @@ returns-then-not-own_right c =
     let q = c.loop-q.q in
     let inv = c.loop-q.invariant in
     let told = numbered R N n q c.if-number-ne0.true c.place_of-first.result c.place_of-first.ensures _ _ c.sequence_of-here.ensures c.kind_of.ensures _ c.own_right.ensures in
-    ap some c.sequence_of-here.ensures ∙ sym (inv.1 ∙ first_stops test suc n q c.loop-q-test.true (told ∙ not-true _ c.if-not-own_right.true-raw))
+    ap some c.sequence_of-here.ensures ∙ sym (inv.1 ∙ first_stops test suc n q c.loop-q-test.true (told ∙ c.if-not-own_right.true))
 
 pub loop-q-preserved : goal.loop-q-preserved
 loop-q-preserved c =
@@ -38,13 +37,7 @@ loop-q-preserved c =
     let test = number_right R N n in
     let q = c.loop-q.q in
     let inv = c.loop-q.invariant in
-    let right =
-    ⊎_elim
-    (λ w. numbered R N n q w.if-number-ne0.true w.place_of-first.result w.place_of-first.ensures _ _ w.sequence_of-here.ensures w.kind_of.ensures _ w.own_right.ensures ∙ not-false _ w.if-not-own_right.false-raw)
-    (λ w. unnumbered R N n q w.if-number-ne0.false)
-    c.if-number-ne0.branch-raw
-    in
-    (omega arith, inv.1 ∙ first_more test suc n q c.loop-q-test.true right)
+    (omega arith, inv.1 ∙ first_more test suc n q c.loop-q-test.true (elim c.if-number-ne0.branch [ then-number-ne0+else-not-own_right w ↦ numbered R N n q w.if-number-ne0.true w.place_of-first.result w.place_of-first.ensures _ _ w.sequence_of-here.ensures w.kind_of.ensures _ w.own_right.ensures ∙ w.if-not-own_right.false | else-number-ne0 w ↦ unnumbered R N n q w.if-number-ne0.false ]))
 
 pub returns : goal.returns
 unfolding found_of

@@ -1,7 +1,6 @@
 -- `whole_ranges::crosses_none` meets its contract. Assumes nothing.
 use mathlib.Core.Path.{sym, ◌∙◌}
 use native.Mathlib.Omega.{arith}
-use borrow.Author.Tests.{not-true, not-false}
 use Rattle.whole_numbers.proofs.Tests.{all_left, all_more, all_stops, all_ends}
 use Rattle.whole_ranges.specs.Ranges.{apart}
 use Rattle.whole_ranges.proofs.crosses_none.Goals as goal
@@ -20,7 +19,7 @@ returns-then-not-is_apart c =
     let n = D.count in
     let i = c.loop-k.k in
     let inv = c.loop-k.invariant in
-    sym (inv.1 ∙ all_stops test n i c.loop-k-test.true (sym c.is_apart.ensures ∙ not-true _ c.if-not-is_apart.true-raw))
+    sym (inv.1 ∙ all_stops test n i c.loop-k-test.true (sym c.is_apart.ensures ∙ c.if-not-is_apart.true))
 
 pub loop-k-preserved : goal.loop-k-preserved
 unfolding apart
@@ -30,7 +29,7 @@ loop-k-preserved c =
     let n = D.count in
     let i = c.loop-k.k in
     let inv = c.loop-k.invariant in
-    (omega arith, inv.1 ∙ all_more test n i c.loop-k-test.true (sym c.is_apart.ensures ∙ not-false _ c.if-not-is_apart.false-raw))
+    (omega arith, inv.1 ∙ all_more test n i c.loop-k-test.true (sym c.is_apart.ensures ∙ c.if-not-is_apart.false))
 
 pub returns : goal.returns
 returns c =

@@ -2,7 +2,6 @@
 use mathlib.Core.Path.{sym, ◌∙◌}
 use Prim.Native.Nat.{ℕ}
 use native.Mathlib.Omega.{arith}
-use borrow.Author.Tests.{not-true, not-false}
 use Rattle.whole_numbers.proofs.Tests.{all_left, all_more, all_stops, all_ends}
 use mathlib.Core.Bool.{Bool}
 use Rattle.whole_ranges.specs.Ranges.{do_at, last_at, set_right}
@@ -31,7 +30,7 @@ returns-then-not-leaves_be c =
     let n = D.count in
     let i = c.loop-i.i in
     let inv = c.loop-i.invariant in
-    sym (inv.1 ∙ all_stops test n i c.loop-i-test.true (sym c.leaves_be.ensures ∙ not-true _ c.if-not-leaves_be.true-raw))
+    sym (inv.1 ∙ all_stops test n i c.loop-i-test.true (sym c.leaves_be.ensures ∙ c.if-not-leaves_be.true))
 
 pub loop-i-preserved : goal.loop-i-preserved
 unfolding set_right
@@ -41,7 +40,7 @@ loop-i-preserved c =
     let n = D.count in
     let i = c.loop-i.i in
     let inv = c.loop-i.invariant in
-    (omega arith, inv.1 ∙ all_more test n i c.loop-i-test.true (sym c.leaves_be.ensures ∙ not-false _ c.if-not-leaves_be.false-raw))
+    (omega arith, inv.1 ∙ all_more test n i c.loop-i-test.true (sym c.leaves_be.ensures ∙ c.if-not-leaves_be.false))
 
 pub returns : goal.returns
 unfolding set_right

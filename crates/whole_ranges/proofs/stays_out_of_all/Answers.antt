@@ -1,7 +1,6 @@
 -- `whole_ranges::stays_out_of_all` meets its contract. Assumes nothing.
 use mathlib.Core.Path.{sym, ◌∙◌}
 use native.Mathlib.Omega.{arith}
-use borrow.Author.Tests.{not-true, not-false}
 use Rattle.whole_numbers.proofs.Tests.{all_left, all_more, all_stops, all_ends}
 use Rattle.whole_ranges.specs.Ranges.{stays_out}
 use Rattle.whole_ranges.proofs.stays_out_of_all.Goals as goal
@@ -20,7 +19,7 @@ returns-then-not-stays_out c =
     let n = D.count in
     let i = c.loop-i.i in
     let inv = c.loop-i.invariant in
-    sym (inv.1 ∙ all_stops test n i c.loop-i-test.true (sym c.stays_out.ensures ∙ not-true _ c.if-not-stays_out.true-raw))
+    sym (inv.1 ∙ all_stops test n i c.loop-i-test.true (sym c.stays_out.ensures ∙ c.if-not-stays_out.true))
 
 pub loop-i-preserved : goal.loop-i-preserved
 unfolding stays_out
@@ -30,7 +29,7 @@ loop-i-preserved c =
     let n = D.count in
     let i = c.loop-i.i in
     let inv = c.loop-i.invariant in
-    (omega arith, inv.1 ∙ all_more test n i c.loop-i-test.true (sym c.stays_out.ensures ∙ not-false _ c.if-not-stays_out.false-raw))
+    (omega arith, inv.1 ∙ all_more test n i c.loop-i-test.true (sym c.stays_out.ensures ∙ c.if-not-stays_out.false))
 
 pub returns : goal.returns
 returns c =

@@ -1,7 +1,6 @@
 -- `whole_ranges::wrong_do` meets its contract. Assumes nothing.
 use mathlib.Core.Path.{sym, ◌∙◌}
 use native.Mathlib.Omega.{arith}
-use borrow.Author.Tests.{not-true, not-false}
 use Rattle.whole_numbers.specs.Numbers.{found_of}
 use Rattle.whole_numbers.proofs.Tests.{first_starts, first_more, first_stops, first_ends}
 use Rattle.whole_ranges.specs.Ranges.{do_at, do_right}
@@ -22,7 +21,7 @@ returns-then-not-do_right c =
     let test = do_right c.args.rows.now D in
     let i = c.loop-i.i in
     let inv = c.loop-i.invariant in
-    sym (inv.1 ∙ first_stops test (do_at D) n i c.loop-i-test.true (sym c.do_right.ensures ∙ not-true _ c.if-not-do_right.true-raw))
+    sym (inv.1 ∙ first_stops test (do_at D) n i c.loop-i-test.true (sym c.do_right.ensures ∙ c.if-not-do_right.true))
 
 pub loop-i-preserved : goal.loop-i-preserved
 loop-i-preserved c =
@@ -31,7 +30,7 @@ loop-i-preserved c =
     let test = do_right c.args.rows.now D in
     let i = c.loop-i.i in
     let inv = c.loop-i.invariant in
-    (omega arith, inv.1 ∙ first_more test (do_at D) n i c.loop-i-test.true (sym c.do_right.ensures ∙ not-false _ c.if-not-do_right.false-raw))
+    (omega arith, inv.1 ∙ first_more test (do_at D) n i c.loop-i-test.true (sym c.do_right.ensures ∙ c.if-not-do_right.false))
 
 pub returns : goal.returns
 unfolding found_of

@@ -3,7 +3,6 @@ use mathlib.Core.Path.{refl, sym, ap, ◌∙◌}
 use Prim.Native.Nat.{suc}
 use native.Mathlib.Omega.{arith}
 use mathlib.Core.Option.{some}
-use borrow.Author.Tests.{not-true, not-false}
 use Rattle.whole_numbers.specs.Numbers.{found_of}
 use Rattle.whole_numbers.proofs.Tests.{first_starts, first_more, first_stops, first_ends, all_more, all_stops, all_ends}
 use Rattle.whole_numbers.proofs.Starts.{jumps_inside, start_on}
@@ -76,7 +75,7 @@ returns-then-not-stays_out_of_all c =
     let told = jumps_told R D P q at c.exits_of.result c.sequence_of-here.result.0 inv.1.0 c.exits_of.ensures c.sequence_of-here.ensures in
     let k = c.loop-k.k in
     let turn = c.loop-k.invariant in
-    let wrong = sym told ∙ turn.1.1 ∙ all_stops stays _ k c.loop-k-test.true (sym c.stays_out_of_all.ensures ∙ not-true _ c.if-not-stays_out_of_all.true-raw) in
+    let wrong = sym told ∙ turn.1.1 ∙ all_stops stays _ k c.loop-k-test.true (sym c.stays_out_of_all.ensures ∙ c.if-not-stays_out_of_all.true) in
     ap some c.sequence_of-here.ensures ∙ sym (inv.1.1 ∙ first_stops test suc n q c.loop-q-test.true wrong)
 
 pub overflow_add-k : goal.overflow_add-k
@@ -99,7 +98,7 @@ loop-k-preserved c =
     let stays = jump_stays D P c.sequence_of-here.result.0 in
     let k = c.loop-k.k in
     let turn = c.loop-k.invariant in
-    (omega (arith, turn.0), (omega (arith, c.loop-k-test.true), turn.1.1 ∙ all_more stays _ k c.loop-k-test.true (sym c.stays_out_of_all.ensures ∙ not-false _ c.if-not-stays_out_of_all.false-raw)))
+    (omega (arith, turn.0), (omega (arith, c.loop-k-test.true), turn.1.1 ∙ all_more stays _ k c.loop-k-test.true (sym c.stays_out_of_all.ensures ∙ c.if-not-stays_out_of_all.false)))
 
 pub overflow_add-at : goal.overflow_add-at
 overflow_add-at c =

@@ -4,7 +4,6 @@ use Prim.Native.Nat.{ℕ, suc}
 use native.Mathlib.Omega.{arith}
 use mathlib.Core.Bool.{Bool}
 use mathlib.Core.Option.{some}
-use borrow.Author.Tests.{not-true, not-false}
 use Rattle.whole_numbers.specs.Numbers.{found_of}
 use Rattle.whole_numbers.proofs.Tests.{first_starts, first_more, first_stops, first_ends}
 use Rattle.whole_ranges.specs.Ranges.{set_right}
@@ -32,7 +31,7 @@ returns-then-not-set_right c =
     let q = c.loop-q.q in
     let inv = c.loop-q.invariant in
     let right = c.set_right.ensures ∙ ap (set_right R D) c.sequence_of-here.ensures in
-    ap some c.sequence_of-here.ensures ∙ sym (inv.1 ∙ first_stops test suc n q c.loop-q-test.true (sym right ∙ not-true _ c.if-not-set_right.true-raw))
+    ap some c.sequence_of-here.ensures ∙ sym (inv.1 ∙ first_stops test suc n q c.loop-q-test.true (sym right ∙ c.if-not-set_right.true))
 
 pub loop-q-preserved : goal.loop-q-preserved
 loop-q-preserved c =
@@ -43,7 +42,7 @@ loop-q-preserved c =
     let q = c.loop-q.q in
     let inv = c.loop-q.invariant in
     let right = c.set_right.ensures ∙ ap (set_right R D) c.sequence_of-here.ensures in
-    (omega arith, inv.1 ∙ first_more test suc n q c.loop-q-test.true (sym right ∙ not-false _ c.if-not-set_right.false-raw))
+    (omega arith, inv.1 ∙ first_more test suc n q c.loop-q-test.true (sym right ∙ c.if-not-set_right.false))
 
 pub returns : goal.returns
 unfolding found_of
