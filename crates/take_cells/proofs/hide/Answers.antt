@@ -1,0 +1,11 @@
+-- `take_cells::hide` meets its contract. Assumes nothing.
+use Rattle.take_cells.proofs.Both.{no_hiding, hiding}
+use Rattle.take_cells.proofs.hide.Goals as goal
+
+pub returns-then-cells-gt4094 : goal.returns-then-cells-gt4094
+returns-then-cells-gt4094 c =
+    no_hiding c.if-cells-gt4094.true
+
+pub returns : goal.returns
+returns c =
+    hiding c.requires.0 c.if-cells-gt4094.false
