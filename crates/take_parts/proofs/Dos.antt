@@ -32,7 +32,7 @@ use Rattle.take_marks.specs.Marks.{cell_name}
 use Rattle.take_code.specs.Endings.{does_of}
 use Rattle.take_code.proofs.Ends.{does_do, of_kind_lem}
 use Rattle.take_parts.specs.Steps.{Counted, Entered, Enters}
-use Rattle.take_parts.proofs.Hidden.{appear_fresh, limit_last}
+use Rattle.take_parts.proofs.HiddenCells.{appear_fresh, limit_last}
 
 -- ---- the counts
 

@@ -1,4 +1,4 @@
 pub mod Filling
 pub mod Dos
-pub mod Hidden
+pub mod HiddenCells
 pub mod Marking
