@@ -21,7 +21,7 @@ use Rattle.take_draft.specs.Draft.{Draft, no_draft, draft_of}
 use Rattle.take_draft.specs.Kept.{Words, Fit, Kept}
 use Rattle.take_draft.proofs.Matching.{matches_deck}
 use Rattle.take_parts.specs.Fresh.{Fresh}
-use Rattle.take_parts.proofs.Hidden.{fresh_deck}
+use Rattle.take_parts.proofs.HiddenCells.{fresh_deck}
 use Rattle.take_next.specs.declared.Step.{Step}
 use Rattle.take_next.specs.declared.Step.TheVariants as step
 use Rattle.take_deck.specs.declared.Drafted.TheVariants as drafted
