@@ -17,7 +17,7 @@ use Rattle.rules_deck.specs.Translation.{Held, brings, Tables, emit, tables_of, 
 use Rattle.rules_deck.specs.Judge.{Taken, takes, right18, form_exit_words, name_count}
 use Rattle.take_draft.specs.declared.Counts.{Counts}
 use Rattle.take_draft.specs.Names.{names_fit}
-use Rattle.take_draft.specs.Draft.{kind_of, loop_words, entries_of, draft_code, Draft, drafts}
+use Rattle.take_draft.specs.Draft.{kind_of, entries_of, draft_code, Draft, drafts}
 use Rattle.take_draft.specs.Kept.{Words, Tabled, tables_fit, Fit, Kept, Matches}
 use Rattle.take_draft.proofs.Matching.{emit_length, entries_count, matches_next, right18_fits}
 use Rattle.take_instructions.specs.declared.Emitted.{Emitted}

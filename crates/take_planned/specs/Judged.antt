@@ -5,7 +5,6 @@ use Rattle.std.proofs.Math.Option.{none, some}
 use Rattle.rules_shared.specs.House.{house1401}
 use Rattle.rules_text.specs.Trees as trees
 use Rattle.rules_deck.specs.Judge.{Taken, judge_form}
-use Rattle.read_forms.specs.declared.Statement.{Statement}
 use Rattle.take_draft.specs.declared.Counts.{Counts}
 use Rattle.take_draft.specs.Draft.{Draft, drafts}
 use Rattle.take_draft.specs.Kept.{Words, Fit, Kept}
