@@ -32,7 +32,7 @@ fn folder(name: &str, kit: &str) -> PathBuf {
     fs::write(folder.join("tools/kit"), kit).expect("the kit's name");
     script(&folder.join("bin/rt"), RT);
     script(&folder.join("tools/x86-cargo"), CARGO);
-    for tool in ["exceptions", "refusals", "archive"] {
+    for tool in ["exceptions", "refusals", "archive", "program"] {
         script(&folder.join("tools").join(tool), "#!/bin/sh\n");
     }
     folder

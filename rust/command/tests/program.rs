@@ -1,4 +1,4 @@
-//! The proved program `deck1401`, which `rt check deck1401` builds: what it prints for the vectors and for generated inputs.
+//! The proved program `deck1401`, which `tools/program` builds: what it prints for the vectors and for generated inputs.
 
 mod common;
 
