@@ -28,7 +28,7 @@ use Rattle.read_forms.specs.Statements.{statement_of, answer, words, form_words,
 use Rattle.read_statement.specs.Which.{is_form}
 use Rattle.take_draft.specs.declared.Counts.{Counts}
 use Rattle.take_draft.specs.Draft.{Draft}
-use Rattle.take_draft.specs.Kept.{Words, Kept, Matches}
+use Rattle.take_draft.specs.Kept.{Words, Matches}
 use Rattle.take_planned.specs.declared.Outcome.{Outcome}
 use Rattle.take_planned.specs.declared.Outcome.TheVariants as outcome
 use Rattle.take_statement.specs.Taking.{Reading, Comes}
