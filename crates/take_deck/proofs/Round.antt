@@ -11,7 +11,7 @@ use borrow.Author.Tests.{leb-true}
 use Rattle.rules_shared.specs.House.{house1401}
 use Rattle.rules_shared.specs.Refusals.{refusal}
 use Rattle.rules_shared.specs.Lists.{each_none}
-use Rattle.rules_text.specs.Cards.{Punched, cards_of, text_of, right_digits, counted, Carded, cards_refused, statements, carded}
+use Rattle.rules_text.specs.Cards.{Punched, cards_of, text_of, right_digits, Carded, cards_refused, statements, carded}
 use Rattle.rules_deck.specs.Judge.{Taken, nothing_taken}
 use Rattle.rules_deck.specs.Compile.{Read, not_read, read_text, read_from}
 use Rattle.rules_text.proofs.CardsLaws.{statements_few}
