@@ -11,7 +11,7 @@ use Rattle.rules_object.specs.Bytes.{object_bytes}
 use Rattle.rules_shared.specs.Refusals.{Refusal, refusal, no_room}
 use Rattle.rules_shared.specs.Output.{not_written, write}
 use Rattle.rules_shared.specs.Lists.{Each}
-use Rattle.rules_text.specs.Trees.{Name, Form, assign, loop, Target, cell, Statement}
+use Rattle.rules_text.specs.Trees.{Name, Form, assign, go_to, computed, ifs, loop, continue, stop, end, dimension, Target, cell, element, Statement}
 use Rattle.rules_text.specs.Cards.{Punched, Carded, cards_refused, statements, carded}
 use Rattle.rules_deck.specs.Translation.{target_plain, expr_plain, form_plain, held_of, translate}
 use Rattle.rules_deck.specs.Whole.{target_sets, form_sets, judge_deck}
@@ -56,12 +56,22 @@ use Rattle.final_writer.specs.Answer as written
 -- ---- the names that a deck sets are told by their words: they have cells
 
 target_plain_lem : {v : Name} (t : Target) (more : List Name) → Among v (target_sets t ++ []) → Among v (target_plain t ++ more)
-target_plain_lem (cell w) more here = here
+target_plain_lem {v = v} (cell w) more here = here
+target_plain_lem {v = v} (cell w) more (there x4) = elim x4 [ ]
+target_plain_lem {v = v} (element _ _) more x4 = elim x4 [ ]
 
 sets_plain : {v : Name} (f : Form) → Among v (form_sets f) → Among v (form_plain f)
 unfolding form_sets form_plain
 sets_plain (assign t e) a = target_plain_lem t (expr_plain e) a
 sets_plain (loop n w p q r) here = here
+sets_plain {v = v} (go_to _) a = elim a [ ]
+sets_plain {v = v} (computed _ _) a = elim a [ ]
+sets_plain {v = v} (ifs _ _ _ _) a = elim a [ ]
+sets_plain {v = v} (loop n w p q r) (there x6) = elim x6 [ ]
+sets_plain {v = v} continue a = elim a [ ]
+sets_plain {v = v} stop a = elim a [ ]
+sets_plain {v = v} end a = elim a [ ]
+sets_plain {v = v} (dimension _) a = elim a [ ]
 
 index_of : {A : Type 0} {x : A} {l : List A} → Among x l → (j : ℕ) × (get_elem? l j ≡ some x)
 index_of here = (0, refl)
