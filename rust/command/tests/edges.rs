@@ -45,6 +45,8 @@ fn a_good_object_stays_until_there_is_a_new_one() {
     );
     assert_eq!(fs::read(&object).expect("it is there").len(), 232);
     assert!(fs::symlink_metadata(&linked).expect("the link").is_symlink());
+    // The prover's gate refuses a link anywhere below the top.
+    fs::remove_file(&linked).expect("the link");
     let nowhere = folder.join("no/such/folder");
     assert_eq!(luvinqata(&["compile", text(&deck), text(&nowhere)], b"").status, 2);
     assert_eq!(
@@ -89,6 +91,8 @@ fn what_is_read_is_not_written_over() {
         assert_eq!(fs::read(&deck).expect("a deck"), read_deck, "{arguments:?}");
         assert_eq!(fs::read(&table).expect("a table"), read_table, "{arguments:?}");
     }
+    // The prover's gate refuses a link anywhere below the top.
+    fs::remove_file(&soft).expect("the link");
 }
 
 #[test]

@@ -1,7 +1,6 @@
 //! The archive from other languages: the C header says what `raw.rs` declares, and the examples in C and Python answer as the crate does.
 
 use std::fs::{create_dir_all, read_to_string, remove_dir_all};
-use std::os::unix::fs::symlink;
 use std::path::{Path, PathBuf};
 use std::process::Command;
 
@@ -205,7 +204,9 @@ fn the_guides_commands() {
         (top("examples"), "examples"),
         (ARCHIVE.into(), "target/staticlib/libcalls.a"),
     ] {
-        symlink(there.canonicalize().expect("a path"), folder.join(name)).expect("a link");
+        // No link: the prover's gate refuses one anywhere below the top.
+        let there = there.canonicalize().expect("a path");
+        printed(Command::new("cp").arg("-r").args([there, folder.join(name)]));
     }
     let python = Command::new("python3").arg("--version").output().is_ok();
     for command in commands
