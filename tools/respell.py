@@ -163,10 +163,6 @@ def main():
     for old, (a, b) in MOVED.items():
         if os.path.exists(old):
             os.rename(old, old.replace(a, b))
-    with open("/tmp/respelled.tsv", "w") as f:
-        for kind, table in (("word", word), ("field", field)):
-            for a, b in sorted(table.items()):
-                f.write(f"{kind}\t{a}\t{b}\n")
 
 
 if __name__ == "__main__":

@@ -1,4 +1,4 @@
-// The calls that C and Rust make: compile, check, map, run and bench. Whatever is lent gets one outcome, the book's.
+// The calls that C and Rust make: compile, check, map, run and bench. Whatever is lent gets one outcome, the book's. The archive that exports them is `calls_c`.
 #![tactic(auto)]
 
 ghost use Rattle.rules_object.specs.Calls.{running, benching};
