@@ -3,754 +3,558 @@
 
 usage: answers.py CRATE_FOLDER NAMES.json [F ..]
 
-In the crate's folder, whose libraries are proved, `rt check --generated DIR --old-names` writes DIR/names.json: how goals, steps and loops were called and are called now. It turns those names, and positions among
-clauses and parameters into their names; answers that said only `search rules` go. What it cannot place it prints; `rt check` then decides. It was written for the walks of this repository, and knows no others.
+In the crate's folder, whose libraries are proved, `rt check --generated DIR --old-names` writes DIR/names.json: how goals, places and steps were called and are called now. By it, names are
+turned, and so are positions among clauses, parameters and a loop's variables; answers that said only `search rules` go. What it cannot place it prints; `rt check` then decides. It was
+written for the walks of this repository, and knows no others.
 """
-import json, os, re, sys, collections
-CR = sys.argv[1].rstrip('/')
-CRATE = os.path.basename(os.path.abspath(CR))
-names = json.load(open(sys.argv[2]))
-only = set(sys.argv[3:])
-W = '[^\\s(){}.;,@"«»]+'
-norm = lambda s: s.replace('_', '-')
-CL = {}
-PARAMS = {}
+import json
+import os
+import re
+import sys
 
-def load_clauses():
-    root = os.path.dirname(os.path.abspath(CR))
-    for c in os.listdir(root):
-        for fn in ('lib.rt', 'main.rt'):
-            pth = os.path.join(root, c, 'src', fn)
-            if not os.path.exists(pth):
-                continue
-            tx = re.sub('//[^\\n]*', '', open(pth).read())
-            for m in re.finditer('(?s)\\bfn (\\w+)(.*?)\\n\\{', tx):
-                rq = re.findall('\\brequires (\\w+ )?\\{', m.group(2))
-                en = re.findall('\\bensures (\\w+ )?\\{', m.group(2))
-                hm = re.match('(?s)\\s*(?:<[^>]*>)?\\((.*?)\\n?\\)\\s*(?:->|\\n|$)', m.group(2))
-                if hm:
-                    PARAMS[f'{c}::{m.group(1)}'] = re.findall('(?:^|,)\\s*(?:mut )?(\\w+)\\s*:(?!:)', hm.group(1))
-                CL[f'{c}::{m.group(1)}'] = ([x.strip() for x in rq], [x.strip() for x in en])
-load_clauses()
+CRATES, CRATE = os.path.split(os.path.abspath(sys.argv[1]))
+WORD = r'[^\s(){}.;,@"«»]+'
+# A name that stands by itself, and what follows it with dots.
+ALONE, END = r"(?<![^\s(){};,@])", r"(?![^\s(){}.;,@])"
+# Fields of a place that are no step's.
+OWN_FIELDS = {"args", "requires", "ranges", "type_inv", "well_formed", "lifetimes", "utf8", "auto", "new", "captures"}
 
-def arg_name(fn, a):
-    """an array parameter had the name t1, t2.. of its place"""
-    a = a.replace('-', '_')
-    ps = PARAMS.get(f'{CRATE}::{fn}')
-    m = re.match('t(\\d+)$', a)
-    if ps and m and (a not in ps) and (0 < int(m.group(1)) <= len(ps)):
-        return ps[int(m.group(1)) - 1]
-    return a
 
-def clause_path(fields, names_):
-    """fields after .ensures; nested tuple path -> name"""
-    n = len(names_)
-    if n == 1 and names_[0]:
-        return [names_[0]] + fields
-    if n < 2 or not fields or fields[0] not in ('0', '1'):
+def dashed(name):
+    return name.replace("_", "-")
+
+
+def told(function, what):
+    print(f"{CRATE}::{function}: {what}")
+
+
+# ---- what src/ says of each function
+
+
+class Function:
+    def __init__(self, params=(), requires=(), ensures=()):
+        self.params, self.requires, self.ensures = list(params), list(requires), list(ensures)
+
+    def param(self, name):
+        """An array that is a parameter had the name t1, t2 .. of its place."""
+        name = name.replace("-", "_")
+        at = re.fullmatch(r"t(\d+)", name)
+        known = at and name not in self.params and 0 < int(at.group(1)) <= len(self.params)
+        return self.params[int(at.group(1)) - 1] if known else name
+
+
+def functions():
+    found = {}
+    for crate in os.listdir(CRATES):
+        for root in ("lib.rt", "main.rt"):
+            path = os.path.join(CRATES, crate, "src", root)
+            if os.path.exists(path):
+                text = re.sub(r"//[^\n]*", "", open(path).read())
+                for name, head in re.findall(r"(?s)\bfn (\w+)(.*?)\n\{", text):
+                    params = re.match(r"(?s)\s*(?:<[^>]*>)?\((.*?)\n?\)\s*(?:->|\n|$)", head)
+                    found[f"{crate}::{name}"] = Function(
+                        re.findall(r"(?:^|,)\s*(?:mut )?(\w+)\s*:(?!:)", params.group(1)) if params else (),
+                        re.findall(r"\brequires (?:(\w+) )?\{", head),
+                        re.findall(r"\bensures (?:(\w+) )?\{", head),
+                    )
+    return found
+
+
+FUNCTIONS = functions()
+
+
+def function(name):
+    return FUNCTIONS.get(name, Function())
+
+
+# ---- positions in nested pairs, and records with names
+
+
+def position(fields):
+    """Of fields 1.1.0 and so on: how many pairs were gone into, and what is left behind the last part."""
+    deep = 0
+    while fields[deep:] and fields[deep] == "1":
+        deep += 1
+    return deep, fields[deep:]
+
+
+def by_clause(fields, clauses):
+    """The fields behind `requires` or `ensures` by the clauses' names; None where they name no clause."""
+    if len(clauses) == 1 and clauses[0]:
+        return [clauses[0], *fields]
+    if len(clauses) < 2 or not fields or fields[0] not in ("0", "1"):
         return fields
-    i = 0
-    j = 0
-    while i < n - 1:
-        if j >= len(fields):
-            return None
-        if fields[j] == '0':
-            return [names_[i]] + fields[j + 1:]
-        if fields[j] == '1':
-            i += 1
-            j += 1
-            continue
-        return None
-    return [names_[n - 1]] + fields[j:]
+    deep, rest = position(fields[: len(clauses) - 1])
+    if deep == len(clauses) - 1:
+        return [clauses[-1], *fields[deep:]]
+    return [clauses[deep], *fields[deep + 1 :]] if rest and rest[0] == "0" else None
 
-def split_top(e):
-    """splits (A, B) at its top comma"""
-    e = e.strip()
-    if not e.startswith('('):
-        return None
-    depth = 0
-    parts = []
-    cur = ''
-    for idx, ch in enumerate(e):
-        if ch in '([{':
-            depth += 1
-        if ch in ')]}':
-            depth -= 1
-        if depth == 0 and idx < len(e) - 1:
-            return None
-        if depth == 1 and ch == ',':
-            parts.append(cur)
-            cur = ''
-            continue
-        if not (depth == 1 and ch == '(' and (idx == 0)):
-            cur += ch
-    cur = cur[:-1]
-    parts.append(cur)
-    if len(parts) < 2:
-        return None
-    return parts
 
-def last_expr(body):
-    """position of the expression after the lets"""
-    depth = 0
-    pos = 0
-    for m in re.finditer('[()\\[\\]{}]|(?<![^\\s])in(?=[\\s])', body):
+def parts_of_pair(term):
+    """The parts of a term (A, B ..), or None."""
+    if not term.startswith("("):
+        return None
+    depth, parts = 0, [""]
+    for at, c in enumerate(term):
+        depth += (c in "([{") - (c in ")]}")
+        if depth == 0 and at < len(term) - 1:
+            return None
+        if depth == 1 and c == ",":
+            parts.append("")
+        elif at and depth:
+            parts[-1] += c
+    return parts if len(parts) > 1 else None
+
+
+def behind_the_lets(body):
+    depth = at = 0
+    for m in re.finditer(r"[()\[\]{}]|(?<!\S)in(?=\s)", body):
         s = m.group(0)
-        if s in '([{':
-            depth += 1
-        elif s in ')]}':
-            depth -= 1
-        elif depth == 0:
-            pos = m.end()
-    return pos
+        depth += (s in "([{") - (s in ")]}")
+        if s == "in" and depth == 0:
+            at = m.end()
+    return at
 
-def as_record(body, names_, f, goal):
-    n = len(names_)
-    if n == 1 and names_[0]:
-        pos = last_expr(body)
-        if re.match('\\s*record \\{ *' + re.escape(names_[0]) + ' =', body[pos:]):
-            return body
-        return body[:pos] + (re.match('\\s*', body[pos:]).group(0) or ' ') + 'record { ' + names_[0] + ' = ' + body[pos:].strip() + ' }'
-    if n < 2:
+
+def as_record(body, clauses, f, goal):
+    """A body that answers each of the clauses, by their names."""
+    if not clauses or len(clauses) == 1 and not clauses[0]:
         return body
-    pos = last_expr(body)
-    e = body[pos:]
-    lead = re.match('\\s*', e).group(0)
-    parts = []
-    rest = e.strip()
-    for i in range(n - 1):
-        sp = split_top(rest)
-        if sp is None or len(sp) < 2:
-            report(f, f'{goal}: not a tuple of {n}: {e.strip()[:60]!r}')
+    at = behind_the_lets(body)
+    term = body[at:].strip()
+    if len(clauses) == 1 and re.match(r"record \{ *" + re.escape(clauses[0]) + " =", term):
+        return body
+    parts, rest = [], term
+    for _ in clauses[1:]:
+        split = parts_of_pair(rest)
+        if split is None:
+            told(f, f"{goal}: not a tuple of {len(clauses)}: {term[:60]!r}")
             return body
-        parts.append(sp[0].strip())
-        rest = ', '.join((x.strip() for x in sp[1:]))
-        if len(sp) > 2:
-            rest = '(' + rest + ')'
-    parts.append(rest)
-    return body[:pos] + (lead or ' ') + 'record { ' + '; '.join((f'{a} = {b}' for a, b in zip(names_, parts))) + ' }'
+        split = [it.strip() for it in split]
+        parts.append(split[0])
+        rest = split[1] if len(split) == 2 else f"({', '.join(split[1:])})"
+    fields = "; ".join(f"{name} = {it}" for name, it in zip(clauses, [*parts, rest]))
+    return body[:at] + (re.match(r"\s*", body[at:]).group(0) or " ") + f"record {{ {fields} }}"
 
-def blocks(text):
-    out = []
-    cur = []
-    for line in text.split('\n'):
-        if line and (not line[0].isspace()) and (line[0] != ')') and (not (cur and all((x.startswith('--') for x in cur)))):
-            if cur:
-                out.append('\n'.join(cur))
-            cur = [line]
-        else:
-            cur.append(line)
-    if cur:
-        out.append('\n'.join(cur))
-    return out
 
-def head(b):
-    ls = [l for l in b.split('\n') if not l.startswith('--')]
-    return ls[0] if ls else ''
+# ---- how one function's goals, places and steps are called
 
-def decls(text):
-    """[(kind,name,text)]"""
-    res = []
-    for b in blocks(text):
-        h = head(b)
-        if not h.strip():
-            res.append(['comment', '', b])
-            continue
-        if h.startswith('use ') or h.startswith('pub use '):
-            res.append(['use', '', b])
-            continue
-        m = re.match('(?:(?:abbrev|unfoldable|pub|private) )*(' + W + ')(?: ' + W + ')* :(?= |$)', h)
-        if m:
-            res.append(['decl', m.group(1), b])
-            continue
-        if h.startswith('unfolding') and res and (res[-1][0] == 'decl'):
-            res[-1][2] += '\n' + b
-            continue
-        m = re.match('(' + W + ')', h)
-        if res and res[-1][0] == 'decl' and m and (m.group(1) == res[-1][1]):
-            res[-1][2] += '\n' + b
-            continue
-        res.append(['other', '', b])
-    return res
 
-def report(f, msg):
-    print(f'{CRATE}::{f}: {msg}')
+class Names:
+    def __init__(self, f, given, measured=False):
+        self.f, self.given, self.measured = f, given, measured
+        self.own = function(f"{CRATE}::{f}")
+        self.places = {p[0]: p for p in given["places"]}
+        self.place_now = dict(zip(self.places, given["places_by_name"]))
+        self.arms = dict(zip(self.places, given["arms"]))
+        self.goals = {dashed(old): (now, at[0]) for (old, now), at in zip(given["needs"], given["asked_at"])}
+        self.loops = {dashed(old): (now, vs, ch) for ((old, now), vs), ch in zip(given["loops"], given["changed"])}
+        self.callees = {p[2][1]: p[3] for p in given["places"] if p[3]}
 
-def let_clauses(body, f, step_callee, own_requires, params={}):
-    for m in list(re.finditer('let (' + W + ') = c\\.(' + W + ') in', body)):
-        a, st = m.groups()
-        callee = step_callee.get(st)
-        if not callee:
-            continue
-        vs = params.get(callee)
-        ns = CL[callee][1] if callee in CL else []
+    def goal(self, *spellings):
+        """The goal that had one of these names, and the place at which it is asked."""
+        names = [dashed(it) for it in spellings]
+        names += [re.sub("^(overflow|nonzero|offset-bounds)-", "", it) for it in names]
+        names += [it.replace("-holds", "-init").replace("-less", "-smaller").replace("-again", "-preserved") for it in names]
+        return next((it for it in names if it in self.goals), None)
 
-        def rep(mm):
-            fs = [y for y in mm.group(1).split('.') if y]
-            if fs[0] in ('new', 'auto') and len(fs) > 1 and (fs[1] in ('0', '1')):
-                j = 1
-                while j < len(fs) and fs[j] == '1':
-                    j += 1
-                if vs and j < len(fs) and (fs[j] == '0') and (j - 1 < len(vs)):
-                    fs = [fs[0], vs[j - 1].replace('-', '_')] + fs[j + 1:]
-                else:
-                    report(f, f'{a}{mm.group(1)} not placed')
-            elif fs[0] == 'ensures' and len(ns) > 1 and (len(fs) > 1) and (fs[1] in ('0', '1')):
-                x = clause_path(fs[1:], ns)
-                if x is None:
-                    report(f, f'{a}{mm.group(1)} clauses')
-                else:
-                    fs = ['ensures'] + x
-            return a + '.' + '.'.join(fs)
-        body = re.sub('(?<![^\\s(){};,@])' + re.escape(a) + '((?:\\.' + W + ')+)(?![^\\s(){}.;,@])', rep, body)
-    for m in list(re.finditer('let (' + W + ') = c\\.(' + W + ')(\\.ensures)? in', body)):
-        a, st, e = m.groups()
-        ns = None
-        if e and st in step_callee and (step_callee[st] in CL):
-            ns = CL[step_callee[st]][1]
-        elif not e and st == 'requires':
-            ns = own_requires
-        if not ns or len(ns) < 2:
-            continue
+    def steps(self, place):
+        """The steps on the way to a place, the last first, by their old names: the name now, and the place behind the step."""
+        steps = {}
+        while place in self.places:
+            old, now = self.places[place][2]
+            if old:
+                steps.setdefault(dashed(old), (now, place))
+            place = self.places[place][1]
+        return steps
 
-        def rep(mm):
-            x = clause_path([y for y in mm.group(1).split('.') if y], ns)
-            if x is None:
-                report(f, f'{a}{mm.group(1)} clauses')
-                return mm.group(0)
-            return a + '.' + '.'.join(x)
-        body = re.sub('(?<![^\\s(){};,@])' + re.escape(a) + '((?:\\.' + W + ')+)(?![^\\s(){}.;,@])', rep, body)
-    return body
+    def own_path(self, fields):
+        if fields[0] == "requires":
+            behind = fields[1:]
+            if self.measured and behind[:1] == ["1"]:
+                behind = behind[1:]
+            named = by_clause(behind, self.own.requires)
+            return ["requires", *(behind if named is None else named)]
+        if fields[0] == "args" and len(fields) > 1:
+            return ["args", self.own.param(fields[1]), *fields[2:]]
+        return fields
 
-def goal_record(body, old, new, place, d, f, own):
-    if new.startswith('returns'):
-        return as_record(body, own, f, new)
-    m = re.match('(.*)-requires(-\\d+)?$', old)
-    if m:
-        g = m.group(1)
-        ks = [k for k in d['params'] if norm(k.split('::')[-1]) == g or norm(k.split('::')[-1]) == re.sub('^.*-', '', g)]
-        ks = ks or [k for k in d['params'] if g.endswith(norm(k.split('::')[-1]))]
-        if len(ks) >= 1 and ks[0] in CL:
-            return as_record(body, CL[ks[0]][0], f, new)
-    return body
+    def among_params(self, path, params):
+        """new.1.0 and auto.1.0 behind a step, by the parameter's name."""
+        deep, rest = position(path[2:])
+        if params and rest and rest[0] == "0" and deep < len(params):
+            return [*path[:2], params[deep].replace("-", "_"), *rest[1:]]
+        told(self.f, f"{'.'.join(path)} not placed")
+        return path
 
-def cycle(f, path, ds):
-    """A function that calls itself, or several that call one another."""
-    keys = {}
-    for k in names:
-        m = re.match('Rattle-' + re.escape(CRATE) + '-proofs\\.' + re.escape(f) + '\\.Lts-(.*)$', k)
-        if m:
-            keys[norm(m.group(1))] = (m.group(1), names[k])
-    uses = []
-    helpers = []
-    answers = []
-    inv = []
-    for kind, name, b in ds:
-        if kind == 'use':
-            if re.search('PlainCycle|\\.Tie\\b|\\{statement\\}|\\bLts-|\\.Reads as|\\.Kinds as|borrow\\.Fn\\.Kinds', b):
-                continue
-            uses.append('\n'.join((l for l in b.strip().split('\n') if not l.startswith('--'))))
-            continue
-        if kind == 'comment':
-            continue
-        if re.search('pub \\+\\S+[-_]spec', b):
-            continue
-        if kind == 'other':
-            helpers.append(b.rstrip())
-            continue
-        if re.match('abbrev \\S+-(at|below) : ', head(b)) and 'Kinds' in b or re.match('abbrev \\S+-(at|below) : \\S+ → In ', head(b)):
-            continue
-        m = re.match('abbrev μ-(\\S+) : Measures', head(b))
-        if m:
-            fn, dd = keys[norm(m.group(1))]
-            em = re.search('(?s)\\n\\S+ \\S+ (\\S+) =(.*)$', b)
-            ps = None
-            for _, d2 in keys.values():
-                for k in d2['params']:
-                    if k.split('::')[-1] == fn:
-                        ps = d2['params'][k]
-            if not em or not ps:
-                report(f, 'measure by hand: ' + b)
-                ex = '?'
+    def step_path(self, old, now, place, rest):
+        path = [now, *rest]
+        if rest[:1] == ["branch"]:
+            path[1] = "branch-raw"
+            told(self.f, f"{now}.branch-raw: in its cases write w.STEP.true etc. by name where positions or .taken/.left stood")
+        arm = self.arms[place]
+        for field, step, behind in sorted(arm[2] if arm else [], key=lambda it: -len(it[2])):
+            if dashed(step) == old and [dashed(it) for it in rest[: len(behind)]] == [dashed(it) for it in behind]:
+                path = [arm[0], field, *rest[len(behind) :]]
+                break
+        callee, loop = self.places[place][3], self.loops.get(old)
+        if len(path) > 2 and path[1] in ("new", "auto") and path[2] in ("0", "1"):
+            path = self.among_params(path, self.given["params"].get(callee) if callee else loop and loop[1])
+        if path[1:2] == ["ensures"] and callee in FUNCTIONS:
+            named = by_clause(path[2:], FUNCTIONS[callee].ensures)
+            if named is None:
+                told(self.f, f"{'.'.join(path)}: clauses")
             else:
+                path = [*path[:2], *named]
+        if len(path) > 1:
+            renamed = dict(self.places[place][4])
+            path[1] = {**renamed, "type-inv": "type_inv"}.get(path[1], path[1])
+            if path[1] == "new" and len(path) > 2:
+                path[2] = path[2].replace("-", "_")
+            if loop and path[1] != "invariant":
+                path[1] = path[1].replace("-", "_")
+        return path
 
-                def pm(mm):
-                    pos = [y for y in mm.group(1).split('.') if y]
-                    i = 0
-                    while pos and pos[0] == '1':
-                        i += 1
-                        pos = pos[1:]
-                    if pos and pos[0] == '0':
-                        pos = pos[1:]
-                    return '.'.join(['l', ps[i]] + pos)
-                ex = re.sub('(?<![^\\s(){};,@])' + re.escape(em.group(1)) + '((?:\\.' + W + ')+)(?![^\\s(){}.;,@])', pm, em.group(2)).strip()
-            inv.append(f'abbrev pub decreases-{fn} : goal.decreases-{fn}\ndecreases-{fn} l = {ex}')
-            continue
-        m = re.match('abbrev (\\S+) : (\\S+)-lts\\.(invariant|decreases)-(\\S+)', head(b))
-        if m:
-            fn, dd = keys[norm(m.group(2))]
-            hit = [(ln[1], vs, ch) for (ln, vs), ch in zip(dd['loops'], dd['changed']) if norm(ln[0]) == norm(m.group(4))]
-            if not hit:
-                report(f, f'{m.group(1)}: no loop')
-                continue
-            nw, vs, ch = hit[0]
-            em = re.search('(?s)\\n' + re.escape(m.group(1)) + '((?: \\S+)*?) =(.*)$', b)
-            order = [(v, 'init' if c_ else 'same') for v, c_ in zip(vs, ch)] + [(v, 'now') for v, c_ in zip(vs, ch) if c_]
-            aa = em.group(1).split()
-            if len(aa) != len(order):
-                report(f, f'{m.group(1)}: {len(aa)} args, {order}')
-            mp = {a_: f'l.initial.{v}' if k_ == 'init' else f'l.{v}' for a_, (v, k_) in zip(aa, order)}
-            bd = re.sub('(?<![^\\s(){};,@])(' + '|'.join(map(re.escape, sorted(mp, key=len, reverse=True))) + ')(?![^\\s(){}.;,@])', lambda mm: mp[mm.group(1)], em.group(2))
-            st_ = dd.get('stem') or ''
-            nn = f'{m.group(3)}-{st_}{nw}'
-            inv.append(f'abbrev pub {nn} : goal.{nn}\n{nn} l ={bd.rstrip()}')
-            continue
-        if re.match('abbrev \\S+-calls : ', head(b)):
-            continue
-        m = re.search('(\\S+)-lts\\.Need-(\\S+)', b)
-        if not m:
-            helpers.append(b.rstrip())
-            continue
-        fn, dd = keys[norm(m.group(1))]
-        i = [l for l in b.split('\n')]
-        em = re.search('(?m)^' + re.escape(name) + '((?: \\S+)*?) =', b[b.index('-lts.Need-'):])
-        body = b[b.index('-lts.Need-'):][em.end():]
-        args = em.group(1).split()
-        if re.sub('\\s+', ' ', body).strip() == 'search rules':
-            continue
-        short = norm(name)
-        if short.startswith(norm(m.group(1)) + '-'):
-            short = short[len(m.group(1)) + 1:]
-        needs = {norm(o): (nw, dd['asked_at'][j][0]) for j, (o, nw) in enumerate(dd['needs'])}
-        short = norm(short)
-        if short not in needs:
-            short = short.replace('-holds', '-init').replace('-less', '-smaller').replace('-again', '-preserved')
-        if short not in needs:
-            report(f, f'{name}: no such goal; {body.strip()[:80]!r}')
-            continue
-        new, place = needs[short]
-        pl = {p[0]: p for p in dd['places']}
-        sm = {}
-        q = place
-        while q in pl:
-            o, nw = pl[q][2]
-            if o and norm(o) not in sm:
-                sm[norm(o)] = (nw, dict(pl[q][4]) if pl[q][4] else {}, q)
-            q = pl[q][1]
+    def path(self, fields, place):
+        """The fields behind a place's record, as they are called now."""
+        first = fields[0].replace("-", "_") if fields[0] in ("well-formed", "type-inv") else fields[0]
+        if first in OWN_FIELDS:
+            return self.own_path([first, *fields[1:]])
+        steps = self.steps(place)
+        # the scripts before this one respelled some names that Rattle had made
+        spellings = [first, "size-of" if dashed(first) == "type-size" else first, first[:-1] if re.search(r"[^-\d]\d$", first) else first]
+        spellings += [first[:-4] if dashed(first).endswith("-lem") else first, first[0].lower() + first[1:]]
+        old = next((dashed(it) for it in spellings if dashed(it) in steps), None)
+        if old is None:
+            told(self.f, f"step {first} not at {place}")
+            return fields
+        now, behind = steps[old]
+        return self.step_path(old, now, behind, fields[1:])
+
+    def turned(self, text, record, place):
+        """A text in which the name `record` stands for what is known at a place."""
+        paths = lambda name: re.compile(ALONE + re.escape(name) + rf"((?:\.{WORD})*)" + END)
+        # a name for an earlier place goes: the record has each step by its name
         while True:
-            ml = re.search('[ \\t]*let (' + W + ') = c(?:\\.before)+ in\\s*?(?:\\n|(?= ))', body)
-            if not ml:
+            let = re.search(rf"[ \t]*let ({WORD}) = ({re.escape(record)}(?:\.before)*) in\s*?(\n|(?= ))", text)
+            if not let:
                 break
-            body = body[:ml.start()] + body[ml.end():]
-            body = re.sub('(?<![^\\s(){};,@])' + re.escape(ml.group(1)) + '((?:\\.' + W + ')+)(?![^\\s(){}.;,@])', 'c\\1', body)
-
-        def rep(mm):
-            fs = [x for x in mm.group(1).split('.') if x]
-            while fs and fs[0] == 'before':
-                fs = fs[1:]
-            if not fs:
-                return mm.group(0)
-            if norm(fs[0]) in sm:
-                nw, ren, q = sm[norm(fs[0])]
-                r2 = [nw] + fs[1:]
-                if len(r2) > 1 and r2[1] == 'branch':
-                    r2[1] = 'branch-raw'
-                arm = dd['arms'][[p_[0] for p_ in dd['places']].index(q)] if dd.get('arms') else None
-                if arm:
-                    for nw2, os_, op in sorted(arm[2], key=lambda x: -len(x[2])):
-                        if norm(os_) == norm(fs[0]) and [norm(y) for y in fs[1:1 + len(op)]] == [norm(y) for y in op]:
-                            r2 = [arm[0], nw2] + fs[1 + len(op):]
-                            break
-                if len(r2) > 1 and any((norm(ln[0]) == norm(fs[0]) for ln, _ in dd['loops'])) and (r2[1] != 'invariant'):
-                    r2[1] = r2[1].replace('-', '_')
-                if len(r2) > 1 and r2[1] in ren:
-                    r2[1] = ren[r2[1]]
-                if len(r2) > 2 and r2[1] in ('new', 'auto') and (r2[2] in ('0', '1')):
-                    vs = dd['params'].get(pl[q][3])
-                    j = 2
-                    i = 0
-                    while j < len(r2) and r2[j] == '1':
-                        i += 1
-                        j += 1
-                    if vs and j < len(r2) and (i < len(vs)):
-                        r2 = r2[:2] + [vs[i]] + r2[j + 1:]
-                if len(r2) > 1 and r2[1] == 'ensures' and (pl[q][3] in CL):
-                    x = clause_path(r2[2:], CL[pl[q][3]][1])
-                    if x is not None:
-                        r2 = r2[:2] + x
-                fs = r2
-            elif fs[0] == 'requires':
-                if len(fs) > 1 and fs[1] == '1':
-                    fs = fs[:1] + fs[2:]
-                x = clause_path(fs[1:], CL.get(f'{CRATE}::{fn}', ([], []))[0])
-                if x is not None:
-                    fs = fs[:1] + x
-            elif fs[0] == 'args' and len(fs) > 1:
-                fs[1] = arg_name(fn, fs[1])
-            return 'c.' + '.'.join(fs)
-        body = re.sub('(?<![^\\s(){};,@])c((?:\\.' + W + ')+)(?![^\\s(){}.;,@])', rep, body)
-        body = let_clauses(body, f, {p_[2][1]: p_[3] for p_ in dd['places'] if p_[3]}, CL.get(f'{CRATE}::{fn}', ([], []))[0], dd['params'])
-        body = goal_record(body, short, new, place, dd, f, CL.get(f'{CRATE}::{fn}', ([], []))[1])
-        unf = [l for l in b.split('\n') if l.startswith('unfolding')]
-        stem = dd.get('stem') or ''
-        goal = stem + new
-        answers.append('\n'.join([f'pub {goal} : goal.{goal}'] + unf + [f"{goal} {' '.join((a for a in args if a != 'κs'))} ={body.rstrip()}"]))
-    folder = os.path.dirname(path)
-    open(os.path.join(folder, 'Invariants.antt'), 'w').write('\n'.join(uses + [f'use Rattle.{CRATE}.proofs.{f}.Given as goal']) + '\n\n' + '\n\n'.join(inv) + '\n')
-    open(os.path.join(folder, 'Answers.antt'), 'w').write('\n'.join(uses + [f'use Rattle.{CRATE}.proofs.{f}.Goals as goal']) + '\n\n' + '\n\n'.join(helpers + answers) + '\n')
-    os.remove(path)
-
-def own_goal(text):
-    if not re.search('(?m)^use \\S+ as goal$', text):
-        return text
-    text = re.sub('(?m)^(use \\S+ as) goal$', '\\1 given', text)
-    return re.sub('(?<![\\w.\\-])goal\\.(?=\\w)', 'given.', text)
-
-def convert(f, path):
-    if f.startswith('+'):
-        return cycle(f, path, decls(own_goal(open(path).read())))
-    key = None
-    mod = f
-    for k in names:
-        m = re.match('Rattle-' + re.escape(CRATE) + '-proofs\\.(.*)\\.Lts(.*)$', k)
-        if m and m.group(1).replace('.', '/') == f:
-            key = k
-    if key is None:
-        report(f, 'no names')
-        return
-    d = names[key]
-    text = re.sub(' :[ \\t]*\\n[ \\t]+tie\\.', ' : tie.', own_goal(open(path).read()))
-    ds = decls(text)
-    places = {p[0]: p for p in d['places']}
-    newplace = dict(zip([p[0] for p in d['places']], d['places_by_name']))
-
-    def chain(p):
-        out = []
-        while p is not None and p in places:
-            out.append(p)
-            p = places[p][1]
-        return out
-
-    def stepmap(p):
-        mp = collections.OrderedDict()
-        for q in chain(p):
-            o, n = places[q][2]
-            if o and norm(o) not in mp:
-                mp[norm(o)] = (n, dict(places[q][4]) if places[q][4] else {}, q)
-        return mp
-    loops = {}
-    for (ln, vs), ch in zip(d['loops'], d['changed']):
-        loops[norm(ln[0])] = (ln[1], vs, ch)
-    KEEP = {'args', 'requires', 'ranges', 'type_inv', 'well_formed', 'lifetimes', 'utf8', 'auto', 'new', 'captures'}
-
-    def tr_path(var, k, rest, place, f):
-        """rest: list of fields"""
-        if not rest:
-            return None
-        sm = stepmap(place)
-        f1 = rest[0]
-        if f1 in ('well-formed', 'type-inv'):
-            f1 = f1.replace('-', '_')
-            rest = [f1] + rest[1:]
-        if f1 in KEEP or f1 == 'args':
-            if f1 == 'requires':
-                x = clause_path(rest[1:], CL.get(f'{CRATE}::{f}', ([], []))[0])
-                if x is not None:
-                    rest = rest[:1] + x
-            if f1 == 'args' and len(rest) > 1:
-                rest = [f1, arg_name(f.split('/')[-1], rest[1])] + rest[2:]
-            return '.'.join(['c' if var is None else var] + rest)
-        if norm(f1) == 'type-size' and 'size-of' in sm:
-            f1 = 'size-of'
-        if norm(f1) not in sm and re.search('[^-\\d]\\d$', f1) and (norm(f1[:-1]) in sm):
-            f1 = f1[:-1]
-        if norm(f1).endswith('-lem') and norm(f1) not in sm and (norm(f1)[:-4] in sm):
-            f1 = f1[:-4]
-        if norm(f1) not in sm and f1[:1].isupper() and (norm(f1[0].lower() + f1[1:]) in sm):
-            f1 = f1[0].lower() + f1[1:]
-        if norm(f1) in sm:
-            n, ren, q = sm[norm(f1)]
-            r2 = [n] + rest[1:]
-            if len(r2) > 1 and r2[1] == 'branch':
-                r2[1] = 'branch-raw'
-                report(f, f'{n}.branch-raw: in its cases write w.STEP.true etc. by name where positions or .taken/.left stood')
-            arm = d['arms'][[p_[0] for p_ in d['places']].index(q)]
-            if arm:
-                for nw, os_, op in sorted(arm[2], key=lambda x: -len(x[2])):
-                    if norm(os_) == norm(f1) and [norm(y) for y in rest[1:1 + len(op)]] == [norm(y) for y in op]:
-                        r2 = [arm[0], nw] + rest[1 + len(op):]
-                        break
-            if len(r2) > 2 and r2[1] in ('new', 'auto') and (r2[2] in ('0', '1')):
-                callee = places[q][3]
-                vs = d['params'].get(callee) if callee else loops[norm(f1)][1] if norm(f1) in loops else None
-                j = 2
-                i = 0
-                while j < len(r2) and r2[j] == '1':
-                    i += 1
-                    j += 1
-                if vs and j < len(r2) and (r2[j] == '0') and (i < len(vs)):
-                    r2 = r2[:2] + [vs[i].replace('-', '_')] + r2[j + 1:]
-                else:
-                    report(f, f"{f1}.{'.'.join(r2[1:])} not placed")
-            if len(r2) > 1 and r2[1] == 'ensures' and (places[q][3] in CL):
-                x = clause_path(r2[2:], CL[places[q][3]][1])
-                if x is None:
-                    report(f, f"{'.'.join(r2)}: clauses")
-                else:
-                    r2 = r2[:2] + x
-            if len(r2) > 1 and r2[1] in ren:
-                r2[1] = ren[r2[1]]
-            if len(r2) > 1 and r2[1] == 'type-inv':
-                r2[1] = 'type_inv'
-            if len(r2) > 2 and r2[1] == 'new':
-                r2[2] = r2[2].replace('-', '_')
-            if norm(f1) in loops and len(r2) > 1:
-                r2[1] = r2[1].replace('-', '_') if r2[1] not in ('invariant',) else r2[1]
-            return '.'.join(['c' if var is None else var] + r2)
-        report(f, f'step {f1} not at {place}')
-        return '.'.join(['c' if var is None else var] + rest)
-
-    def up(p, k):
-        for _ in range(k):
-            if p not in places:
-                return None
-            p = places[p][1]
-        return p
-    PATH = lambda v: re.compile('(?<![^\\s(){};,@])' + re.escape(v) + '((?:\\.' + W + ')*)(?![^\\s(){}.;,@])')
-
-    def tr(body, var, place):
-        aliases = {var: place}
-        for m in re.finditer('let (' + W + ')(?: : ' + W + ')? = ' + re.escape(var) + '((?:\\.before)*) in', body):
-            pass
-        changed = True
-        out = body
-        while True:
-            m = re.search('[ \\t]*let (' + W + ') = (' + '|'.join(map(re.escape, aliases)) + ')((?:\\.before)*) in\\s*?(\\n|(?= ))', out)
-            if not m:
-                break
-            a, base, b = (m.group(1), m.group(2), m.group(3))
-            k = b.count('.before')
-            aliases[a] = up(aliases[base], k)
-            out = out[:m.start()] + out[m.end():]
-            bare = f'{base}{b}'
-            out = PATH(a).sub(lambda mm: bare + mm.group(1), out)
-            del aliases[a]
-
-        def rep(mm):
-            fs = [x for x in mm.group(1).split('.') if x]
-            k = 0
-            while fs and fs[0] == 'before':
-                fs = fs[1:]
-                k += 1
-            if not fs:
-                return mm.group(0)
-            r = tr_path(var, k, fs, place, f)
-            return r
-        return PATH(var).sub(rep, out)
-    needs = collections.OrderedDict()
-    for i, (o, n) in enumerate(d['needs']):
-        needs[norm(o)] = (n, d['asked_at'][i][0])
-    uses = []
-    helpers = []
-    answers = []
-    inv = []
-    if f.startswith('+'):
-        return cycle(f, path, ds)
-
-    def tie_types(t):
+            text = paths(let.group(1)).sub(lambda m: let.group(2) + m.group(1), text[: let.start()] + text[let.end() :])
 
         def one(m):
-            x = m.group(1)
-            if x in newplace:
-                return 'goal.' + newplace[x]
-            report(f, 'tie.' + x)
-            return 'goal.' + x
-        return re.sub('\\btie\\.(' + W + ')', one, t)
-    for kind, name, b in ds:
-        if kind == 'use':
-            if re.search('\\.(Statement|Tie)\\b', b):
-                continue
-            uses.append(b.strip())
-            continue
-        if kind == 'comment':
-            continue
-        if kind == 'other':
-            helpers.append(b.rstrip())
-            continue
-        h = head(b)
-        if re.search('(?:^|\\n)pub \\S+[-_]spec : ', b) or 'tie.close' in b:
-            continue
-        m = re.search(' : tie\\.(Need-\\S+|invariant\\S*|decreases\\S*)', b)
-        if m is None:
-            pm = re.search('\\((\\w+) : tie\\.(' + W + ')\\)', b)
-            if pm:
-                place = pm.group(2)
-                em = re.search('(?m)^' + re.escape(name) + '((?: ' + W + ')*) =', b)
-                if place in places:
-                    lines = b.split('\n')
-                    sig_end = next((i for i, l in enumerate(lines) if l.startswith(name + ' ') and ' : ' not in l.split('=')[0]), len(lines))
-                    sig = '\n'.join(lines[:sig_end])
-                    body = '\n'.join(lines[sig_end:])
-                    sig = tr(sig, pm.group(1), place)
-                    v = None
-                    if em and em.group(1).split():
-                        v = em.group(1).split()[0]
-                    params = re.findall('\\(([^:()]+) : ', sig)
-                    if v:
-                        body = tr(body, pm.group(1), place)
-                    b = sig + ('\n' + body if body else '')
-                else:
-                    report(f, f'helper {name} at place {place}')
-                b = tie_types(b)
-            elif 'tie.' in b:
-                report(f, f'helper {name} cites tie')
-                b = tie_types(b)
-            helpers.append(b.rstrip())
-            continue
-        what = m.group(1)
-        lines = b.split('\n')
-        com = [l for l in lines if l.startswith('--')]
-        unf = [l for l in lines if l.startswith('unfolding')]
-        em = re.search('(?m)^' + re.escape(name) + '((?: \\S+)*?) =', b[b.index(' : tie.'):])
-        eqs = b[b.index(' : tie.'):]
-        if not em:
-            report(f, f'{name}: no equation')
-            continue
-        args = em.group(1).split()
-        body = eqs[em.end():]
-        if re.search('(?m)^' + re.escape(name) + '(?: \\S+)* =', body):
-            report(f, f'{name}: several equations')
-        if what.startswith(('invariant', 'decreases')):
-            w, _, ln = what.partition('-')
-            lk = norm(ln)
-            if lk not in loops:
-                report(f, f'{what}: no loop (loops {list(loops)})')
-                continue
-            new, vs, ch = loops[lk]
-            order = [(v, c, 'init' if c else 'same') for v, c in zip(vs, ch)] + [(v, c, 'now') for v, c in zip(vs, ch) if c]
-            if len(order) != len(args):
-                report(f, f'{what}: {len(args)} args, {len(order)} variables {order} {args}')
-            mp = {}
-            for a, (v, c, t) in zip(args, order):
-                mp[a] = f'l.initial.{v}' if t == 'init' else f'l.{v}'
-            spans = []
-            for mm in re.finditer('λ ((?:' + W + ' )*' + W + ')\\.(?=\\s)|(?:λ )?\\((' + W + '(?: ' + W + ')*) : ', body):
-                bound = [x for x in (mm.group(1) or mm.group(2)).split() if x in mp]
-                if not bound:
-                    continue
+            fields = [it for it in m.group(1).split(".") if it]
+            while fields and fields[0] == "before":
+                fields = fields[1:]
+            return ".".join([record, *self.path(fields, place)]) if fields else m.group(0)
 
-                def close(j, depth):
-                    while j < len(body):
-                        if body[j] in '([{':
-                            depth += 1
-                        if body[j] in ')]}':
-                            depth -= 1
-                            if depth < 0:
-                                break
-                        j += 1
-                    return j
-                st = mm.start()
-                e = close(close(mm.end(), 0) + 1, 0) if mm.group(2) else close(mm.end(), 0)
-                spans.append((st, e, bound))
+        return paths(record).sub(one, text)
 
-            def put(mm):
-                if any((a <= mm.start() < e and mm.group(1) in bd for a, e, bd in spans)):
-                    return mm.group(0)
-                return mp[mm.group(1)]
-            body2 = re.sub('(?<![^\\s(){};,@])(' + '|'.join(map(re.escape, sorted(mp, key=len, reverse=True))) + ')(?![^\\s(){}.;,@])', put, body) if mp else body
-            nn = f'{w}-{new}'
-            inv.append('\n'.join(com + [f'abbrev pub {nn} : goal.{nn}'] + [f'{nn} l ={body2.rstrip()}']))
-            continue
-        cand = [norm(name), norm(what[5:])]
-        cand += [re.sub('^(overflow|nonzero|offset-bounds)-', '', c) for c in cand]
-        cand += [c.replace('-holds', '-init').replace('-less', '-smaller').replace('-again', '-preserved') for c in cand]
-        n = None
-        for c in cand:
-            if c in needs:
-                n = c
+    def lets_turned(self, body):
+        """Positions behind a name that a `let` gives to a call, to what it ensures, or to the requires."""
+        for name, step, of in re.findall(rf"let ({WORD}) = c\.({WORD})(\.ensures)? in", body):
+            callee = self.callees.get(step)
+            clauses = function(callee).ensures if callee else self.own.requires if step == "requires" and not of else []
+
+            def one(m):
+                fields = [it for it in m.group(1).split(".") if it]
+                if callee and not of:
+                    if len(fields) > 1 and fields[0] in ("new", "auto") and fields[1] in ("0", "1"):
+                        fields = self.among_params([step, *fields], self.given["params"].get(callee))[1:]
+                    elif fields[0] == "ensures" and len(clauses) > 1 and len(fields) > 1:
+                        fields = ["ensures", *(by_clause(fields[1:], clauses) or fields[1:])]
+                elif len(clauses) > 1:
+                    fields = by_clause(fields, clauses) or fields
+                return ".".join([name, *fields])
+
+            body = re.sub(ALONE + re.escape(name) + rf"((?:\.{WORD})+)" + END, one, body)
+        return body
+
+    def answered(self, body, old, goal):
+        """The body with a name for each clause that the goal has."""
+        if goal.startswith("returns"):
+            return as_record(body, self.own.ensures, self.f, goal)
+        call = re.match(r"(.*)-requires(-\d+)?$", old)
+        if call:
+            called = call.group(1)
+            short = {k: dashed(k.split("::")[-1]) for k in self.given["params"]}
+            callees = [k for k, it in short.items() if it in (called, re.sub("^.*-", "", called))]
+            callees = callees or [k for k, it in short.items() if called.endswith(it)]
+            if callees and callees[0] in FUNCTIONS:
+                return as_record(body, FUNCTIONS[callees[0]].requires, self.f, goal)
+        return body
+
+    def in_loop(self, what, loop, args, body):
+        """An invariant or a measure over the loop's variables by name."""
+        now, variables, changed = self.loops[loop]
+        order = [f"l.initial.{v}" if c else f"l.{v}" for v, c in zip(variables, changed)] + [f"l.{v}" for v, c in zip(variables, changed) if c]
+        if len(order) != len(args):
+            told(self.f, f"{what}: {len(args)} arguments, {len(order)} variables")
+        means = dict(zip(args, order))
+        bound = binders(body, means)
+
+        def one(m):
+            here = any(start <= m.start() < end and m.group(1) in names for start, end, names in bound)
+            return m.group(0) if here else means[m.group(1)]
+
+        every = "|".join(map(re.escape, sorted(means, key=len, reverse=True)))
+        return now, re.sub(ALONE + f"({every})" + END, one, body) if means else body
+
+
+def binders(body, names):
+    """Where a λ or a binder hides one of the names: from, to, and which."""
+
+    def end_of(at):
+        depth = 0
+        while at < len(body):
+            depth += (body[at] in "([{") - (body[at] in ")]}")
+            if depth < 0:
                 break
-        triv = re.sub('\\s+', ' ', body).strip() in ('search rules',)
-        if n is None:
-            if not triv and (not name.startswith(('slice-aggregate', 'array-read', 'element-'))):
-                report(f, f'{name} ({what}): no such goal now; body {body.strip()[:80]!r}')
+            at += 1
+        return at
+
+    found = []
+    for m in re.finditer(rf"λ ((?:{WORD} )*{WORD})\.(?=\s)|(?:λ )?\(({WORD}(?: {WORD})*) : ", body):
+        hidden = [it for it in (m.group(1) or m.group(2)).split() if it in names]
+        if hidden:
+            found.append((m.start(), end_of(end_of(m.end()) + 1) if m.group(2) else end_of(m.end()), hidden))
+    return found
+
+
+# ---- the text of a walk
+
+
+def blocks(text):
+    """From one line at the margin to the next; comments go with what follows them."""
+    out = [[]]
+    for line in text.split("\n"):
+        at_margin = line and not line[0].isspace() and line[0] != ")"
+        if at_margin and out[-1] and not all(it.startswith("--") for it in out[-1]):
+            out.append([])
+        out[-1].append(line)
+    return ["\n".join(it) for it in out]
+
+
+def first_line(block):
+    return next((line for line in block.split("\n") if not line.startswith("--")), "")
+
+
+def declarations(text):
+    """Kind (use, decl, other), name and text of each declaration with its equations."""
+    found = []
+    for block in blocks(text):
+        head = first_line(block)
+        if not head.strip():
             continue
-        new, place = needs[n]
-        if triv:
+        signature = re.match(rf"(?:(?:abbrev|unfoldable|pub|private) )*({WORD})(?: {WORD})* :(?= |$)", head)
+        word = re.match(WORD, head)
+        if head.startswith(("use ", "pub use ")):
+            found.append(["use", "", block])
+        elif signature:
+            found.append(["decl", signature.group(1), block])
+        elif found and found[-1][0] == "decl" and (head.startswith("unfolding") or word and word.group(0) == found[-1][1]):
+            found[-1][2] += "\n" + block
+        else:
+            found.append(["other", "", block])
+    return found
+
+
+def uncommented(block):
+    return "\n".join(line for line in block.strip().split("\n") if not line.startswith("--"))
+
+
+def equation(name, block, behind):
+    """The arguments and the body of the equation that stands behind a text of the signature."""
+    text = block[block.index(behind) :]
+    m = re.search(rf"(?m)^{re.escape(name)}((?: \S+)*?) =", text)
+    return m.group(1).split(), text[m.end() :]
+
+
+def is_found_by_itself(body):
+    return body.split() == ["search", "rules"]
+
+
+def lines_of(block, beginning):
+    return [line for line in block.split("\n") if line.startswith(beginning)]
+
+
+def plain_tests(text):
+    text = re.sub(r"not-true _ (c\.if-not-[\w-]+)\.true-raw(?![\w-])", r"\1.true", text)
+    return re.sub(r"not-false _ (c\.if-not-[\w-]+)\.false-raw(?![\w-])", r"\1.false", text)
+
+
+def write(folder, name, *parts):
+    with open(os.path.join(folder, name), "w") as f:
+        f.write("\n\n".join(it for it in parts if it) + "\n")
+
+
+# ---- a function that calls itself, or several that call one another
+
+
+def cycle(f, folder, found, names):
+    """Names of each function come under a module of its own, and each goal takes the measure's value first."""
+    of = {}
+    for key, given in names.items():
+        m = re.match(rf"Rattle-{CRATE}-proofs\.{re.escape(f)}\.Lts-(.*)$", key)
+        if m:
+            of[dashed(m.group(1))] = Names(m.group(1), given, measured=True)
+    params = {k.split("::")[-1]: ps for it in of.values() for k, ps in it.given["params"].items()}
+    uses, helpers, loops, answers = [], [], [], []
+    for kind, name, block in found:
+        head = first_line(block)
+        measure = re.match(r"abbrev μ-(\S+) : Measures", head)
+        loop = re.match(r"abbrev \S+ : (\S+)-lts\.(invariant|decreases)-(\S+)", head)
+        need = re.search(r"(\S+)-lts\.Need-\S+", block)
+        if kind == "use":
+            if not re.search(r"PlainCycle|\.Tie\b|\{statement\}|\bLts-|\.Reads as|\.Kinds as|borrow\.Fn\.Kinds", block):
+                uses.append(uncommented(block))
+        elif re.search(r"pub \+\S+[-_]spec", block) or re.match(r"abbrev \S+-(?:(?:at|below) : \S+ → In|calls :) ", head):
             continue
-        body2 = tr(body, args[0], place)
-        body2 = tie_types(body2)
-        if args[0] != 'c':
-            pass
-        rest = [a for a in args[1:] if a not in ('κs', '_')]
-        kap = [a for a in args[1:] if a in ('κs',) and re.search('(?<![\\w])κs(?![\\w])', body2)]
-        if kap:
-            report(f, f'{name}: uses κs')
-        if rest:
-            report(f, f'{name}: more arguments {args}')
-        eq = ' '.join([new] + [args[0]] + rest)
-        body2 = let_clauses(body2, f, {p[2][1]: p[3] for p in d['places'] if p[3]}, CL.get(f'{CRATE}::{f}', ([], []))[0], d['params'])
-        body2 = goal_record(body2, n, new, place, d, f, CL.get(f'{CRATE}::{f}', ([], []))[1])
-        answers.append((new, '\n'.join(com + [f'pub {new} : goal.{new}'] + unf + [f'{eq} ={body2.rstrip()}'])))
+        elif measure:
+            which = of[dashed(measure.group(1))].f
+            args, body = equation(name, block, "\n")
 
-    def plain_tests(t):
-        t = re.sub('not-true _ (c\\.if-not-[\\w-]+)\\.true-raw(?![\\w-])', '\\1.true', t)
-        return re.sub('not-false _ (c\\.if-not-[\\w-]+)\\.false-raw(?![\\w-])', '\\1.false', t)
-    answers[:] = [(n_, plain_tests(a_)) for n_, a_ in answers]
-    folder = os.path.dirname(path)
-    first = next((b for k, _, b in ds if k in ('use',) and b.startswith('--')), None)
-    intro = [l for l in text.split('\n')[:3] if l.startswith('--')][:1]
-    uses2 = [u for u in uses]
-    uses2 = ['\n'.join((l for l in u.split('\n') if not l.startswith('--'))) for u in uses2]
-    hs = '\n\n'.join(helpers)
+            def one(m):
+                deep, rest = position([it for it in m.group(1).split(".") if it])
+                return ".".join(["l", params[which][deep], *(rest[1:] if rest[:1] == ["0"] else rest)])
 
-    def usable(body):
-        return uses2
-    if inv:
-        ib = '\n\n'.join(inv)
-        need = []
-        pool = list(helpers)
-        changed = True
-        txt = ib
-        while changed:
-            changed = False
-            for hh in list(pool):
-                hm = re.match('(?:--[^\\n]*\\n)*(?:(?:abbrev|unfoldable|pub) )*(' + W + ')', hh)
-                if hm and re.search('(?<![^\\s(){};,@.])' + re.escape(hm.group(1)) + '(?![^\\s(){}.;,@])', txt):
-                    need.append(hh)
-                    pool.remove(hh)
-                    txt += '\n' + hh
-                    changed = True
-        need = [h for h in helpers if h in need]
+            body = re.sub(ALONE + re.escape(args[-1]) + rf"((?:\.{WORD})+)" + END, one, body).strip()
+            loops.append(f"abbrev pub decreases-{which} : goal.decreases-{which}\ndecreases-{which} l = {body}")
+        elif loop:
+            it = of[dashed(loop.group(1))]
+            now, body = it.in_loop(name, dashed(loop.group(3)), *equation(name, block, "\n"))
+            goal = f"{loop.group(2)}-{it.given.get('stem') or ''}{now}"
+            loops.append(f"abbrev pub {goal} : goal.{goal}\n{goal} l ={body.rstrip()}")
+        elif kind == "other" or not need:
+            helpers.append(block.rstrip())
+        else:
+            it = of[dashed(need.group(1))]
+            args, body = equation(name, block, "-lts.Need-")
+            short = dashed(name).removeprefix(dashed(need.group(1)) + "-")
+            old = it.goal(short)
+            if is_found_by_itself(body):
+                continue
+            if old is None:
+                told(f, f"{name}: no such goal; {body.strip()[:80]!r}")
+                continue
+            now, place = it.goals[old]
+            body = it.answered(it.lets_turned(it.turned(body, "c", place)), short, now)
+            goal = (it.given.get("stem") or "") + now
+            args = " ".join(a for a in args if a != "κs")
+            answers.append("\n".join([f"pub {goal} : goal.{goal}", *lines_of(block, "unfolding"), f"{goal} {args} ={body.rstrip()}"]))
+    for name, module, parts in (("Invariants.antt", "Given", loops), ("Answers.antt", "Goals", helpers + answers)):
+        write(folder, name, "\n".join([*uses, f"use Rattle.{CRATE}.proofs.{f}.{module} as goal"]), *parts)
 
-        def pubbed(h):
-            return re.sub('(?m)^((?:abbrev|unfoldable) )(?!pub)', '\\1pub ', h, count=1)
-        itext = '\n'.join(intro + uses2 + [f'use Rattle.{CRATE}.proofs.{mod}.Given as goal']) + '\n\n'
-        if need:
-            itext += '\n\n'.join((pubbed(h) for h in need)) + '\n\n'
-        itext += ib + '\n'
-        open(os.path.join(folder, 'Invariants.antt'), 'w').write(itext)
-        if need:
-            nn = [re.match('(?:--[^\\n]*\\n)*(?:(?:abbrev|unfoldable|pub) )*(' + W + ')', h).group(1) for h in need]
-            helpers[:] = [h for h in helpers if h not in need]
-            uses2 = uses2 + [f"use Rattle.{CRATE}.proofs.{mod}.Invariants.{{{', '.join(nn)}}}"]
-            hs = '\n\n'.join(helpers)
+
+# ---- any other function
+
+
+def places_turned(it, text):
+    """The type of a place's record, by its name now."""
+
+    def one(m):
+        if m.group(1) not in it.place_now:
+            told(it.f, "tie." + m.group(1))
+        return "goal." + it.place_now.get(m.group(1), m.group(1))
+
+    return re.sub(rf"\btie\.({WORD})", one, text)
+
+
+def helper(it, name, block):
+    """A definition of the walk's own, which may be over the record of a place."""
+    over = re.search(rf"\((\w+) : tie\.({WORD})\)", block)
+    if over and over.group(2) in it.places:
+        block = it.turned(block, over.group(1), over.group(2))
+    elif "tie." in block:
+        told(it.f, f"helper {name} cites tie")
+    return places_turned(it, block).rstrip()
+
+
+def with_loops(f, folder, uses, intro, loops, helpers):
+    """Writes the invariants with the definitions that they name; answers what is left of these, and how to import the others."""
+    named, text = [], "\n\n".join(loops)
+    name_of = lambda it: re.match(rf"(?:--[^\n]*\n)*(?:(?:abbrev|unfoldable|pub) )*({WORD})", it).group(1)
+    more = True
+    while more:
+        more = [it for it in helpers if it not in named and re.search(r"(?<![^\s(){};,@.])" + re.escape(name_of(it)) + END, text)]
+        named += more[:1]
+        text += "".join("\n" + it for it in more[:1])
+    named = [it for it in helpers if it in named]
+    public = [re.sub(r"(?m)^((?:abbrev|unfoldable) )(?!pub)", r"\1pub ", it, count=1) for it in named]
+    write(folder, "Invariants.antt", "\n".join([*intro, *uses, f"use Rattle.{CRATE}.proofs.{f}.Given as goal"]), *public, *loops)
+    imports = [f"use Rattle.{CRATE}.proofs.{f}.Invariants.{{{', '.join(map(name_of, named))}}}"] if named else []
+    return [it for it in helpers if it not in named], imports
+
+
+def walk(f, folder, text, names):
+    key = next((k for k in names if re.match(rf"Rattle-{CRATE}-proofs\.{re.escape(f.replace('/', '.'))}\.Lts", k)), None)
+    if key is None:
+        return told(f, "no names")
+    it = Names(f, names[key])
+    uses, helpers, loops, answers = [], [], [], []
+    for kind, name, block in declarations(text):
+        over = re.search(r" : tie\.(Need-\S+|invariant\S*|decreases\S*)", block)
+        if kind == "use":
+            if not re.search(r"\.(Statement|Tie)\b", block):
+                uses.append(uncommented(block))
+        elif kind == "other":
+            helpers.append(block.rstrip())
+        elif "tie.close" in block or re.search(r"(?:^|\n)pub \S+[-_]spec : ", block):
+            continue
+        elif over is None:
+            helpers.append(helper(it, name, block))
+        elif not over.group(1).startswith("Need-"):
+            what, _, loop = over.group(1).partition("-")
+            if dashed(loop) not in it.loops:
+                told(f, f"{over.group(1)}: no loop")
+                continue
+            now, body = it.in_loop(name, dashed(loop), *equation(name, block, " : tie."))
+            goal = f"{what}-{now}"
+            loops.append("\n".join([*lines_of(block, "--"), f"abbrev pub {goal} : goal.{goal}", f"{goal} l ={body.rstrip()}"]))
+        else:
+            args, body = equation(name, block, " : tie.")
+            old = it.goal(name, over.group(1)[5:])
+            if is_found_by_itself(body):
+                continue
+            if old is None:
+                if not name.startswith(("slice-aggregate", "array-read", "element-")):
+                    told(f, f"{name}: no such goal now; body {body.strip()[:80]!r}")
+                continue
+            goal, place = it.goals[old]
+            body = places_turned(it, it.turned(body, args[0], place))
+            body = it.answered(it.lets_turned(body), old, goal)
+            args = " ".join(a for a in args if a not in ("κs", "_"))
+            lines = [*lines_of(block, "--"), f"pub {goal} : goal.{goal}", *lines_of(block, "unfolding"), f"{goal} {args} ={body.rstrip()}"]
+            answers.append(plain_tests("\n".join(lines)))
+    intro = [line for line in text.split("\n")[:3] if line.startswith("--")][:1]
+    imports = []
+    if loops:
+        helpers, imports = with_loops(f, folder, uses, intro, loops, helpers)
     if answers:
-        atext = '\n'.join(intro + uses2 + [f'use Rattle.{CRATE}.proofs.{mod}.Goals as goal']) + '\n\n'
-        if hs:
-            atext += hs + '\n\n'
-        atext += '\n\n'.join((a for _, a in answers)) + '\n'
-        open(os.path.join(folder, 'Answers.antt'), 'w').write(atext)
+        write(folder, "Answers.antt", "\n".join([*intro, *uses, *imports, f"use Rattle.{CRATE}.proofs.{f}.Goals as goal"]), *helpers, *answers)
+
+
+def turn(f, folder, names):
+    path = os.path.join(folder, "Proof.antt")
+    text = open(path).read()
+    # the name that the new files give to the goals
+    if re.search(r"(?m)^use \S+ as goal$", text):
+        text = re.sub(r"(?m)^(use \S+ as) goal$", r"\1 given", text)
+        text = re.sub(r"(?<![\w.\-])goal\.(?=\w)", "given.", text)
+    if f.startswith("+"):
+        cycle(f, folder, declarations(text), names)
+    else:
+        walk(f, folder, re.sub(r" :[ \t]*\n[ \t]+tie\.", " : tie.", text), names)
     os.remove(path)
 
 
-for r, ds_, fs in sorted(os.walk(os.path.join(CR, 'proofs'))):
-    if 'Proof.antt' in fs:
-        f = os.path.relpath(r, os.path.join(CR, 'proofs'))
-        if only and f not in only:
-            continue
-        try:
-            convert(f, os.path.join(r, 'Proof.antt'))
-        except Exception as e:
-            import traceback
-            traceback.print_exc()
-            report(f, 'FAILED ' + repr(e))
+def main(crate, names, *only):
+    with open(names) as f:
+        names = json.load(f)
+    for folder, _, files in sorted(os.walk(os.path.join(crate, "proofs"))):
+        f = os.path.relpath(folder, os.path.join(crate, "proofs"))
+        if "Proof.antt" in files and (not only or f in only):
+            turn(f, folder, names)
+
+
+if __name__ == "__main__":
+    main(*sys.argv[1:])

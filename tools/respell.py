@@ -14,13 +14,13 @@ import sys
 TOKEN = r'[^\s(){}.;,@"«»]+'
 DECLARED = re.compile(r"^([ \t]*)(?:(?:abbrev|unfoldable|pub|private) )*((?:" + TOKEN + r" )+):(?= |$)")
 KEYWORDS = {"record", "data", "abbrev", "pub", "unfoldable", "let", "use", "module", "where", "in", "="}
-# A module that Rattle makes is called so.
 # Two definitions that would meet: the one in these crates gets a name of its own.
 APART = {
     "rules_deck": {"isName": "is_the_name"},
     "rules_formats": {"a-comma": "comma_between"},
     "rules_text": {"an-element": "element_factor", "a-loop": "a_do_loop"},
 }
+# Rattle makes a module `contracts`.
 MOVED = {"crates/take_instructions/specs/Contracts.antt": ("Contracts", "Emitting")}
 
 
