@@ -9,7 +9,6 @@ ghost use Rattle.run_object.specs.Outcomes.{Ends};
 ghost use Rattle.calls.specs.Outcomes.{Compiles};
 
 use check_verdicts::{Refusal, Written};
-use compiler::Compiled;
 use limits::STACK;
 use run_object::Ran;
 
@@ -18,26 +17,7 @@ use run_object::Ran;
 pub extern "C" fn luvinqata_compile(k: u32, deck: &[u8], output: &mut [u8]) -> Written
     ensures { Compiles k deck.now output.old output.new result }
 {
-    match compiler::compile(k, deck, output) {
-        Compiled::Refused { number, place } => Written {
-            number,
-            place,
-            kind: 0,
-            length: 0,
-        },
-        Compiled::Object(length) => Written {
-            number: 0,
-            place: 0,
-            kind: 0,
-            length,
-        },
-        Compiled::Short => Written {
-            number: 30,
-            place: 0,
-            kind: 0,
-            length: 0,
-        },
-    }
+    Written::from(compiler::compile(k, deck, output))
 }
 
 #[unsafe(no_mangle)]

@@ -4,7 +4,7 @@ use mathlib.Core.Path.{◌≡◌, refl, sym, ap, ◌∙◌}
 use Prim.Native.Nat.{ℕ, zero, suc, ◌+◌, ◌≤◌, ◌<◌}
 use native.Mathlib.Numerals.{add-one}
 use native.Mathlib.Omega.{arith}
-use mathlib.Core.Bool.{Bool, true, false, ◌&&◌}
+use mathlib.Core.Bool.{true, false, ◌&&◌}
 use mathlib.Core.List.{List, [], ◌∷◌, map}
 use lib.Dec.{leb}
 use lib.ListN.{length, get_or, take, drop, length-map, drop_of_length-le}
@@ -73,10 +73,9 @@ counts_are e s =
       length-map o.transfers transfer_words ∙ transfer_length e s,
     )
 
-pub limits_are : (e : Layout) (s : List ℕ) (n : ℕ) (r : Bool) → n ≡ length (kinds_of e.edition) → r ≡ counts_within (take n every_kind) (counts_of e)
-    → (leb 1 e.digits && (leb e.digits limits.digits && (leb e.cells limits.cells && r))) ≡ right41 (object_at e s)
+pub limits_are : (e : Layout) (s : List ℕ) (n : ℕ) → n ≡ length (kinds_of e.edition)
+    → right41 (object_at e s) ≡ (leb 1 e.digits && (leb e.digits limits.digits && (leb e.cells limits.cells && counts_within (take n every_kind) (counts_of e))))
 unfolding right41 object_at
-limits_are e s n r q h =
+limits_are e s n q =
     let kinds : take n every_kind ≡ kinds_of e.edition = ap (λ (m : ℕ). take m every_kind) q ∙ sym (first_kinds_lem e.edition) in
-    ap (λ (b : Bool). leb 1 e.digits && (leb e.digits limits.digits && (leb e.cells limits.cells && b)))
-    (h ∙ ap (λ (ks : List Kind). counts_within ks (counts_of e)) kinds ∙ ap (counts_within (kinds_of e.edition)) (sym (counts_are e s)))
+    rw (kinds, counts_are e s)

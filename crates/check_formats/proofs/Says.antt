@@ -1,12 +1,12 @@
 -- What the tests of a word, an item and a transfer come to is what the book says of them.
 -- Assumes nothing.
 use mathlib.Core.Path.{◌≡◌}
-use Prim.Native.Nat.{ℕ, ◌+◌, ◌*◌, ◌≤◌, ◌<◌}
-use mathlib.Core.Bool.{Bool, false, ◌&&◌, ◌||◌}
+use Prim.Native.Nat.{ℕ, ◌+◌, ◌*◌, ◌<◌}
+use mathlib.Core.Bool.{◌&&◌, ◌||◌}
 use mathlib.Core.List.{List}
 use lib.Dec.{ltb, leb, eqb}
 use lib.ListN.{get_or, drop}
-use borrow.Author.Tests.{lt-ltb, le-ltb, eq-eqb, ne_eqb}
+use borrow.Author.Tests.{eq-eqb, ne_eqb}
 use Rattle.rules_object.specs.Check.{format_start, right_item, has_number, right_transfer}
 use Rattle.rules_object.specs.Operations.{no_transfer}
 use Rattle.object_words.specs.Word.{word_at}
@@ -30,20 +30,9 @@ module _ (e : Layout) (s : List ℕ) (i : ℕ) where
   cells_item h first count f c q =
       rw (item_at_lem e s i no_item h, ← f, ← c, ne_eqb count 0 q)
 
-  -- its FORMAT is not there
-  pub no_format : i < e.transfer_count → (format : ℕ) → format ≡ word_at s (e.transfers + 12 * i) → e.format_count ≤ format
-      → false ≡ right_transfer (object_at e s) (get_or (object_at e s).transfers i no_transfer)
+  -- a transfer; whether its FORMAT begins there and has a number is asked only of one that is there
+  pub transfer_says : i < e.transfer_count → (format first count : ℕ) → format ≡ word_at s (e.transfers + 12 * i) → first ≡ word_at s (e.transfers + 12 * i + 4) → count ≡ word_at s (e.transfers + 12 * i + 8)
+      → right_transfer (object_at e s) (get_or (object_at e s).transfers i no_transfer)
+      ≡ (ltb format e.format_count && (eqb (format_start (object_at e s) format) format && (leb (first + count) e.item_count && (eqb count 0 || has_number (drop format (object_at e s).formats)))))
   unfolding right_transfer transfer_at
-  no_format h format f l = rw (transfer_at_lem e s i no_transfer h, ← f, format_length e s, le-ltb format e.format_count l)
-
-  pub transfer_says : i < e.transfer_count → (format first count : ℕ) (in₁ in₂ : Bool)
-      → format ≡ word_at s (e.transfers + 12 * i)
-      → first ≡ word_at s (e.transfers + 12 * i + 4)
-      → count ≡ word_at s (e.transfers + 12 * i + 8)
-      → format < e.format_count
-      → in₁ ≡ eqb (format_start (object_at e s) format) format
-      → in₂ ≡ has_number (drop format (object_at e s).formats)
-      → (in₁ && (leb (first + count) e.item_count && (eqb count 0 || in₂))) ≡ right_transfer (object_at e s) (get_or (object_at e s).transfers i no_transfer)
-  unfolding right_transfer transfer_at
-  transfer_says h format first count in₁ in₂ f a c l p q =
-      rw (transfer_at_lem e s i no_transfer h, ← f, ← a, ← c, format_length e s, item_length_lem e s, lt-ltb format e.format_count l, p, q)
+  transfer_says h format first count f a c = rw (transfer_at_lem e s i no_transfer h, ← f, ← a, ← c, format_length e s, item_length_lem e s)

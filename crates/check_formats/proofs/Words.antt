@@ -4,52 +4,16 @@ use mathlib.Core.Path.{◌≡◌, refl, sym, ap, ◌∙◌}
 use Prim.Native.Nat.{ℕ, zero, suc, ◌+◌, ◌-◌, ◌≤◌, ◌<◌}
 use native.Mathlib.Numerals.{add-one}
 use native.Mathlib.Omega.{arith}
-use mathlib.Core.Bool.{Bool, true, false, ◌&&◌, ◌||◌, not, cond}
+use mathlib.Core.Bool.{Bool, true, false, ◌&&◌, ◌||◌, cond}
 use mathlib.Core.List.{List}
 use lib.Dec.{ltb, leb, eqb}
-use lib.ListN.{length, get_or, drop, drop_of_length-le}
+use lib.ListN.{length, drop, drop_of_length-le}
 use lib.Seq.{drop-cons}
 use borrow.Author.Tests.{eq-eqb, ne_eqb}
-use Rattle.rules_formats.specs.Punched.{right_number}
 use Rattle.rules_formats.specs.Words.{word_kind, word_operand, is_end}
 use Rattle.rules_object.specs.Object.{Object}
-use Rattle.rules_object.specs.Check.{is_letter, is_digit, character, right_field, format_word, format_start, right_format, has_number}
+use Rattle.rules_object.specs.Check.{right_field, format_word, format_start, right_format, has_number}
 use Rattle.rules_object.specs.Operations.{format_right}
-
--- ---- characters and fields
-
-or_none : (b : Bool) → (b || false) ≡ b
-or_none true = refl
-or_none false = refl
-
-or_assoc : (a b c : Bool) → ((a || b) || c) ≡ (a || (b || c))
-or_assoc true b c = refl
-or_assoc false b c = refl
-
-pub marks : (c : ℕ)
-    → (eqb c 32 || (is_letter c || (is_digit c || (((((((((eqb c 46 || eqb c 41) || eqb c 43) || eqb c 36) || eqb c 42) || eqb c 45) || eqb c 47) || eqb c 44) || eqb c 40) || eqb c 61)))) ≡ character c
-unfolding character
-marks c = simp (or_assoc, or_none)
-
-pub number_field : (kind n : ℕ) → kind ≡ 1 → right_number n ≡ right_field kind n
-unfolding right_field
-number_field kind n q = rw q
-
-pub skip_field : (kind n : ℕ) → kind ≡ 2 → right_number n ≡ right_field kind n
-unfolding right_field
-skip_field kind n q = rw q
-
-pub character_field : (kind n : ℕ) → kind ≡ 3 → character n ≡ right_field kind n
-unfolding right_field
-character_field kind n q = rw q
-
-pub slash_field : (kind n : ℕ) → kind ≡ 4 → eqb n 0 ≡ right_field kind n
-unfolding right_field
-slash_field kind n q = rw q
-
-pub no_field : (kind n : ℕ) → (kind ≡ 1 → ⊥) → (kind ≡ 2 → ⊥) → (kind ≡ 3 → ⊥) → (kind ≡ 4 → ⊥) → false ≡ right_field kind n
-unfolding right_field
-no_field kind n a b c d = rw (ne_eqb kind 1 a, ne_eqb kind 2 b, ne_eqb kind 3 c, ne_eqb kind 4 d)
 
 -- ---- where FORMATs begin
 
@@ -68,10 +32,7 @@ module _ (o : Object) where
       go true h = omega arith
       go false h = omega arith
 
-  -- a FORMAT begins at 0, and else exactly after an end
-  pub begins_first : (i : ℕ) → i ≡ 0 → true ≡ eqb (format_start o i) i
-  begins_first i q = rw q
-
+  -- but for the first word of all, a FORMAT begins exactly after an end
   pub begins_after : (i : ℕ) → (i ≡ 0 → ⊥) → is_end (format_word o (i - 1)) ≡ eqb (format_start o i) i
   begins_after zero h = absurd (h refl)
   begins_after (suc i) h =
@@ -112,18 +73,6 @@ pub whole_none : (o : Object) (i : ℕ) → length o.formats ≤ i → format_ri
 whole_none o i h = ap (format_right o i) (drop_of_length-le o.formats {i = i} h)
 
 -- ---- an I among the fields
-
-number_step : (words : List ℕ) (i : ℕ) → i < length words → has_number (drop i words) ≡ (not (is_end (get_or words i 0)) && (eqb (word_kind (get_or words i 0)) 1 || has_number (drop (suc i) words)))
-number_step words i h = ap has_number (drop-cons words i 0 h)
-
-pub ends_first : (words : List ℕ) (i : ℕ) → i < length words → is_end (get_or words i 0) ≡ true → has_number (drop i words) ≡ false
-ends_first words i h e = number_step words i h ∙ rw e
-
-pub number_there : (words : List ℕ) (i : ℕ) → i < length words → is_end (get_or words i 0) ≡ false → word_kind (get_or words i 0) ≡ 1 → has_number (drop i words) ≡ true
-number_there words i h e q = number_step words i h ∙ rw (e, eq-eqb (word_kind (get_or words i 0)) 1 q)
-
-pub number_later : (words : List ℕ) (i : ℕ) → i < length words → is_end (get_or words i 0) ≡ false → (word_kind (get_or words i 0) ≡ 1 → ⊥) → has_number (drop i words) ≡ has_number (drop (i + 1) words)
-number_later words i h e q = number_step words i h ∙ rw (e, ne_eqb (word_kind (get_or words i 0)) 1 q, add-one i)
 
 pub number_none : (words : List ℕ) (i : ℕ) → length words ≤ i → has_number (drop i words) ≡ false
 number_none words i h = ap has_number (drop_of_length-le words {i = i} h)

@@ -7,6 +7,7 @@ use mathlib.Core.Option.{some}
 use Prim.Native.Nat.{ℕ, ◌+◌, ◌-◌, ◌≤◌, ◌<◌}
 use native.Mathlib.Omega.{arith}
 use lib.ListN.{length, take, set}
+use Rattle.std.specs.Prelude.{Some, None}
 use Rattle.rules_object.specs.Flow.{Flow, PathsAgree}
 use Rattle.rules_object.specs.Heights.{heights, waiting}
 use Rattle.rules_object.specs.Filling.{nevers, Filling, Went}
@@ -15,26 +16,24 @@ use Rattle.rules_object.proofs.OneTable.{least_is, no_table_is}
 use Rattle.check_heights.specs.Judged.{Fresh, answered}
 use Rattle.check_heights.specs.Walk.{Visited}
 use Rattle.check_meeting.specs.Meeting.{Goes}
-use Rattle.check_meeting.specs.declared.Met.{Met}
-use Rattle.check_meeting.specs.declared.Met.TheVariants.{On, No}
 
 -- ---- a meeting and a visit, by their answer
 
-pub went : (F : Flow) (H W : List ℕ) (sum v a k top : ℕ) (r : Met) → Goes F H W sum v a k r → r ≡ On top → Went F H W sum v a k top
+pub went : (F : Flow) (H W : List ℕ) (sum v a k top : ℕ) → Goes F H W sum v a k (Some top) → Went F H W sum v a k top
 unfolding Goes
-went F H W sum v a k top r g e = subst (λ (r : Met). Goes F H W sum v a k r) e g
+went F H W sum v a k top g = g
 
-pub blocked : (F : Flow) (H W : List ℕ) (sum v a k : ℕ) (r : Met) → Goes F H W sum v a k r → r ≡ No → PathsAgree F → ⊥
+pub blocked : (F : Flow) (H W : List ℕ) (sum v a k : ℕ) → Goes F H W sum v a k None → PathsAgree F → ⊥
 unfolding Goes
-blocked F H W sum v a k r g e = subst (λ (r : Met). Goes F H W sum v a k r) e g
+blocked F H W sum v a k g = g
 
-pub visited : (F : Flow) (H W : List ℕ) (sum top : ℕ) (r : Met) → Visited F H W sum r → r ≡ On top → Filling F H W top × (nevers H + top ≡ sum)
+pub visited : (F : Flow) (H W : List ℕ) (sum top : ℕ) → Visited F H W sum (Some top) → Filling F H W top × (nevers H + top ≡ sum)
 unfolding Visited
-visited F H W sum top r g e = subst (λ (r : Met). Visited F H W sum r) e g
+visited F H W sum top g = g
 
-pub stuck : (F : Flow) (H W : List ℕ) (sum : ℕ) (r : Met) → Visited F H W sum r → r ≡ No → PathsAgree F → ⊥
+pub stuck : (F : Flow) (H W : List ℕ) (sum : ℕ) → Visited F H W sum None → PathsAgree F → ⊥
 unfolding Visited
-stuck F H W sum r g e = subst (λ (r : Met). Visited F H W sum r) e g
+stuck F H W sum g = g
 
 -- ---- the loop over what waits
 

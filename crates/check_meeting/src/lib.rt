@@ -17,29 +17,29 @@ pub const NEVER: u8 = 255;
 
 const STACK: u8 = limits::STACK as u8;
 
-// How many instructions wait, or that there is no table.
-#[derive(Drop)]
-pub enum Met {
-    On(usize),
-    No,
-}
-
-// The height h comes to the instruction t.
-pub fn meet(t: usize, n: usize, h: u8, table: &mut Table, work: &mut Work, top: usize) -> Met
+// The height h comes to the instruction t: how many instructions wait then, if there can be a table.
+pub fn meet(
+    t: usize,
+    n: usize,
+    h: u8,
+    table: &mut Table,
+    work: &mut Work,
+    top: usize,
+) -> Option<usize>
     requires { (n ≤ 4096) × ((n ≤ length table.old) × (nevers table.old + top ≤ 4096)) }
     ensures { Meets n t h table.old work.old top table.new work.new result }
 {
     if n <= t {
-        return Met::No;
+        return None;
     }
     let g = table[t];
     if g == NEVER {
         if STACK < h {
-            return Met::No;
+            return None;
         }
         table[t] = h;
         work[top] = t as u16;
-        return Met::On(top + 1);
+        return Some(top + 1);
     }
-    if g == h { Met::On(top) } else { Met::No }
+    if g == h { Some(top) } else { None }
 }

@@ -1,92 +1,67 @@
-// 42 of the entries of body 7, and spans of cells, worked exactly. Tests are joined by `&`, as in `judge`.
+// 42 of the entries of body 7, and spans of cells, worked exactly.
 #![tactic(auto)]
 
-ghost use Rattle.std.specs.Prelude.{◌≡◌, ◌||◌, ◌+◌, ◌*◌, ◌^◌, ◌≤◌, ◌<◌, leb, length, get_or, drop};
-ghost use Rattle.rules_object.specs.Check.{right_named, right_name, is_letter, is_digit, blanks, span};
-ghost use Rattle.object_contents.specs.Layout.{Placed, object_at};
-ghost use Rattle.check_names.specs.Names.{no_name, name_at, NameEnd};
+ghost use Rattle.std.specs.Prelude.{◌≡◌, ◌+◌, ◌*◌, ◌≤◌, ◌<◌, ◌==◌, leb, length, get_or, drop};
+ghost use Rattle.std.specs.List.{list_all};
+ghost use Rattle.rules_object.specs.Check.{right_named, right_name, span};
+ghost use Rattle.object_contents.specs.Book.{book_of};
+ghost use Rattle.check_names.specs.Names.{no_name, NameEnd};
 
-use object_contents::Layout;
-
-const BLANK: u8 = b' ';
-
-pub fn wide(w: u32) -> u64
-    ensures { (result ≡ w) × (result < 2 ^ 32) }
-{
-    w as u64
-}
+use object_contents::Object;
+use object_words::load;
 
 // Exact: the words are 32 bits wide and the sum is not.
 pub fn inside(first: u32, rows: u32, columns: u32, cells: u32) -> bool
     ensures { result ≡ leb (first + rows * columns) cells }
 {
-    wide(first) + wide(rows) * wide(columns) <= wide(cells)
-}
-
-fn letter_or_digit(c: u8) -> bool
-    ensures { result ≡ (is_letter c || is_digit c) }
-{
-    ((b'A' <= c) & (c <= b'Z')) | ((b'0' <= c) & (c <= b'9'))
+    u64::from(first) + u64::from(rows) * u64::from(columns) <= u64::from(cells)
 }
 
 // Where the letters and digits of a name end: after six characters at most.
-fn name_end(o: &[u8], b: usize) -> usize
-    requires { b + 8 ≤ length o.now }
-    ensures { NameEnd (name_at o.now b) result }
+fn name_end(name: &[u8]) -> usize
+    requires { length name.now ≡ 8 }
+    ensures { NameEnd name.now result }
 {
-    let mut k: usize = 1;
-    while k < 6 {
-        if !letter_or_digit(o[b + k]) {
+    for k in 1..6 {
+        if !(name[k].is_ascii_uppercase() || name[k].is_ascii_digit()) {
             return k;
         }
-        k += 1;
     }
-    k
+    6
 }
 
-fn blank_from(o: &[u8], b: usize, from: usize) -> bool
-    requires { (b + 8 ≤ length o.now) × (from ≤ 8) }
-    ensures { result ≡ blanks (drop from (name_at o.now b)) }
+fn is_blank(bytes: &[u8]) -> bool
+    ensures { result ≡ list_all (λ c. c == 32) bytes.now }
 {
-    let mut k = from;
-    while k < 8 {
-        if o[b + k] != BLANK {
-            return false;
-        }
-        k += 1;
-    }
-    true
+    bytes.iter().all(|c| *c == b' ')
 }
 
-fn name_right(o: &[u8], b: usize) -> bool
-    requires { b + 8 ≤ length o.now }
-    ensures { result ≡ right_name (name_at o.now b) }
+fn name_right(name: &[u8]) -> bool
+    requires { length name.now ≡ 8 }
+    ensures { result ≡ right_name name.now }
 {
-    let c = o[b];
-    let end = name_end(o, b);
-    (b'I' <= c) & ((c <= b'N') & blank_from(o, b, end))
+    b'I' <= name[0] && name[0] <= b'N' && is_blank(&name[name_end(name)..])
 }
 
 // How many cells a name has.
 fn span_of(rows: u32, columns: u32) -> u64
     ensures { (result ≡ span rows columns) × (result ≤ 4294967295 * 4294967295) }
 {
-    if rows == 0 {
-        return 1;
+    match (rows, columns) {
+        (0, _) => 1,
+        (_, 0) => u64::from(rows),
+        _ => u64::from(rows) * u64::from(columns),
     }
-    if columns == 0 {
-        return wide(rows);
-    }
-    wide(rows) * wide(columns)
 }
 
-pub fn named_right(o: &[u8], e: Layout, i: usize) -> bool
-    requires { Placed e o.now × (i < e.name_count) }
-    ensures { result ≡ right_named (object_at e o.now) (get_or (object_at e o.now).names i no_name) }
+pub fn named_right(o: &Object, i: usize) -> bool
+    requires { i < o.now.layout.name_count }
+    ensures { result ≡ right_named (book_of o.now) (get_or (book_of o.now).names i no_name) }
 {
-    let b = e.names + 20 * i;
-    let rows = object_words::load(o, b + 12);
-    let columns = object_words::load(o, b + 16);
-    let last = wide(object_words::load(o, b + 8)) + span_of(rows, columns);
-    name_right(o, b) & (((1 <= rows) | (columns == 0)) & (last <= wide(e.cells)))
+    let b = o.layout.names + 20 * i;
+    let rows = load(o.bytes, b + 12);
+    let columns = load(o.bytes, b + 16);
+    let plain_or_table = 1 <= rows || columns == 0;
+    let last = u64::from(load(o.bytes, b + 8)) + span_of(rows, columns);
+    name_right(&o.bytes[b..b + 8]) && plain_or_table && last <= u64::from(o.layout.cells)
 }

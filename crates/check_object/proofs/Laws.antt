@@ -1,12 +1,12 @@
 -- Each answer of the check over plain lists; the first bad entry is one of those there are.
 -- Assumes nothing.
-use mathlib.Core.Path.{◌≡◌, refl, sym, ap, ◌∙◌, subst}
+use mathlib.Core.Path.{◌≡◌, refl, sym, subst}
 use mathlib.Core.Bool.{Bool, true, false, cond}
 use mathlib.Core.List.{List, [], ◌∷◌}
 use mathlib.Core.Option.{Option, none, some}
 use Prim.Native.Nat.{ℕ, zero, suc, ◌+◌, ◌≤◌, ◌<◌}
 use native.Mathlib.Omega.{arith}
-use lib.ListN.{length, get_or}
+use lib.ListN.{length, get_or, take}
 use Rattle.number.specs.Number.{digits_rule}
 use Rattle.rules_object.specs.Object.{Object, rule_of}
 use Rattle.rules_object.specs.Check.{right41, right_constant, right_element, right_loop, right_line, right_named, right_format, right_item, right_transfer}
@@ -16,41 +16,17 @@ use Rattle.rules_object.specs.Bytes.{read_object}
 use Rattle.rules_object.specs.Writable.{Edition}
 use Rattle.rules_shared.specs.Refusals.{Refusal, refusal, at_entry}
 use Rattle.rules_shared.specs.Lists.{first_bad, first_from}
-use Rattle.rules_object.specs.Calls.{refused42, refused43, Checked, refused, judged44, judged, checked}
+use Rattle.rules_object.specs.Calls.{refused42, refused43, refused, passed, checked}
 use Rattle.rules_object.proofs.Passed.{some_none}
 use Rattle.rules_object.proofs.Limited.{Limited, limited}
 use Rattle.rules_object.proofs.Accepts.{If, or_if}
 use Rattle.object_contents.specs.declared.Layout.{Layout}
 use Rattle.object_contents.specs.Layout.{object_at, Placed}
-use Rattle.object_contents.proofs.Entries.{code_length}
-use Rattle.check_entries.specs.declared.Found.{Found}
-use Rattle.check_entries.specs.declared.Found.TheVariants.{Nothing, At}
 use Rattle.check_names.specs.Names.{no_name}
 use Rattle.check_formats.specs.Formats.{no_item}
-use Rattle.check_entries.specs.Judge.{no_line, refusal_of}
-use Rattle.check_heights.specs.Judged.{Judged, answered}
-use Rattle.check_object.specs.declared.Verdict.{Verdict}
-use Rattle.check_object.specs.Verdicts.{no_layout, passing, judged_all, Says}
-
--- ---- a verdict as it is made
-
-pub refuses : (n p k : ℕ) → 0 < n → (s table : List ℕ) → Says (record { number = n; place = p; kind = k; layout = no_layout }) s table (refused (refusal n p k))
-refuses zero p k h s table = absurd (omega arith)
-refuses (suc n) p k h s table = record { is = refl; besides = refl }
-
-pub says : {v : Verdict} {s table : List ℕ} {c d : Checked} → c ≡ d → Says v s table c → Says v s table d
-says e h = record { is = h.is ∙ e; besides = h.besides }
-
--- ---- 44
-
-module _ (e : Layout) (s table : List ℕ) (r : Bool) (h : heights (flow_of (object_at e s)) ≡ answered e.code_count table r) where
-  pub with_table : r ≡ true → passing e s table ≡ judged44 (object_at e s) (heights (flow_of (object_at e s)))
-  unfolding answered passing
-  with_table q = rw (h, q)
-
-  pub no_table : r ≡ false → refused (refusal 44 0 0) ≡ judged44 (object_at e s) (heights (flow_of (object_at e s)))
-  unfolding answered
-  no_table q = rw (h, q)
+use Rattle.check_entries.specs.Judge.{no_line}
+use Rattle.check_heights.specs.Judged.{answered}
+use Rattle.check_object.specs.Verdicts.{judged_all}
 
 -- ---- the first bad entry, of those counted from n
 
@@ -132,51 +108,46 @@ low_43 o l = low (right43 o) o.code 0 43 5 (omega arith)
 
 -- ---- what was found, of 42 and of 43
 
-module _ (o : Object) (f : Found) (kind i : ℕ) (q : f ≡ At kind i) where
-  found : (n : ℕ) → some (refusal n i kind) ≡ refusal_of n f
-  unfolding refusal_of
-  found n = rw q
+module _ (o : Object) (v : Edition o) (r : right41 o ≡ true) (p k : ℕ) where
+  pub place_42 : some (refusal 42 p k) ≡ refused42 o → p < 4096
+  place_42 h = subst (If Low) (sym h) (low_42 o (limited o v r))
 
-  pub place_42 : refusal_of 42 f ≡ refused42 o → Edition o → right41 o ≡ true → i < 4096
-  place_42 h v r = subst (If Low) (sym (found 42 ∙ h)) (low_42 o (limited o v r))
+  pub place_43 : some (refusal 43 p k) ≡ refused43 o → p < 4096
+  place_43 h = subst (If Low) (sym h) (low_43 o (limited o v r))
 
-  pub place_43 : refusal_of 43 f ≡ refused43 o → Edition o → right41 o ≡ true → i < 4096
-  place_43 h v r = subst (If Low) (sym (found 43 ∙ h)) (low_43 o (limited o v r))
+-- every word is right
+pub all_43 : (o : Object) → none ≡ refused43 o → (a : ℕ) → a < length o.code → right43 o (get_or o.code a 0) ≡ true
+unfolding refused43
+all_43 o h = by (first_bad (right43 o) o.code 0) (first (right43 o) o.code 0 0) (sym h)
+  where
+    by : (g : Option ℕ) → First (right43 o) o.code 0 0 g → at_entry 43 5 g ≡ none → (a : ℕ) → a < length o.code → right43 o (get_or o.code a 0) ≡ true
+    by none all e = all
+    by (some i) g e = absurd (some_none e)
 
-  pub found_42 : refusal_of 42 f ≡ refused42 o → right41 o ≡ true → refused (refusal 42 i kind) ≡ judged_all o
-  unfolding judged_all
-  found_42 h r = rw (r, ← h, ← found 42)
-
-  pub found_43 : refusal_of 43 f ≡ refused43 o → refused (refusal 43 i kind) ≡ judged o (refused43 o)
-  found_43 h = ap (judged o) (found 43 ∙ h)
-
-module _ (o : Object) (f : Found) (q : f ≡ Nothing) where
-  nothing : (n : ℕ) → none ≡ refusal_of n f
-  unfolding refusal_of
-  nothing n = rw q
-
-  pub none_42 : refusal_of 42 f ≡ refused42 o → right41 o ≡ true → judged o (refused43 o) ≡ judged_all o
-  unfolding judged_all
-  none_42 h r = rw (r, ← h, ← nothing 42)
-
-  pub none_43 : refusal_of 43 f ≡ refused43 o → judged44 o (heights (flow_of o)) ≡ judged o (refused43 o)
-  none_43 h = ap (judged o) (nothing 43 ∙ h)
-
-  -- every word is right
-  pub all_43 : refusal_of 43 f ≡ refused43 o → (a : ℕ) → a < length o.code → right43 o (get_or o.code a 0) ≡ true
-  unfolding refused43
-  all_43 h = by (first_bad (right43 o) o.code 0) (first (right43 o) o.code 0 0) (sym (nothing 43 ∙ h))
-    where
-      by : (g : Option ℕ) → First (right43 o) o.code 0 0 g → at_entry 43 5 g ≡ none → (a : ℕ) → a < length o.code → right43 o (get_or o.code a 0) ≡ true
-      by none all e = all
-      by (some i) g e = absurd (some_none e)
+-- ---- the verdict, by the first that refuses
 
 pub over_limit : (o : Object) → right41 o ≡ false → refused (refusal 41 0 0) ≡ judged_all o
 unfolding judged_all
 over_limit o h = rw h
 
-pub judged_of_lem : {e : Layout} {s : List ℕ} {f : Found} → Placed e s → right41 (object_at e s) ≡ true → refusal_of 43 f ≡ refused43 (object_at e s) → f ≡ Nothing → Judged e s
-judged_of_lem {e} {s} {f} p r h q = record { placed = p; right = r; words = λ a l. all_43 (object_at e s) f q h a (omega (arith, code_length e s)) }
+module _ (o : Object) (r : right41 o ≡ true) where
+  pub by_42 : {f : Refusal} → some f ≡ refused42 o → refused f ≡ judged_all o
+  unfolding judged_all
+  by_42 h = rw (r, ← h)
+
+  module _ (h : none ≡ refused42 o) where
+    pub by_43 : {f : Refusal} → some f ≡ refused43 o → refused f ≡ judged_all o
+    unfolding judged_all
+    by_43 g = rw (r, ← h, ← g)
+
+    module _ (g : none ≡ refused43 o) (n : ℕ) (table : List ℕ) where
+      pub with_table : heights (flow_of o) ≡ answered n table true → passed o (take n table) ≡ judged_all o
+      unfolding judged_all answered
+      with_table q = rw (r, ← h, ← g, q)
+
+      pub no_table : heights (flow_of o) ≡ answered n table false → refused (refusal 44 0 0) ≡ judged_all o
+      unfolding judged_all answered
+      no_table q = rw (r, ← h, ← g, q)
 
 -- ---- 40
 

@@ -1,46 +1,42 @@
 -- Some bytes have one verdict. The table is left free where there is none, and past the code's count.
 -- Assumes nothing.
-use mathlib.Core.Path.{◌≡◌, refl, sym, ap, ◌∙◌}
+use mathlib.Core.Path.{◌≡◌, sym, ap, ◌∙◌, subst}
 use mathlib.Core.List.{List}
-use Prim.Native.Nat.{ℕ, zero, suc}
-use native.Mathlib.Omega.{arith}
+use mathlib.Core.Option.{some}
+use Prim.Native.Nat.{ℕ}
 use lib.ListN.{take}
-use Rattle.rules_shared.specs.Refusals.{Refusal, refusal}
-use Rattle.rules_object.specs.Calls.{refused, checked}
+use Rattle.std.specs.Prelude.{Result, Ok, Err}
+use Rattle.number.specs.Code.{ruled}
+use Rattle.refusals.specs.Answers.{refusal_of}
+use Rattle.refusals.specs.declared.Refusal.{Refusal}
+use Rattle.rules_object.specs.Calls.{checked}
+use Rattle.rules_object.specs.Object.{rule_of}
 use Rattle.rules_object.proofs.Passed.{check_passed}
-use Rattle.object_contents.specs.declared.Layout.{Layout}
-use Rattle.object_contents.specs.Layout.{object_at}
+use Rattle.object_contents.specs.declared.placed.Object.{Object}
+use Rattle.object_contents.specs.Layout.{object_at, Placed}
+use Rattle.object_contents.specs.Book.{book_of}
 use Rattle.object_contents.specs.Opened.{OpenedAt}
 use Rattle.object_contents.proofs.OneLayout.{one_layout}
-use Rattle.check_object.specs.declared.Verdict.{Verdict}
-use Rattle.check_object.specs.Verdicts.{passing, checked_as, Good, Besides, Says}
+use Rattle.check_object.specs.Verdicts.{checked_of, Says}
 
-abbrev made : ℕ → ℕ → ℕ → Layout → Verdict
-made n p k e = record { number = n; place = p; kind = k; layout = e }
+-- the same refusal, or the same bytes, places and rule
+abbrev pub Same : Result Object Refusal → Result Object Refusal → Type 0
+Same (Ok o) (Ok p) = (o.bytes.now ≡ p.bytes.now) × ((o.layout ≡ p.layout) × (ruled o.rule ≡ ruled p.rule))
+Same (Ok o) (Err q) = ⊥
+Same (Err r) (Ok p) = ⊥
+Same (Err r) (Err q) = refusal_of r ≡ refusal_of q
 
-opened : (s t : List ℕ) (v : Verdict) → checked s ≡ passing v.layout s t → Good v s → OpenedAt s v.layout
-unfolding passing
-opened s t v e g = record { is = (check_passed s (object_at v.layout s) (take v.layout.code_count t) e).reads; placed = g.placed }
+opened : (s t : List ℕ) (o : Object) → o.bytes.now ≡ s → checked_of (Ok o) t ≡ checked s → OpenedAt s o.layout
+opened s t o b e =
+    record {
+      is = (check_passed s (book_of o) (take o.layout.code_count t) (sym e)).reads ∙ ap (λ x. some (object_at o.layout x)) b;
+      placed = subst (Placed o.layout) b o.placed;
+    }
 
-apart : {r : Refusal} (e : Layout) (s t : List ℕ) → passing e s t ≡ refused r → ⊥
-unfolding passing
-apart e s t q = let z : ◌≡◌ {A = ℕ} 0 1 = cc in omega arith
-
-same : {v w : Verdict} → v.number ≡ w.number → v.place ≡ w.place → v.kind ≡ w.kind → v.layout ≡ w.layout → v ≡ w
-same {v} {w} n p k e =
-    ap (λ (x : ℕ). made x v.place v.kind v.layout) n ∙ ap (λ (x : ℕ). made w.number x v.kind v.layout) p
-    ∙ ap (λ (x : ℕ). made w.number w.place x v.layout) k ∙ ap (made w.number w.place w.kind) e
-
-pub unique : {s t u : List ℕ} {v w : Verdict} → Says v s t (checked s) → Says w s u (checked s) → v ≡ w
-unique {s} {t} {u} {v} {w} a b = by v.number w.number refl refl a.is b.is a.besides b.besides
-  where
-    by : (m n : ℕ) → v.number ≡ m → w.number ≡ n → checked_as m v s t ≡ checked s → checked_as n w s u ≡ checked s → Besides m v s → Besides n w s → v ≡ w
-    by zero zero p q x y g h =
-        let l : v.layout ≡ w.layout = one_layout s v.layout w.layout (opened s t v (sym x) g) (opened s u w (sym y) h) in
-        same (p ∙ sym q) (g.place ∙ sym h.place) (g.kind ∙ sym h.kind) l
-    by zero (suc n) p q x y g h = absurd (apart v.layout s t (x ∙ sym y))
-    by (suc m) zero p q x y g h = absurd (apart w.layout s u (y ∙ sym x))
-    by (suc m) (suc n) p q x y g h =
-        let e : refused (refusal (suc m) v.place v.kind) ≡ refused (refusal (suc n) w.place w.kind) = x ∙ sym y in
-        let r : refusal (suc m) v.place v.kind ≡ refusal (suc n) w.place w.kind = cc in
-        same (p ∙ ap (λ (x : Refusal). x.number) r ∙ sym q) (ap (λ (x : Refusal). x.place) r) (ap (λ (x : Refusal). x.kind) r) (g ∙ sym h)
+pub unique : {s t u : List ℕ} (v w : Result Object Refusal) → Says v s t (checked s) → Says w s u (checked s) → Same v w
+unique {s} {t} {u} (Ok o) (Ok p) a b =
+    let l : o.layout ≡ p.layout = one_layout s o.layout p.layout (opened s t o a.of_bytes a.is) (opened s u p b.of_bytes b.is) in
+    (a.of_bytes ∙ sym b.of_bytes, (l, o.ruled ∙ ap (λ e. rule_of (object_at e o.bytes.now)) l ∙ ap (λ x. rule_of (object_at p.layout x)) (a.of_bytes ∙ sym b.of_bytes) ∙ sym p.ruled))
+unique (Ok o) (Err q) a b = let e = a.is ∙ sym b.is in cc
+unique (Err r) (Ok p) a b = let e = a.is ∙ sym b.is in cc
+unique (Err r) (Err q) a b = let e = a.is ∙ sym b.is in cc

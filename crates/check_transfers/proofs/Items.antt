@@ -2,6 +2,7 @@
 -- Assumes nothing.
 use mathlib.Core.Path.{◌≡◌, ap, ◌∙◌}
 use Prim.Native.Nat.{ℕ, suc, ◌+◌, ◌-◌, ◌*◌, ◌≤◌, ◌<◌}
+use native.Mathlib.Numerals.{add-one}
 use native.Mathlib.Omega.{arith}
 use mathlib.Core.Bool.{Bool, true, false, ◌&&◌}
 use mathlib.Core.List.{List, ◌∷◌}
@@ -42,38 +43,29 @@ module _ (e : Layout) (s : List ℕ) where
   unfolding item_at
   item_count i h = ap (λ (x : ListItem). x.count) (item_at_lem e s i no_item h)
 
-  -- ---- the items from at on, n of them
+  -- ---- the items from a on, before the one at b
 
   abbrev pub used : ℕ → ℕ → Bool
-  used at n = all (item_right (object_at e s)) (take n (drop at (object_at e s).items))
+  used a b = all (item_right (object_at e s)) (take (b - a) (drop a (object_at e s).items))
 
-  items_at_lem : (a : ℕ) → a < e.item_count → drop a (object_at e s).items ≡ get_or (object_at e s).items a no_item ∷ drop (suc a) (object_at e s).items
-  items_at_lem a h = drop-cons (object_at e s).items a no_item (omega (arith, item_length_lem e s))
-
-  used_is : (a n : ℕ) → a < e.item_count → used a (suc n) ≡ (item_right (object_at e s) (get_or (object_at e s).items a no_item) && used (suc a) n)
-  used_is a n h = ap (λ (is : List ListItem). all (item_right (object_at e s)) (take (suc n) is)) (items_at_lem a h)
-
-  module _ (at n k : ℕ) (h : k < n) (g : at + n ≤ e.item_count) where
-    next : used (at + k) (n - k) ≡ (item_right (object_at e s) (get_or (object_at e s).items (at + k) no_item) && used (suc (at + k)) (n - (k + 1)))
-    next =
-        let f : n - k ≡ suc (n - (k + 1)) = omega arith in
-        ap (used (at + k)) f ∙ used_is (at + k) (n - (k + 1)) (omega arith)
-
-    pub used_more : item_right (object_at e s) (get_or (object_at e s).items (at + k) no_item) ≡ true → used (at + k) (n - k) ≡ used (at + (k + 1)) (n - (k + 1))
-    used_more q =
-        let a : suc (at + k) ≡ at + (k + 1) = omega arith in
-        next ∙ rw (q, a)
-
-    pub used_stops : item_right (object_at e s) (get_or (object_at e s).items (at + k) no_item) ≡ false → used (at + k) (n - k) ≡ false
-    used_stops q = next ∙ rw q
-
-  pub used_ends : (at n k : ℕ) → n ≤ k → used (at + k) (n - k) ≡ true
-  used_ends at n k h =
-      let f : n - k ≡ 0 = omega arith in
+  pub used_is : (a n : ℕ) → all (item_right (object_at e s)) (take n (drop a (object_at e s).items)) ≡ used a (a + n)
+  used_is a n =
+      let f : a + n - a ≡ n = omega arith in
       rw f
 
-  pub used_starts : (at n k : ℕ) → k ≡ 0 → used at n ≡ used (at + k) (n - k)
-  used_starts at n k q =
-      let f : n - 0 ≡ n = omega arith in
-      let a : at + 0 ≡ at = omega arith in
-      rw (q, f, a)
+  module _ (a b : ℕ) (h : a < b) (g : b ≤ e.item_count) where
+    next : used a b ≡ (item_right (object_at e s) (get_or (object_at e s).items a no_item) && used (a + 1) b)
+    next =
+        let f : b - a ≡ suc (b - (a + 1)) = omega arith in
+        rw (f, drop-cons (object_at e s).items a no_item (omega (arith, item_length_lem e s)), ← add-one a)
+
+    pub used_more : item_right (object_at e s) (get_or (object_at e s).items a no_item) ≡ true → used a b ≡ used (a + 1) b
+    used_more q = next ∙ rw q
+
+    pub used_stops : item_right (object_at e s) (get_or (object_at e s).items a no_item) ≡ false → used a b ≡ false
+    used_stops q = next ∙ rw q
+
+  pub used_ends : (a b : ℕ) → b ≤ a → used a b ≡ true
+  used_ends a b h =
+      let f : b - a ≡ 0 = omega arith in
+      rw f

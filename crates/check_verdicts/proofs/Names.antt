@@ -1,6 +1,6 @@
 -- The map is the bytes of body 7, as they stand in the object.
 -- Assumes nothing.
-use mathlib.Core.Path.{◌≡◌, sym, ap, ap₂, ◌∙◌}
+use mathlib.Core.Path.{◌≡◌, sym, ap, ◌∙◌}
 use mathlib.Core.List.{List, [], ◌∷◌, ◌++◌, map}
 use Prim.Native.Nat.{ℕ, suc, ◌+◌, ◌*◌, ◌/◌, ◌≤◌, ◌<◌}
 use native.Mathlib.Omega.{arith}
@@ -9,10 +9,9 @@ use lib.Seq.{get_or-take, length-take-le}
 use borrow.Author.Tests.{le-leb, lt-leb}
 use Rattle.rules_object.specs.Bytes.{words_of, bytes_of, concat, name_words, named_of, entries}
 use Rattle.rules_object.specs.Writable.{IsByte}
-use Rattle.rules_shared.specs.Refusals.{accepted, no_room}
+use Rattle.rules_shared.specs.Refusals.{no_room}
 use Rattle.rules_shared.specs.Output.{write}
 use Rattle.rules_object.specs.Calls.{map_of}
-use Rattle.rules_shared.specs.Output as output
 use Rattle.rules_shared.specs.Lists.{Each, each_none, each_more}
 use Rattle.rules_shared.proofs.EachLaws.{each_take, each_drop}
 use Rattle.rules_object.proofs.Words.{each_word, length_words, bytes_words}
@@ -73,23 +72,11 @@ module _ (e : Layout) (s : List ℕ) (bytes : (i : ℕ) → get_or s i 0 < 256) 
 
 -- ---- written, or too short
 
-abbrev written_as_lem : ℕ → List ℕ → output.Written
-written_as_lem n output = record { refusal = accepted; length = n; output = output }
-
-module _ (e : Layout) (s : List ℕ) (bytes : (i : ℕ) → get_or s i 0 < 256) (p : Placed e s) (output : List ℕ) where
-  map_length : length (map_of (object_at e s)) ≡ 20 * e.name_count
-  map_length = ap length (map_bytes e s bytes p) ∙ body_length e s bytes p
-
-  pub too_short : length output < 20 * e.name_count → Writes (map_of (object_at e s)) output output (record { number = no_room; place = 0; kind = 0; length = 0 })
+module _ (bytes output : List ℕ) where
+  pub too_short : length output < length bytes → Writes bytes output output (record { number = no_room; place = 0; kind = 0; length = 0 })
   unfolding write
-  too_short l = record { is = rw (lt-leb (length (map_of (object_at e s))) (length output) (omega (arith, map_length))) }
+  too_short l = record { is = rw (lt-leb (length bytes) (length output) l) }
 
-  pub written : (output' : List ℕ) (n : ℕ) → n ≡ 20 * e.name_count → n ≤ length output → output' ≡ take n (drop e.names s) ++ drop n output
-      → Writes (map_of (object_at e s)) output output' (record { number = 0; place = 0; kind = 0; length = n })
+  pub written : (output' : List ℕ) → length bytes ≤ length output → output' ≡ bytes ++ drop (length bytes) output → Writes bytes output output' (record { number = 0; place = 0; kind = 0; length = length bytes })
   unfolding write
-  written output' n q l w =
-      let b : List ℕ = map_of (object_at e s) in
-      let k : length b ≡ n = map_length ∙ sym q in
-      let t : take n (drop e.names s) ≡ b = ap (λ (m : ℕ). take m (drop e.names s)) q ∙ sym (map_bytes e s bytes p) in
-      let o : b ++ drop (length b) output ≡ output' = ap (λ (m : ℕ). b ++ drop m output) k ∙ ap (λ (x : List ℕ). x ++ drop n output) (sym t) ∙ sym w in
-      record { is = rw (le-leb (length b) (length output) (omega arith)) (ap₂ written_as_lem k o) }
+  written output' l w = record { is = rw (le-leb (length bytes) (length output) l, w) }

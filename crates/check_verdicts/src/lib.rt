@@ -1,15 +1,14 @@
 // An object judged, and its map written. Whatever is lent gets one outcome, the book's.
 #![tactic(auto)]
 
-ghost use Rattle.std.specs.Prelude.{◌≤◌};
-ghost use Rattle.rules_object.specs.Calls.{map_of};
-ghost use Rattle.object_contents.specs.Layout.{Placed, object_at};
+ghost use Rattle.std.specs.Prelude.{◌≡◌, ◌^◌, ◌<◌, length};
 ghost use Rattle.check_heights.specs.Judged.{Fresh};
-ghost use Rattle.check_verdicts.specs.Outcomes.{Checks, Writes, Maps};
+ghost use Rattle.check_verdicts.specs.Outcomes.{told, told_written, Checks, Writes, Maps};
 
 use check_meeting::{NEVER, Table};
 use limits::CODE;
-use object_contents::Layout;
+use object_contents::Object;
+use refusals::Reason;
 
 #[repr(C)]
 #[derive(Drop)]
@@ -28,66 +27,77 @@ pub struct Written {
     pub length: u32,
 }
 
-// ---- check
+impl From<Result<Object<'_>, refusals::Refusal>> for Refusal {
+    ghost from_gives = { λ r c. c ≡ told r };
 
-fn check_with(object: &[u8], table: &mut Table) -> Refusal
-    requires { Fresh table.old }
-    ensures { Checks object.now result }
-{
-    let judged = check_object::check(object, table);
-    Refusal {
-        number: judged.number,
-        place: judged.place,
-        kind: judged.kind,
+    fn from(verdict: Result<Object<'_>, refusals::Refusal>) -> Refusal {
+        match verdict {
+            Ok(_) => Refusal {
+                number: 0,
+                place: 0,
+                kind: 0,
+            },
+            Err(refusal) => Refusal {
+                number: refusal.reason.number(),
+                place: refusal.place,
+                kind: refusal.kind,
+            },
+        }
     }
 }
+
+impl From<Result<u32, refusals::Refusal>> for Written {
+    ghost from_gives = { λ r c. c ≡ told_written r };
+
+    fn from(written: Result<u32, refusals::Refusal>) -> Written {
+        match written {
+            Ok(length) => Written {
+                number: 0,
+                place: 0,
+                kind: 0,
+                length,
+            },
+            Err(refusal) => Written {
+                number: refusal.reason.number(),
+                place: refusal.place,
+                kind: refusal.kind,
+                length: 0,
+            },
+        }
+    }
+}
+
+// ---- check
 
 pub fn check(object: &[u8]) -> Refusal
     ensures { Checks object.now result }
 {
     let mut table = [NEVER; CODE];
-    check_with(object, &mut table)
+    Refusal::from(check_object::check(object, &mut table))
 }
 
 // ---- map
 
-fn write_names(object: &[u8], e: Layout, output: &mut [u8]) -> Written
-    requires { Placed e object.now × (e.name_count ≤ 100) }
-    ensures { Writes (map_of (object_at e object.now)) output.old output.new result }
+// Bytes at the start of the output, if there is room; bytes past them stay.
+fn write(bytes: &[u8], output: &mut [u8]) -> Result<u32, refusals::Refusal>
+    requires { length bytes.now < 2 ^ 32 }
+    ensures { Writes bytes.now output.old output.new (told_written result) }
 {
-    let n = 20 * e.name_count;
+    let n = bytes.len();
     if output.len() < n {
-        return Written {
-            number: 30,
-            place: 0,
-            kind: 0,
-            length: 0,
-        };
+        return Err(refusals::Refusal::of(Reason::Room));
     }
-    run_lent::copy(object, e.names, output, n);
-    Written {
-        number: 0,
-        place: 0,
-        kind: 0,
-        length: n as u32,
-    }
+    output[..n].copy_from_slice(bytes);
+    Ok(n as u32)
 }
 
-fn map_with(object: &[u8], output: &mut [u8], table: &mut Table) -> Written
+fn map_with(object: &[u8], output: &mut [u8], table: &mut Table) -> Result<u32, refusals::Refusal>
     requires { Fresh table.old }
-    ensures { Maps object.now output.old output.new result }
+    ensures { Maps object.now output.old output.new (told_written result) }
 {
-    let v = check_object::check(object, table);
-    if v.number != 0 {
-        return Written {
-            number: v.number,
-            place: v.place,
-            kind: v.kind,
-            length: 0,
-        };
-    }
-    let e = v.layout;
-    write_names(object, e, output)
+    let o = check_object::check(object, table)?;
+    let at = o.layout.names;
+    write(&object[at..at + 20 * o.layout.name_count], output)
 }
 
 // Body 7, an entry of twenty bytes for each name; bytes past it stay.
@@ -95,5 +105,5 @@ pub fn map(object: &[u8], table: &mut [u8]) -> Written
     ensures { Maps object.now table.old table.new result }
 {
     let mut heights = [NEVER; CODE];
-    map_with(object, table, &mut heights)
+    Written::from(map_with(object, table, &mut heights))
 }

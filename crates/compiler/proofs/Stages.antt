@@ -1,22 +1,25 @@
 -- What each stage's answer makes of the whole.
 -- Assumes nothing.
 use mathlib.Core.Path.{◌≡◌, refl, sym, ap, ◌∙◌, subst}
-use Prim.Native.Nat.{ℕ, suc, ◌<◌, ◌^◌, ◌≤◌}
+use Prim.Native.Nat.{ℕ, suc, ◌≤◌}
 use mathlib.Core.List.{List, ◌++◌, []}
 use mathlib.Core.Option.{Option, none, some}
 use native.Mathlib.Omega.{arith}
 use lib.ListN.{length, get_elem?}
+use Rattle.std.specs.Prelude.{Ok, Err}
+use Rattle.refusals.specs.declared.Refusal as code
+use Rattle.refusals.specs.Numbers.{number_of}
 use Rattle.rules_shared.specs.House.{house1401}
 use Rattle.rules_object.specs.Bytes.{object_bytes}
 use Rattle.rules_shared.specs.Refusals.{Refusal, refusal, no_room}
-use Rattle.rules_shared.specs.Output.{not_written, write}
+use Rattle.rules_shared.specs.Output.{Written, not_written, write}
 use Rattle.rules_shared.specs.Lists.{Each}
 use Rattle.rules_text.specs.Trees.{Name, Form, assign, go_to, computed, ifs, loop, continue, stop, end, dimension, Target, cell, element, Statement}
-use Rattle.rules_text.specs.Cards.{Punched, Carded, cards_refused, statements, carded}
+use Rattle.rules_text.specs.Cards.{Punched, Carded, statements, carded}
 use Rattle.rules_deck.specs.Translation.{target_plain, expr_plain, form_plain, held_of, translate}
 use Rattle.rules_deck.specs.Whole.{target_sets, form_sets, judge_deck}
 use Rattle.rules_deck.specs.Judge.{nothing_taken}
-use Rattle.rules_deck.specs.Compile.{Read, not_read, read, read_from, read_carded, or_refuse, judge_read, deck_of, write_read, compiling}
+use Rattle.rules_deck.specs.Compile.{Read, read, read_from, read_carded, or_refuse, judge_read, deck_of, write_read, compiling}
 use Rattle.rules_deck.specs.Accepted.{Accepted, Among, here, there}
 use Rattle.rules_deck.proofs.Houses.{lawful1401}
 use Rattle.rules_deck.proofs.AcceptedDeck.{accepted}
@@ -25,33 +28,23 @@ use Rattle.rules_deck.specs.Cells.{names_held}
 use Rattle.rules_deck.proofs.MapNames.{name_among}
 use Rattle.rules_deck.proofs.BodySeven.{each_here}
 use Rattle.rules_deck.proofs.RightDeck.{each_among}
-use Rattle.read_deck_cards.specs.declared.Judged.{Judged}
 use Rattle.read_cards.specs.declared.Sequence.{Sequence}
-use Rattle.read_deck_cards.specs.Judging.{judged_of}
+use Rattle.read_deck_cards.specs.Judging.{Judges}
 use Rattle.take_draft.specs.declared.Counts.{Counts}
 use Rattle.take_draft.specs.Names.{Told}
 use Rattle.take_draft.specs.Draft.{draft_of}
-use Rattle.take_draft.specs.Kept.{Words, Room, Fit, Kept}
+use Rattle.take_draft.specs.Kept.{Words, as_words, Room, Fit, Kept}
 use Rattle.take_draft.specs.Sketch.{deck_jumps}
 use Rattle.take_draft.proofs.DraftDeck.{draft_held, draft_jumps}
 use Rattle.take_draft.proofs.DeckKept.{kept_deck}
-use Rattle.take_deck.specs.declared.Drafted.{Drafted}
 use Rattle.take_deck.specs.Drafted.{Drafts, refused, kept}
-use Rattle.whole_deck.specs.declared.Placed.{Placed}
-use Rattle.whole_deck.specs.Whole.{SetsTold, refusal_of, LowNumber}
+use Rattle.whole_deck.specs.Whole.{SetsTold, LowNumber}
 use Rattle.whole_deck.specs.Parts.{Inside, Positioned}
 use Rattle.whole_deck.proofs.LowNumbers.{numbered}
 use Rattle.whole_deck.proofs.Positions.{inside, positions}
-use Rattle.final_writer.specs.declared.Wrote.{Wrote}
 use Rattle.final_object.specs.Finishing.{Finished}
-use Rattle.compiler.specs.declared.Compiled.TheVariants.{Refused, Object, Short}
 use Rattle.compiler.specs.Compiled.{answer, Punches, Holds}
-use Rattle.read_deck_cards.specs.declared.Judged.TheVariants as judged
-use Rattle.take_deck.specs.declared.Drafted.TheVariants as drafted
-use Rattle.whole_deck.specs.declared.Verdict.TheVariants as verdict
 use Rattle.whole_deck.specs.Whole as whole
-use Rattle.final_writer.specs.declared.Wrote.TheVariants as wrote
-use Rattle.final_writer.specs.Answer as written
 
 -- ---- the names that a deck sets are told by their words: they have cells
 
@@ -92,16 +85,8 @@ module _ {k : ℕ} {deck : List Statement} {n : Counts} {lent : Words} (h : Hold
   pub low : Each LowNumber deck
   low = numbered (house1401 k) h.bytes deck h.is
 
-  pub whole_refused : {number : ℕ} {place : Sequence} (output : List ℕ) (r : Placed) → whole.Judged deck r → r.verdict ≡ verdict.Refused number place
-      → answer (Refused number place.0) output ≡ write_read (house1401 k) output (judge_read (read deck))
-  unfolding refusal_of
-  whole_refused {number = number} {place = place} output r j e =
-      let o : judge_deck deck ≡ some (refusal number place.0 0) = sym j.says ∙ ap refusal_of e in
-      sym (ap (λ (o : Option Refusal). write_read (house1401 k) output (or_refuse deck o)) o)
-
-  right : (r : Placed) → whole.Judged deck r → r.verdict ≡ verdict.Right → judge_deck deck ≡ none
-  unfolding refusal_of
-  right r j e = sym j.says ∙ ap refusal_of e
+  pub whole_refused : (output : List ℕ) (r : code.Refusal) → whole.Judged deck (Err r) → answer (Err r) output ≡ write_read (house1401 k) output (judge_read (read deck))
+  whole_refused output r e = sym (ap (λ (o : Option Refusal). write_read (house1401 k) output (or_refuse deck o)) e)
 
   accepted_deck : judge_deck deck ≡ none → Accepted (house1401 k) deck
   unfolding deck_of
@@ -117,22 +102,21 @@ module _ {k : ℕ} {deck : List Statement} {n : Counts} {lent : Words} (h : Hold
       let c = h.fit.exits in
       omega arith
 
-  pub placed : (r : Placed) → whole.Judged deck r → r.verdict ≡ verdict.Right → Inside r.places n.jumps
-  placed r j e =
+  pub placed : (places : List Sequence) → whole.Judged deck (Ok places) → Inside places n.jumps
+  placed places j =
       let c = h.counted in
       let f = h.fit.statements in
-      inside deck r.places (j.placed (right r j e)) n.jumps jumps_many jumps_few (omega arith)
+      inside deck places j.1 n.jumps jumps_many jumps_few (omega arith)
 
-  pub finished : {after : List ℕ} (r : Placed) → whole.Judged deck r → r.verdict ≡ verdict.Right → Positioned r.places n.jumps after
-      → Finished k deck n lent.names lent.constants lent.elements lent.dos lent.loops lent.code lent.rows after
-  finished {after} r j e p =
-      let o = right r j e in
-      let a = accepted_deck o in
+  pub finished : {after : List ℕ} (places : List Sequence) → whole.Judged deck (Ok places) → Positioned places n.jumps after
+      → Finished k deck n (as_words lent.names lent.constants lent.elements lent.dos lent.loops lent.code lent.rows after)
+  finished {after} places j p =
+      let a = accepted_deck j.0 in
       record {
         accepted = a;
         numbers = lent.jumps;
         kept = kept_deck a h.kept;
-        placed = positions deck r.places (j.placed o) n.jumps jumps_many jumps_few after p;
+        placed = positions deck places j.1 n.jumps jumps_many jumps_few after p;
         counted = h.counted;
         room =
             record {
@@ -148,19 +132,10 @@ module _ {k : ℕ} {deck : List Statement} {n : Counts} {lent : Words} (h : Hold
         fit = h.fit;
       }
 
-  whole_right : (output : List ℕ) (r : Placed) → whole.Judged deck r → r.verdict ≡ verdict.Right
-      → write no_room (object_bytes (translate (house1401 k) deck)) output ≡ write_read (house1401 k) output (judge_read (read deck))
-  whole_right output r j e = sym (ap (λ (o : Option Refusal). write_read (house1401 k) output (or_refuse deck o)) (right r j e))
-
-  pub whole_object : {length : ℕ} (output output' : List ℕ) (r : Placed) → whole.Judged deck r → r.verdict ≡ verdict.Right → (w : Wrote)
-      → written.answer w output' ≡ write no_room (object_bytes (translate (house1401 k) deck)) output → w ≡ wrote.Bytes length → answer (Object length) output' ≡ write_read (house1401 k) output (judge_read (read deck))
-  whole_object output output' r j e w a i =
-      sym (ap (λ (x : Wrote). written.answer x output') i) ∙ a ∙ whole_right output r j e
-
-  pub whole_short : (output output' : List ℕ) (r : Placed) → whole.Judged deck r → r.verdict ≡ verdict.Right → (w : Wrote)
-      → written.answer w output' ≡ write no_room (object_bytes (translate (house1401 k) deck)) output → w ≡ wrote.Short → answer Short output' ≡ write_read (house1401 k) output (judge_read (read deck))
-  whole_short output output' r j e w a i =
-      sym (ap (λ (x : Wrote). written.answer x output') i) ∙ a ∙ whole_right output r j e
+  -- the answer is the writer's
+  pub whole_right : (output : List ℕ) {w : Written} (places : List Sequence) → whole.Judged deck (Ok places)
+      → w ≡ write no_room (object_bytes (translate (house1401 k) deck)) output → w ≡ write_read (house1401 k) output (judge_read (read deck))
+  whole_right output places j a = a ∙ sym (ap (λ (o : Option Refusal). write_read (house1401 k) output (or_refuse deck o)) j.0)
 
 -- ---- the statements
 
@@ -168,14 +143,9 @@ module _ (k : ℕ) (bytes : List ℕ) (ps : List Punched) (cards : carded (house
   statements_read : read_carded (house1401 k) (carded (house1401 k) bytes) ≡ read_from (house1401 k) 0 nothing_taken ps
   statements_read = ap (read_carded (house1401 k)) cards
 
-  pub statements_refused : {lent : Words} {number : ℕ} {place : Sequence} (output : List ℕ) (d : Drafted) → Drafts (read_from (house1401 k) 0 nothing_taken ps) lent d
-      → d ≡ drafted.Refused number place → answer (Refused number place.0) output ≡ compiling (house1401 k) bytes output
+  pub statements_refused : {lent : Words} {r : code.Refusal} (output : List ℕ) → Drafts (read_from (house1401 k) 0 nothing_taken ps) lent (Err r) → answer (Err r) output ≡ compiling (house1401 k) bytes output
   unfolding compiling deck_of
-  statements_refused {lent} {number} {place} output d h e =
-      sym (ap (λ (r : Read). write_read (house1401 k) output (judge_read r)) (statements_read ∙ refuses (subst (Drafts (read_from (house1401 k) 0 nothing_taken ps) lent) e h)))
-    where
-      refuses : Drafts (read_from (house1401 k) 0 nothing_taken ps) lent (drafted.Refused number place) → read_from (house1401 k) 0 nothing_taken ps ≡ not_read (refusal number place.0 0)
-      refuses (refused number place e) = e
+  statements_refused output (refused r e) = sym (ap (λ (o : Read). write_read (house1401 k) output (judge_read o)) (statements_read ∙ e))
 
   -- the deck that the tables hold
   pub record Kept-deck (lent : Words) (n : Counts) : Type 0 where
@@ -185,11 +155,8 @@ module _ (k : ℕ) (bytes : List ℕ) (ps : List Punched) (cards : carded (house
     pub fit : Fit n
     pub kept : Kept (draft_of deck) lent n
 
-  pub statements_kept : {lent : Words} {n : Counts} (d : Drafted) → Drafts (read_from (house1401 k) 0 nothing_taken ps) lent d → d ≡ drafted.Kept n → Kept-deck lent n
-  statements_kept {lent} {n} d h e = keeps (subst (Drafts (read_from (house1401 k) 0 nothing_taken ps) lent) e h)
-    where
-      keeps : Drafts (read_from (house1401 k) 0 nothing_taken ps) lent (drafted.Kept n) → Kept-deck lent n
-      keeps (kept deck n o c f κ) = record { deck = deck; is = o; counted = c; fit = f; kept = κ }
+  pub statements_kept : {lent : Words} {n : Counts} → Drafts (read_from (house1401 k) 0 nothing_taken ps) lent (Ok n) → Kept-deck lent n
+  statements_kept (kept deck n o c f κ) = record { deck = deck; is = o; counted = c; fit = f; kept = κ }
 
   pub holds : {lent : Words} {n : Counts} (d : Kept-deck lent n) → Room lent → Holds k d.deck n lent
   holds d room = record { bytes = bytes; is = statements_read ∙ d.is; counted = d.counted; kept = d.kept; room = room; fit = d.fit }
@@ -200,28 +167,11 @@ module _ (k : ℕ) (bytes : List ℕ) (ps : List Punched) (cards : carded (house
 
 -- ---- the cards
 
-pub cards_refused_lem : {number place : ℕ} (k : ℕ) (bytes : List ℕ) (output : List ℕ) (j : Judged) → j ≡ judged_of (carded (house1401 k) bytes) → j ≡ judged.Refused number place
-    → answer (Refused number place) output ≡ compiling (house1401 k) bytes output
-unfolding judged_of compiling deck_of
-cards_refused_lem {number} {place} k bytes output j a e = go (carded (house1401 k) bytes) refl (sym a ∙ e)
-  where
-    go : (c : Carded) → carded (house1401 k) bytes ≡ c → judged_of c ≡ judged.Refused number place → not_written (refusal number place 0) output ≡ write_read (house1401 k) output (judge_read (read_carded (house1401 k) (carded (house1401 k) bytes)))
-    go (cards_refused m p) e h =
-        let x : m ≡ number = cc in
-        let y : p ≡ place = cc in
-        ap (λ (i : ℕ). not_written (refusal i place 0) output) (sym x) ∙ ap (λ (i : ℕ). not_written (refusal m i 0) output) (sym y)
-        ∙ sym (ap (λ (c : Carded). write_read (house1401 k) output (judge_read (read_carded (house1401 k) c))) e)
-    go (statements ps) e h = let z : ◌≡◌ {A = ℕ} 0 1 = cc in absurd (omega arith)
+pub cards_refused_lem : (k : ℕ) (bytes : List ℕ) (output : List ℕ) (r : code.Refusal) → Judges (carded (house1401 k) bytes) (Err r) → answer (Err r) output ≡ compiling (house1401 k) bytes output
+unfolding compiling deck_of
+cards_refused_lem k bytes output r j =
+    ap (λ (i : ℕ). not_written (refusal (number_of r.reason) r.place i) output) j.1
+    ∙ sym (ap (λ (c : Carded). write_read (house1401 k) output (judge_read (read_carded (house1401 k) c))) j.0)
 
-pub cards_punched : {s : Sequence} (k : ℕ) (bytes : List ℕ) (j : Judged) → j ≡ judged_of (carded (house1401 k) bytes) → j ≡ judged.Statements s → Punches k bytes
-unfolding judged_of
-cards_punched {s} k bytes j a e = go (carded (house1401 k) bytes) refl (sym a ∙ e)
-  where
-    go : (c : Carded) → carded (house1401 k) bytes ≡ c → judged_of c ≡ judged.Statements s → Punches k bytes
-    go (cards_refused m p) e h = let z : ◌≡◌ {A = ℕ} 0 1 = cc in absurd (omega arith)
-    go (statements ps) e h = record { punched = ps; are = e }
-
--- ---- the length
-
-pub low_word : {w : Wrote} {n : ℕ} → written.Low w → w ≡ wrote.Bytes n → n < 2 ^ 32
-low_word l e = subst written.Low e l
+pub cards_punched : {last : Sequence} (k : ℕ) (bytes : List ℕ) → Judges (carded (house1401 k) bytes) (Ok last) → Punches k bytes
+cards_punched k bytes j = record { punched = j.0; are = j.1 }

@@ -1,8 +1,10 @@
 -- What compiling gives for each answer of the book, and what its parts are given.
 -- Assumes nothing.
-use Rattle.std.specs.Prelude.{◌≡◌, ℕ, List, length}
+use Rattle.std.specs.Prelude.{◌≡◌, ℕ, List, length, Result, Ok, Err}
 use Rattle.rules_shared.specs.House.{house1401}
-use Rattle.rules_shared.specs.Refusals.{refusal, accepted, no_room}
+use Rattle.rules_shared.specs.Refusals.{accepted}
+use Rattle.refusals.specs.declared.Refusal.{Refusal}
+use Rattle.refusals.specs.Answers.{refusal_of}
 use Rattle.rules_shared.specs.Output.{Written, not_written}
 use Rattle.rules_text.specs.Trees.{Statement}
 use Rattle.rules_text.specs.Cards.{Punched, statements, carded}
@@ -10,14 +12,11 @@ use Rattle.rules_deck.specs.Compile.{read, read_carded}
 use Rattle.take_draft.specs.declared.Counts.{Counts}
 use Rattle.take_draft.specs.Draft.{draft_of}
 use Rattle.take_draft.specs.Kept.{Words, Room, Fit, Kept}
-use Rattle.compiler.specs.declared.Compiled.{Compiled}
-use Rattle.compiler.specs.declared.Compiled.TheVariants.{Refused, Object, Short}
 
 -- with the output at the end
-abbrev pub answer : Compiled → List ℕ → Written
-answer (Refused number place) output = not_written (refusal number place 0) output
-answer (Object n) output = record { refusal = accepted; length = n; output = output }
-answer Short output = not_written (refusal no_room 0 0) output
+abbrev pub answer : Result ℕ Refusal → List ℕ → Written
+answer (Ok n) output = record { refusal = accepted; length = n; output = output }
+answer (Err r) output = not_written (refusal_of r) output
 
 -- a deck whose cards are right
 pub record Punches (k : ℕ) (bytes : List ℕ) : Type 0 where

@@ -11,7 +11,7 @@ use Rattle.rules_shared.specs.House.{House}
 use Rattle.rules_text.specs.Trees.{Statement}
 use Rattle.rules_deck.specs.Translation.{address_at}
 use Rattle.rules_deck.proofs.Addresses.{at_some, address_zero}
-use Rattle.final_addresses.specs.Given.{Judged, Starts}
+use Rattle.final_addresses.specs.Given.{Judged}
 use Rattle.final_addresses.specs.Ends.{ends_at}
 use Rattle.final_addresses.proofs.DeckEnds.{next_address, addresses_small}
 
@@ -57,6 +57,3 @@ module _ {house : House} {deck : List Statement} {rows : List ℕ} {count : ℕ}
       go : (v : ℕ) → v ≡ address_at deck (i + 1) → (j : ℕ) → (j ≤ i) ⊎ (j ≡ i + 1) → get_or (set starts (i + 1) v) j 0 ≡ address_at deck j
       go v is j (inl b) = get_or-set_other starts (i + 1) j v 0 (λ z. omega arith) ∙ p.before j b
       go v is j (inr b) = ap (λ (m : ℕ). get_or (set starts (i + 1) v) m 0) b ∙ get_or-set_same starts (i + 1) v 0 (omega arith) ∙ is ∙ ap (address_at deck) (sym b)
-
-  pub passed_all : (starts : List ℕ) (at i : ℕ) → count ≤ i → Passed deck starts at i → Starts deck starts
-  passed_all starts at i l p = record { at = λ j h. p.before j (omega (arith, told.in_rows.counted)) }

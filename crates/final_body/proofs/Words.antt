@@ -1,105 +1,80 @@
 -- The bytes of words written one after the other, and of bodies one after the other.
 -- Assumes nothing.
 use mathlib.Core.Path.{◌≡◌, refl, sym, ap, ◌∙◌}
-use mathlib.Core.List.{List, [], ◌∷◌, ◌++◌, append-nil}
-use Prim.Native.Nat.{ℕ, suc, ◌+◌, ◌*◌, ◌-◌, ◌≤◌, ◌<◌}
+use mathlib.Core.List.{List, [], ◌∷◌, ◌++◌, append_assoc, append-nil}
+use Prim.Native.Nat.{ℕ, ◌+◌, ◌*◌, ◌≤◌, ◌<◌}
 use native.Mathlib.Omega.{arith}
-use native.Mathlib.Numerals.{add-one}
-use lib.ListN.{length, take, drop, get_or, length-append, drop_of_length-le}
-use lib.Seq.{take-suc, length-take-le}
-use borrow.Rule.Slice.PartMut.{put_mid}
+use native.Mathlib.Nat.{add-zero}
+use lib.ListN.{length, take, drop, get_or, length-append}
+use Rattle.std.proofs.lemmas.List.{take_more, take-append-drop}
+use Rattle.std.specs.Borrow.{Bor}
 use Rattle.rules_object.specs.Bytes.{word_bytes, bytes_of, concat}
 use Rattle.rules_object.proofs.Words.{length_bytes}
-use Rattle.object_bodies.specs.Edition.{head}
-use Rattle.final_body.specs.Bodies.{over, PutBody, start_of}
-use Rattle.final_body.proofs.Over.{put_over, over_over, length_over}
+use Rattle.final_body.specs.Bodies.{over, PutBody, tables}
+use Rattle.final_body.proofs.Over.{over_over, length_over}
 
 pub bytes_append : (xs ys : List ℕ) → bytes_of (xs ++ ys) ≡ bytes_of xs ++ bytes_of ys
 bytes_append [] ys = refl
 bytes_append (x ∷ xs) ys = ap (λ (l : List ℕ). word_bytes x ++ l) (bytes_append xs ys)
 
-pub length_first : (n : ℕ) (xs : List ℕ) → n ≤ length xs → length (bytes_of (take n xs)) ≡ 4 * n
-length_first n xs h = omega (arith, length_bytes (take n xs), length-take-le n xs h)
+-- ---- a write after a write
 
-bytes_more : (xs : List ℕ) (i : ℕ) → i < length xs → bytes_of (take (i + 1) xs) ≡ bytes_of (take i xs) ++ word_bytes (get_or xs i 0)
-bytes_more xs i h =
-    ap (λ (k : ℕ). bytes_of (take k xs)) (add-one i) ∙ ap bytes_of (take-suc xs i 0 h) ∙ bytes_append (take i xs) (get_or xs i 0 ∷ [])
-
--- a write over nothing, and one over all
-pub over_none : (o : List ℕ) → o ≡ over 0 [] o
+pub put_none : (o : List ℕ) (at : ℕ) → at ≤ length o → PutBody o at [] o at
 unfolding over
-over_none o = refl
+put_none o at h =
+    record { is = sym (ap (λ (k : ℕ). take at o ++ drop k o) (add-zero at) ∙ take-append-drop at o); ends = omega arith; inside = h }
 
-pub over_all : (xs o : List ℕ) → length xs ≡ length o → over 0 xs o ≡ xs
+pub put_long : {o w xs : List ℕ} {at next : ℕ} → PutBody o at xs w next → length w ≡ length o
+put_long {o} {w} {xs} {at} p = ap length p.is ∙ length_over at (bytes_of xs) o (omega (arith, length_bytes xs, p.ends, p.inside))
+
+pub put_next : {o w v xs ys : List ℕ} {at next end : ℕ} → PutBody o at xs w next → PutBody w next ys v end → PutBody o at (xs ++ ys) v end
+put_next {o} {w} {v} {xs} {ys} {at} {next} {end} p q =
+    let lx : length (bytes_of xs) ≡ 4 * length xs = length_bytes xs in
+    let ly : length (bytes_of ys) ≡ 4 * length ys = length_bytes ys in
+    let lw : length w ≡ length o = put_long p in
+    record {
+      is = q.is ∙ ap (over next (bytes_of ys)) p.is
+          ∙ over_over at next (bytes_of xs) (bytes_of ys) o (omega (arith, p.ends)) (omega (arith, q.ends, q.inside))
+          ∙ ap (λ (l : List ℕ). over at l o) (sym (bytes_append xs ys));
+      ends = omega (arith, length-append xs ys, p.ends, q.ends);
+      inside = omega (arith, q.inside);
+    }
+
+pub put_as : {o w xs ys : List ℕ} {at next : ℕ} → xs ≡ ys → PutBody o at xs w next → PutBody o at ys w next
+put_as e p = rw (← e) p
+
+-- a word that is stored
+pub put_word : {v : List ℕ} (w : List ℕ) (next x : ℕ) → next + 4 ≤ length w → v ≡ take next w ++ (word_bytes x ++ drop (next + 4) w) → PutBody w next (x ∷ []) v (next + 4)
 unfolding over
-over_all xs o h =
-    let g : length o ≤ 0 + length xs = omega arith in
-    ap (λ (l : List ℕ). xs ++ l) (drop_of_length-le o g) ∙ append-nil xs
+put_word w next x h e = record { is = e; ends = refl; inside = h }
 
-stored : (a : ℕ) (x : ℕ) (v : List ℕ) → take a v ++ (word_bytes x ++ drop (a + 4) v) ≡ over a (word_bytes x) v
-unfolding over
-stored a x v = refl
+-- ---- words of a list, and bodies of a list
 
--- one more word, after those that are written
-pub word_more : (xs o w : List ℕ) (i : ℕ) → i < length xs → 4 * i + 4 ≤ length o → w ≡ over 0 (bytes_of (take i xs)) o
-    → take (i * 4) w ++ (word_bytes (get_or xs i 0) ++ drop (i * 4 + 4) w) ≡ over 0 (bytes_of (take (i + 1) xs)) o
-word_more xs o w i h room e =
-    let l : length (bytes_of (take i xs)) ≡ 4 * i = length_first i xs (omega arith) in
-    ap (λ (v : List ℕ). take (i * 4) v ++ (word_bytes (get_or xs i 0) ++ drop (i * 4 + 4) v)) e
-    ∙ stored (i * 4) (get_or xs i 0) (over 0 (bytes_of (take i xs)) o)
-    ∙ over_over 0 (i * 4) (bytes_of (take i xs)) (word_bytes (get_or xs i 0)) o (omega arith) (omega arith)
-    ∙ ap (λ (b : List ℕ). over 0 b o) (sym (bytes_more xs i h))
+pub words_more : (ws : List ℕ) (i : ℕ) → i < length ws → take i ws ++ (get_or ws i 0 ∷ []) ≡ take (i + 1) ws
+words_more ws i h = sym (take_more ws i 0 h)
 
--- a body in its own part
-pub put_part : {p : List ℕ} (o ws : List ℕ) (at n next : ℕ) → next ≡ at + 4 * n → n ≤ length ws → next ≤ length o → p ≡ bytes_of (take n ws)
-    → PutBody o at (take n ws) (put_mid at (next - at) o p) next
-put_part {p} o ws at n next e h room is =
-    let l : length (take n ws) ≡ n = length-take-le n ws h in
-    record {
-      is = ap (put_mid at (next - at) o) is ∙ put_over at next o (bytes_of (take n ws)) (omega arith) (omega (arith, length_first n ws h));
-      ends = omega arith;
-      inside = room;
-    }
+pub concat_append : (a b : List (List ℕ)) → concat (a ++ b) ≡ concat a ++ concat b
+concat_append [] b = refl
+concat_append (x ∷ a) b = ap (λ (l : List ℕ). x ++ l) (concat_append a b) ∙ sym (append_assoc x (concat a) (concat b))
 
--- ---- bodies
+pub tables_append : (a b : List (Bor (List ℕ))) → tables (a ++ b) ≡ tables a ++ tables b
+tables_append [] b = refl
+tables_append (x ∷ a) b = ap (λ (l : List (List ℕ)). x.now ∷ l) (tables_append a b)
 
--- written one after the other, from byte `at` on
-pub record Bodies (before : List ℕ) (at : ℕ) (bs : List (List ℕ)) (after : List ℕ) : Type 0 where
-  pub is : after ≡ over at (bytes_of (concat bs)) before
-  pub inside : at + 4 * length (concat bs) ≤ length before
+words_append : (a b : List (Bor (List ℕ))) → concat (tables (a ++ b)) ≡ concat (tables a) ++ concat (tables b)
+words_append a b = ap concat (tables_append a b) ∙ concat_append (tables a) (tables b)
 
-pub put_last : {o w x : List ℕ} {at next : ℕ} → PutBody o at x w next → Bodies o at (x ∷ []) w
-put_last {o} {w} {x} {at} p =
-    record {
-      is = p.is ∙ ap (λ (l : List ℕ). over at (bytes_of l) o) (sym (append-nil x));
-      inside = omega (arith, length-append x [], p.ends, p.inside);
-    }
+module _ (bodies : List (Bor (List ℕ))) where
+  pub bodies_more : (i : ℕ) (d : Bor (List ℕ)) → i < length bodies → concat (tables (take i bodies)) ++ (get_or bodies i d).now ≡ concat (tables (take (i + 1) bodies))
+  bodies_more i d h =
+      let b : Bor (List ℕ) = get_or bodies i d in
+      sym (ap (λ (l : List (Bor (List ℕ))). concat (tables l)) (take_more bodies i d h)
+      ∙ words_append (take i bodies) (b ∷ [])
+      ∙ ap (λ (l : List ℕ). concat (tables (take i bodies)) ++ l) (append-nil b.now))
 
-pub put_first : {o w v x : List ℕ} {bs : List (List ℕ)} {at next : ℕ} → PutBody o at x w next → Bodies w next bs v → Bodies o at (x ∷ bs) v
-put_first {o} {w} {v} {x} {bs} {at} {next} p r =
-    let lx : length (bytes_of x) ≡ 4 * length x = length_bytes x in
-    let ly : length (bytes_of (concat bs)) ≡ 4 * length (concat bs) = length_bytes (concat bs) in
-    let lw : length w ≡ length o = ap length p.is ∙ length_over at (bytes_of x) o (omega (arith, p.ends, p.inside)) in
-    record {
-      is = r.is ∙ ap (over next (bytes_of (concat bs))) p.is
-          ∙ over_over at next (bytes_of x) (bytes_of (concat bs)) o (omega (arith, p.ends)) (omega (arith, r.inside))
-          ∙ ap (λ (l : List ℕ). over at l o) (sym (bytes_append x (concat bs)));
-      inside = omega (arith, length-append x (concat bs), r.inside, p.ends);
-    }
-
--- the bodies before kind k are written: the next starts here, and the output is as long as before
-pub record Upto (before counts : List ℕ) (k : ℕ) (now : List ℕ) (at : ℕ) : Type 0 where
-  pub starts : at ≡ start_of counts k
-  pub long : length now ≡ length before
-
-pub upto_none : (o counts : List ℕ) → Upto o counts 0 o head
-upto_none o counts = record { starts = refl; long = refl }
-
-pub upto_more : {o w v : List ℕ} {at next : ℕ} (t counts : List ℕ) (k : ℕ) → Upto o counts k w at → PutBody w at (take (get_or counts k 0) t) v next → get_or counts k 0 ≤ length t
-    → Upto o counts (suc k) v next
-upto_more {at = at} t counts k u p h =
-    let l = length-take-le (get_or counts k 0) t h in
-    record {
-      starts = omega (arith, u.starts, p.ends);
-      long = ap length p.is ∙ length_over at (bytes_of (take (get_or counts k 0) t)) _ (omega (arith, length_bytes (take (get_or counts k 0) t), p.ends, p.inside)) ∙ u.long;
-    }
+  pub bodies_room : (i : ℕ) (d : Bor (List ℕ)) → i < length bodies → length (concat (tables (take i bodies))) + length (get_or bodies i d).now ≤ length (concat (tables bodies))
+  bodies_room i d h =
+      let whole = ap (λ (l : List (Bor (List ℕ))). length (concat (tables l))) (take-append-drop (i + 1) bodies) in
+      let parts = ap length (words_append (take (i + 1) bodies) (drop (i + 1) bodies)) in
+      let more = ap length (bodies_more i d h) in
+      omega (arith, length-append (concat (tables (take i bodies))) (get_or bodies i d).now, length-append (concat (tables (take (i + 1) bodies))) (concat (tables (drop (i + 1) bodies))))

@@ -25,7 +25,7 @@ use Rattle.final_addresses.proofs.Lasts.{take_more}
 use Rattle.final_addresses.proofs.Holding.{map_append}
 use Rattle.final_code.specs.Settling.{Settling, Leading}
 use Rattle.final_statement.specs.Words.{Aimed, targets}
-use Rattle.final_statement.proofs.Filling.{piece, piece_inside, slice_get}
+use Rattle.final_statement.proofs.Filling.{piece, piece_inside}
 use Rattle.final_code.proofs.Splitting.{jumps_split, jumps_append}
 
 pub leading : {house : House} {deck : List Statement} {rows : List ℕ} {count : ℕ} {loops : List ℕ} {n : ℕ} {jumps starts draft : List ℕ}
@@ -79,24 +79,27 @@ module _ {house : House} {deck : List Statement} {rows : List ℕ} {count : ℕ}
             piece_inside jumps (length (deck_jumps deck)) (map (position_of deck) (deck_jumps (take i deck))) (map (position_of deck) (jump_words s.form)) (map (position_of deck) (deck_jumps (drop (suc i) deck))) jumps_parts,
           )
 
-      position_here : (m : ℕ) → m < many → get_or jumps (j + m) 0 < length deck
+      pub jumps_many : length (take many (drop j jumps)) ≡ many
+      jumps_many = ap length jumps_here ∙ length-map (jump_words s.form) (position_of deck) ∙ sym counted
+
+      position_here : (m : ℕ) → m < length (take many (drop j jumps)) → get_or (take many (drop j jumps)) m 0 < length deck
       position_here m l =
           let n = length-map (form_exits s.form ++ form_last s.form) value_of in
-          let p = all_small (position_of deck) (length deck) (form_exits s.form ++ form_last s.form) small m (omega arith) in
-          let q = slice_get jumps j many m l ∙ ap (λ (w : List ℕ). get_or w m 0) jumps_here in
+          let p = all_small (position_of deck) (length deck) (form_exits s.form ++ form_last s.form) small m (omega (arith, jumps_many)) in
+          let q = ap (λ (w : List ℕ). get_or w m 0) jumps_here in
           omega arith
 
-      pub aimed_here : 400 < length starts → Aimed jumps j many starts
+      pub aimed_here : 400 < length starts → Aimed (take many (drop j jumps)) starts
       aimed_here room =
           record {
-            long = jumps_inside;
             inside = λ m l. omega (arith, position_here m l, told.in_rows.accepted.count);
             small = λ m l.
                 let p = position_here m l in
-                omega (arith, told.starts_are.at (get_or jumps (j + m) 0) (omega arith), address_most deck (get_or jumps (j + m) 0), (fitting told.in_rows.accepted).code);
+                let q = get_or (take many (drop j jumps)) m 0 in
+                omega (arith, told.starts_are.at q (omega arith), address_most deck q, (fitting told.in_rows.accepted).code);
           }
 
-      pub targets_here : targets jumps j many starts ≡ map (address_of deck) (jump_words s.form)
+      pub targets_here : targets (take many (drop j jumps)) starts ≡ map (address_of deck) (jump_words s.form)
       targets_here =
           ap (map (λ p. get_or starts p 0)) jumps_here
           ∙ all_addresses (λ p. get_or starts p 0) (address_at deck) (position_of deck) (length deck) (λ p l. told.starts_are.at p (omega arith)) (form_exits s.form ++ form_last s.form) small

@@ -29,7 +29,7 @@ use Rattle.final_addresses.proofs.Holding.{holds_more, holds_as, put_as}
 use Rattle.final_code.specs.Settling.{Leading}
 use Rattle.final_statement.specs.Words.{Aimed, exit_words}
 use Rattle.final_code.proofs.Splitting.{code_more, code_split}
-use Rattle.final_code.proofs.Aiming.{targets_here, aimed_here, jumps_next}
+use Rattle.final_code.proofs.Aiming.{jumps_inside, jumps_many, targets_here, aimed_here, jumps_next}
 
 -- ---- what code adds to the exits
 
@@ -91,13 +91,13 @@ exits_to deck i = (tables_of no_tables (code_from deck 0 (take i deck))).exits
 
 module _ {house : House} {deck : List Statement} {rows : List ℕ} {count : ℕ} {jumps starts : List ℕ} (told : Leading house deck rows count jumps starts) where
   exits_of_lem : (i : ℕ) (s : Statement) → get_elem? deck i ≡ some s → (j : ℕ) → j ≡ length (deck_jumps (take i deck))
-      → exit_words (get_or rows (5 * i + 1) 0) jumps j (get_or rows (5 * i + 4) 0) starts ≡ exits_of (kind_of s.form) (map (address_of deck) (jump_words s.form))
+      → exit_words (get_or rows (5 * i + 1) 0) (take (get_or rows (5 * i + 4) 0) (drop j jumps)) starts ≡ exits_of (kind_of s.form) (map (address_of deck) (jump_words s.form))
   exits_of_lem i s e j at =
       let r = row_jumps told.in_rows i s e in
       let ts = targets_here told i s e j (get_or rows (5 * i + 4) 0) at r in
-      let n = r ∙ sym (length-map (jump_words s.form) (address_of deck)) in
-      ap (λ (t : ℕ). exit_words t jumps j (get_or rows (5 * i + 4) 0) starts) (row_kind told.in_rows i s e)
-      ∙ ap (λ (l : List ℕ). cond (eqb (kind_of s.form) 2) (get_or rows (5 * i + 4) 0 ∷ l) (cond (eqb (kind_of s.form) 3) l [])) ts
+      let n = jumps_many told i s e j (get_or rows (5 * i + 4) 0) at r ∙ r ∙ sym (length-map (jump_words s.form) (address_of deck)) in
+      ap (λ (t : ℕ). exit_words t (take (get_or rows (5 * i + 4) 0) (drop j jumps)) starts) (row_kind told.in_rows i s e)
+      ∙ ap (λ (l : List ℕ). cond (eqb (kind_of s.form) 2) (length (take (get_or rows (5 * i + 4) 0) (drop j jumps)) ∷ l) (cond (eqb (kind_of s.form) 3) l [])) ts
       ∙ ap (λ (m : ℕ). cond (eqb (kind_of s.form) 2) (m ∷ map (address_of deck) (jump_words s.form)) (cond (eqb (kind_of s.form) 3) (map (address_of deck) (jump_words s.form)) [])) n
 
   exits_next : (i : ℕ) (s : Statement) → get_elem? deck i ≡ some s
@@ -130,7 +130,7 @@ module _ {house : House} {deck : List Statement} {rows : List ℕ} {count : ℕ}
       let r = rest_adds (suc i) (drop (suc i) deck) (tables_of no_tables (C ++ statement_code deck i s)) in
       omega (arith, (fitting told.in_rows.accepted).exits)
 
-  pub exits_put : {a b : List ℕ} {top r : ℕ} (i j : ℕ) → i < count → j ≡ length (deck_jumps (take i deck)) → Put a b top (exit_words (get_or rows (5 * i + 1) 0) jumps j (get_or rows (5 * i + 4) 0) starts) r
+  pub exits_put : {a b : List ℕ} {top r : ℕ} (i j : ℕ) → i < count → j ≡ length (deck_jumps (take i deck)) → Put a b top (exit_words (get_or rows (5 * i + 1) 0) (take (get_or rows (5 * i + 4) 0) (drop j jumps)) starts) r
       → Holds a top (exits_to deck i) → Holds b r (exits_to deck (i + 1))
   exits_put i j l at p held =
       let s = at_some deck i (omega (arith, told.in_rows.counted)) in
@@ -138,12 +138,17 @@ module _ {house : House} {deck : List Statement} {rows : List ℕ} {count : ℕ}
 
   -- what putting them requires
   pub exits_room : {a : List ℕ} {top : ℕ} (i j : ℕ) → i < count → 400 < length starts → j ≡ length (deck_jumps (take i deck)) → Holds a top (exits_to deck i)
-      → (top + length (exit_words (get_or rows (5 * i + 1) 0) jumps j (get_or rows (5 * i + 4) 0) starts) ≤ 1024) × Aimed jumps j (get_or rows (5 * i + 4) 0) starts
+      → (top + length (exit_words (get_or rows (5 * i + 1) 0) (take (get_or rows (5 * i + 4) 0) (drop j jumps)) starts) ≤ 1024) × Aimed (take (get_or rows (5 * i + 4) 0) (drop j jumps)) starts
   exits_room {a} {top} i j l room at held =
       let s = at_some deck i (omega (arith, told.in_rows.counted)) in
       let x = ap length (exits_of_lem i s.0 s.1 j at) in
       let n = ap length (exits_next i s.0 s.1) ∙ length-append (exits_to deck i) _ in
       (omega (arith, exits_most i s.0 s.1, held.count), aimed_here told i s.0 s.1 j (get_or rows (5 * i + 4) 0) at (row_jumps told.in_rows i s.0 s.1) room)
+
+  pub jumps_room : (i j : ℕ) → i < count → j ≡ length (deck_jumps (take i deck)) → j + get_or rows (5 * i + 4) 0 ≤ length jumps
+  jumps_room i j l at =
+      let s = at_some deck i (omega (arith, told.in_rows.counted)) in
+      jumps_inside told i s.0 s.1 j (get_or rows (5 * i + 4) 0) at (row_jumps told.in_rows i s.0 s.1)
 
   pub jumps_after : (i j : ℕ) → i < count → j ≡ length (deck_jumps (take i deck)) → j + get_or rows (5 * i + 4) 0 ≡ length (deck_jumps (take (i + 1) deck))
   jumps_after i j l at =

@@ -23,15 +23,15 @@ use Rattle.rules_deck.proofs.FittingDeck.{fitting}
 use Rattle.take_draft.specs.Draft.{kind_of, jump_words, own_words as form_words, no_loop}
 use Rattle.take_draft.specs.Sketch.{deck_jumps, plain_from, plain_code}
 use Rattle.final_addresses.specs.Ends.{ends_at}
-use Rattle.final_addresses.proofs.Told.{row_kind, row_own, own_length}
-use Rattle.final_addresses.proofs.Lasts.{take_more}
+use Rattle.final_addresses.proofs.Told.{row_kind, row_own, row_jumps, own_length}
+use Rattle.final_addresses.proofs.Lasts.{take_more, map_get}
 use Rattle.final_addresses.proofs.DeckEnds.{ends_are}
 use Rattle.final_code.specs.Settling.{Settling}
 use Rattle.final_statement.specs.Words.{Aimed, go_word, own_words, end_word}
-use Rattle.final_statement.proofs.Filling.{piece, piece_inside, targets_get}
+use Rattle.final_statement.proofs.Filling.{piece, piece_inside}
 use Rattle.final_code.proofs.Likeness.{Alike, alike_self, Like, enter, form_likes, form_tables, emit_like, emit_append}
 use Rattle.final_code.proofs.Splitting.{dos_in, number_is, plain_before, plain_here, plain_after, plain_split, plain_more, code_split, code_more}
-use Rattle.final_code.proofs.Aiming.{leading, jumps_inside, targets_here, aimed_here}
+use Rattle.final_code.proofs.Aiming.{leading, jumps_many, targets_here, aimed_here}
 
 -- ---- tables before a statement, in the code and in the draft
 
@@ -133,36 +133,36 @@ module _ {house : House} {deck : List Statement} {rows : List ℕ} {count : ℕ}
           (emit (tables_of (tables_of no_tables (plain_before deck i s e)) (plain_here deck i s e)) (plain_after deck i s e)) draft_parts in
           omega (arith, own_here, from_here)
 
-      own_plain : (j : ℕ) → (kind_of s.form ≡ 1 → ⊥) → own_words (get_or rows (5 * i + 1) 0) (get_or rows (5 * i + 3) 0) draft from jumps j starts ≡ emit (tables_of no_tables (code_to deck i)) form_here
+      own_plain : (j : ℕ) → (kind_of s.form ≡ 1 → ⊥) → own_words (get_or rows (5 * i + 1) 0) (take (get_or rows (5 * i + 3) 0) (drop from draft)) (take (get_or rows (5 * i + 4) 0) (drop j jumps)) starts ≡ emit (tables_of no_tables (code_to deck i)) form_here
       own_plain j h =
           let b = ne_eqb (get_or rows (5 * i + 1) 0) 1 (λ z. h (sym (row_kind told.judged.in_rows i s e) ∙ z)) in
           let l = at_before deck i e in
-          ap (λ (t : Bool). cond t (go_word (get_or starts (get_or jumps j 0) 0) ∷ []) (take (get_or rows (5 * i + 3) 0) (drop from draft))) b
+          ap (λ (t : Bool). cond t (go_word (get_or starts (get_or (take (get_or rows (5 * i + 4) 0) (drop j jumps)) 0 0) 0) ∷ []) (take (get_or rows (5 * i + 3) 0) (drop from draft))) b
           ∙ drafted_here
           ∙ sym (emit_like (alike_to deck i (omega arith))
           (form_likes (held_of deck) (dims_of deck) (address_of deck) (λ m. m) (enter_code deck i s.form) (DOI (dos_in (take i deck)) no_loop) s.form h
           (enters deck i (dos_in (take i deck)) (number_is deck i (omega arith)) s.form)))
 
       own_jump : (j : ℕ) → j ≡ length (deck_jumps (take i deck)) → (m : Digits) → s.form ≡ go_to m
-          → own_words (get_or rows (5 * i + 1) 0) (get_or rows (5 * i + 3) 0) draft from jumps j starts ≡ emit (tables_of no_tables (code_to deck i)) form_here
+          → own_words (get_or rows (5 * i + 1) 0) (take (get_or rows (5 * i + 3) 0) (drop from draft)) (take (get_or rows (5 * i + 4) 0) (drop j jumps)) starts ≡ emit (tables_of no_tables (code_to deck i)) form_here
       unfolding word_of
       own_jump j at m g =
           let b = eq-eqb (get_or rows (5 * i + 1) 0) 1 (row_kind told.judged.in_rows i s e ∙ ap kind_of g) in
           let one = ap (λ (f : Form). length (jump_words f)) g ∙ ap length (one_jump m) in
           let lead = leading told in
-          let long = jumps_inside lead i s e j 1 at (sym one) in
-          let zero_more : j + 0 ≡ j = omega arith in
-          let t = ap (λ (p : ℕ). get_or starts (get_or jumps p 0) 0) (sym zero_more) ∙ targets_get jumps starts j 1 0 long (omega arith)
-          ∙ ap (λ (l : List ℕ). get_or l 0 0) (targets_here lead i s e j 1 at (sym one) ∙ ap (λ (f : Form). map (address_of deck) (jump_words f)) g ∙ ap (map (address_of deck)) (one_jump m)) in
-          ap (λ (c : Bool). cond c (go_word (get_or starts (get_or jumps j 0) 0) ∷ []) (take (get_or rows (5 * i + 3) 0) (drop from draft))) b
+          let many = get_or rows (5 * i + 4) 0 in
+          let r = row_jumps told.judged.in_rows i s e in
+          let t = sym (map_get (λ p. get_or starts p 0) (take many (drop j jumps)) 0 (omega (arith, jumps_many lead i s e j many at r)))
+          ∙ ap (λ (l : List ℕ). get_or l 0 0) (targets_here lead i s e j many at r ∙ ap (λ (f : Form). map (address_of deck) (jump_words f)) g ∙ ap (map (address_of deck)) (one_jump m)) in
+          ap (λ (c : Bool). cond c (go_word (get_or starts (get_or (take (get_or rows (5 * i + 4) 0) (drop j jumps)) 0 0) 0) ∷ []) (take (get_or rows (5 * i + 3) 0) (drop from draft))) b
           ∙ ap (λ (a : ℕ). go_word a ∷ []) t
           ∙ ap (λ (f : Form). emit (tables_of no_tables (code_to deck i)) (form_code (held_of deck) (dims_of deck) (address_of deck) (enter_code deck i f) f)) (sym g)
 
-      pub own_is : (j : ℕ) → j ≡ length (deck_jumps (take i deck)) → own_words (get_or rows (5 * i + 1) 0) (get_or rows (5 * i + 3) 0) draft from jumps j starts ≡ emit (tables_of no_tables (code_to deck i)) form_here
+      pub own_is : (j : ℕ) → j ≡ length (deck_jumps (take i deck)) → own_words (get_or rows (5 * i + 1) 0) (take (get_or rows (5 * i + 3) 0) (drop from draft)) (take (get_or rows (5 * i + 4) 0) (drop j jumps)) starts ≡ emit (tables_of no_tables (code_to deck i)) form_here
       own_is j at = go (which s.form)
         where
           go : (kind_of s.form ≡ 1 → ⊥) ⊎ ((m : Digits) × (s.form ≡ go_to m))
-              → own_words (get_or rows (5 * i + 1) 0) (get_or rows (5 * i + 3) 0) draft from jumps j starts ≡ emit (tables_of no_tables (code_to deck i)) form_here
+              → own_words (get_or rows (5 * i + 1) 0) (take (get_or rows (5 * i + 3) 0) (drop from draft)) (take (get_or rows (5 * i + 4) 0) (drop j jumps)) starts ≡ emit (tables_of no_tables (code_to deck i)) form_here
           go (inl h) = own_plain j h
           go (inr (m, g)) = own_jump j at m g
 
@@ -174,14 +174,17 @@ module _ {house : House} {deck : List Statement} {rows : List ℕ} {count : ℕ}
           let h = own_length (held_of deck) (dims_of deck) (λ m. m) (DOI (dos_in (take i deck)) no_loop) s.form in
           omega (arith, ap length p, from_is)
 
-    pub jump_aimed : 400 < length starts → (j : ℕ) → j ≡ length (deck_jumps (take i deck)) → get_or rows (5 * i + 1) 0 ≡ 1 → (1 ≤ get_or rows (5 * i + 3) 0) × Aimed jumps j 1 starts
+    pub jump_aimed : 400 < length starts → (j : ℕ) → j ≡ length (deck_jumps (take i deck)) → get_or rows (5 * i + 1) 0 ≡ 1
+        → (1 ≤ get_or rows (5 * i + 3) 0) × (1 ≤ get_or rows (5 * i + 4) 0) × Aimed (take (get_or rows (5 * i + 4) 0) (drop j jumps)) starts
     jump_aimed room j at h = go (which s.form)
       where
-        go : (kind_of s.form ≡ 1 → ⊥) ⊎ ((m : Digits) × (s.form ≡ go_to m)) → (1 ≤ get_or rows (5 * i + 3) 0) × Aimed jumps j 1 starts
+        go : (kind_of s.form ≡ 1 → ⊥) ⊎ ((m : Digits) × (s.form ≡ go_to m))
+            → (1 ≤ get_or rows (5 * i + 3) 0) × (1 ≤ get_or rows (5 * i + 4) 0) × Aimed (take (get_or rows (5 * i + 4) 0) (drop j jumps)) starts
         go (inl other) = absurd (other (sym (row_kind told.judged.in_rows i s e) ∙ h))
         go (inr (m, g)) =
             let one = ap (λ (f : Form). length (jump_words f)) g ∙ ap length (one_jump m) in
-            (omega (arith, row_own told.judged.in_rows i s e, ap form_words g), aimed_here (leading told) i s e j 1 at (sym one) room)
+            let r = row_jumps told.judged.in_rows i s e in
+            (omega (arith, row_own told.judged.in_rows i s e, ap form_words g), omega arith, aimed_here (leading told) i s e j (get_or rows (5 * i + 4) 0) at r room)
 
     pub ends_here : map end_word (ends_at loops jumps i n) ≡ emit (tables_of (tables_of no_tables (code_to deck i)) form_here) (map (do_instr deck DOE) (endings deck s.number))
     ends_here =

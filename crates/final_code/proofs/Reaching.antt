@@ -39,7 +39,7 @@ pub record Room (rows : List ℕ) (loops : List ℕ) (n : ℕ) (jumps starts dra
   pub fits : top + get_or rows (5 * i + 3) 0 + length (ends_at loops jumps i n) ≤ 4096
   pub drafted : from + get_or rows (5 * i + 3) 0 ≤ length draft
   pub jumped : j + get_or rows (5 * i + 4) 0 ≤ length jumps
-  pub aimed : get_or rows (5 * i + 1) 0 ≡ 1 → (1 ≤ get_or rows (5 * i + 3) 0) × Aimed jumps j 1 starts
+  pub aimed : get_or rows (5 * i + 1) 0 ≡ 1 → (1 ≤ get_or rows (5 * i + 3) 0) × (1 ≤ get_or rows (5 * i + 4) 0) × Aimed (take (get_or rows (5 * i + 4) 0) (drop j jumps)) starts
 
 module _ {house : House} {deck : List Statement} {rows : List ℕ} {count : ℕ} {loops : List ℕ} {n : ℕ} {jumps starts draft : List ℕ} (told : Settling house deck rows count loops n jumps starts draft) where
   pub room_here : {out : List ℕ} {from j top i : ℕ} → i < count → 400 < length starts → Reached deck from j top out i → Room rows loops n jumps starts draft from j top i
@@ -54,7 +54,7 @@ module _ {house : House} {deck : List Statement} {rows : List ℕ} {count : ℕ}
       }
 
   pub reached_more : {a b c : List ℕ} {from j top next last i : ℕ} → i < count → Reached deck from j top a i
-      → Put a b top (own_words (get_or rows (5 * i + 1) 0) (get_or rows (5 * i + 3) 0) draft from jumps j starts) next
+      → Put a b top (own_words (get_or rows (5 * i + 1) 0) (take (get_or rows (5 * i + 3) 0) (drop from draft)) (take (get_or rows (5 * i + 4) 0) (drop j jumps)) starts) next
       → Put b c next (map end_word (ends_at loops jumps i n)) last
       → Reached deck (from + get_or rows (5 * i + 3) 0) (j + get_or rows (5 * i + 4) 0) last c (i + 1)
   reached_more {a} {b} {c} {from} {j} {top} {next} {last} {i} l r p q =
@@ -74,10 +74,10 @@ module _ {house : House} {deck : List Statement} {rows : List ℕ} {count : ℕ}
 
 -- a statement's own words are as many as its row says, or fewer
 pub own_size : {rows loops : List ℕ} {n : ℕ} {jumps starts draft : List ℕ} {from j top i : ℕ} → Room rows loops n jumps starts draft from j top i → {a b : List ℕ} {next : ℕ}
-    → Put a b top (own_words (get_or rows (5 * i + 1) 0) (get_or rows (5 * i + 3) 0) draft from jumps j starts) next → next ≤ top + get_or rows (5 * i + 3) 0
+    → Put a b top (own_words (get_or rows (5 * i + 1) 0) (take (get_or rows (5 * i + 3) 0) (drop from draft)) (take (get_or rows (5 * i + 4) 0) (drop j jumps)) starts) next → next ≤ top + get_or rows (5 * i + 3) 0
 own_size {rows} {loops} {n} {jumps} {starts} {draft} {from} {j} {top} {i} room {a} {b} {next} p = go (eqb (get_or rows (5 * i + 1) 0) 1) refl p.top
   where
     go : (t : Bool) → eqb (get_or rows (5 * i + 1) 0) 1 ≡ t
-        → next ≡ top + length (cond t (go_word (get_or starts (get_or jumps j 0) 0) ∷ []) (take (get_or rows (5 * i + 3) 0) (drop from draft))) → next ≤ top + get_or rows (5 * i + 3) 0
+        → next ≡ top + length (cond t (go_word (get_or starts (get_or (take (get_or rows (5 * i + 4) 0) (drop j jumps)) 0 0) 0) ∷ []) (take (get_or rows (5 * i + 3) 0) (drop from draft))) → next ≤ top + get_or rows (5 * i + 3) 0
     go true e h = omega (arith, (room.aimed (eqb-true (get_or rows (5 * i + 1) 0) 1 e)).0)
     go false e h = omega (arith, length-take (get_or rows (5 * i + 3) 0) (drop from draft))

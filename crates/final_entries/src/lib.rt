@@ -6,19 +6,20 @@ ghost use Rattle.read_items.specs.Parsed.{Put};
 ghost use Rattle.final_entries.specs.Lines.{line_of};
 ghost use Rattle.final_entries.specs.Turned.{turned};
 
-use take_kinds::DIMENSION;
+use object_bodies::{LINE, NAME};
+use take_kinds::Kind;
 
 // One line's three words; how many words there are then.
 pub fn put_line(out: &mut [u32], top: usize, sequence: u32, number: u32, address: u32) -> usize
     requires { top + 3 ≤ length out.old }
     ensures { Put out.old out.new top (sequence ∷ number ∷ address ∷ []) result }
 {
-    let a = read_items::put(out, top, sequence);
-    let b = read_items::put(out, a, number);
-    read_items::put(out, b, address)
+    let end = top + LINE;
+    out[top..end].copy_from_slice(&[sequence, number, address]);
+    end
 }
 
-// A statement's line, if it is one.
+// A statement's line, if it is one; its kind is a row's word, since docs/EXCEPTIONS.md names this, and it may ask no more.
 pub fn put_statement(
     out: &mut [u32],
     top: usize,
@@ -30,7 +31,7 @@ pub fn put_statement(
     requires { top + 3 ≤ length out.old }
     ensures { Put out.old out.new top (line_of kind sequence number address) result }
 {
-    if kind == DIMENSION {
+    if kind == Kind::Dimension.word() {
         return top;
     }
     put_line(out, top, sequence, number, address)
@@ -40,7 +41,8 @@ pub fn put_statement(
 pub fn turned(w: u64) -> u32
     ensures { result ≡ turned w }
 {
-    (w / 16777216 % 256 + w / 65536 % 256 * 256 + w / 256 % 256 * 65536 + w % 256 * 16777216) as u32
+    let [_, _, _, _, a, b, c, d] = w.to_be_bytes();
+    u32::from_le_bytes([a, b, c, d])
 }
 
 // One name's five words; how many words there are then.
@@ -55,9 +57,7 @@ pub fn put_name(
     requires { top + 5 ≤ length out.old }
     ensures { Put out.old out.new top (turned (name / 4294967296) ∷ turned name ∷ first ∷ rows ∷ columns ∷ []) result }
 {
-    let high = turned(name / 4294967296);
-    let low = turned(name);
-    let a = read_items::put(out, top, high);
-    let b = read_items::put(out, a, low);
-    put_line(out, b, first, rows, columns)
+    let end = top + NAME;
+    out[top..end].copy_from_slice(&[turned(name >> 32), turned(name), first, rows, columns]);
+    end
 }

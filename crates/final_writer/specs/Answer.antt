@@ -1,16 +1,16 @@
 -- The writer's answer, with the output at its end, as the book's.
 -- Assumes nothing.
-use Rattle.std.specs.Prelude.{ℕ, ◌^◌, ◌<◌, List}
-use Rattle.rules_shared.specs.Refusals.{refusal, accepted, no_room}
+use Rattle.std.specs.Prelude.{ℕ, ◌^◌, ◌<◌, List, Result, Ok, Err}
+use Rattle.rules_shared.specs.Refusals.{refusal, accepted}
 use Rattle.rules_shared.specs.Output.{Written, not_written}
-use Rattle.final_writer.specs.declared.Wrote.{Wrote}
-use Rattle.final_writer.specs.declared.Wrote.TheVariants.{Bytes, Short}
+use Rattle.refusals.specs.declared.Reason.{Reason}
+use Rattle.refusals.specs.Numbers.{number_of}
 
-abbrev pub answer : Wrote → List ℕ → Written
-answer (Bytes n) o = record { refusal = accepted; length = n; output = o }
-answer Short o = not_written (refusal no_room 0 0) o
+abbrev pub answer : Result ℕ Reason → List ℕ → Written
+answer (Ok n) o = record { refusal = accepted; length = n; output = o }
+answer (Err r) o = not_written (refusal (number_of r) 0 0) o
 
 -- the length is a word
-abbrev pub Low : Wrote → Type 0
-Low (Bytes n) = n < 2 ^ 32
-Low Short = Unit {0}
+abbrev pub Low : Result ℕ Reason → Type 0
+Low (Ok n) = n < 2 ^ 32
+Low (Err r) = Unit {0}

@@ -68,7 +68,7 @@ pub fn most_entries(kind: usize) -> usize
     MOST[kind]
 }
 
-// How many kinds an edition has: none, if there is no such edition.
+// How many kinds an edition has: none, if there is no such edition, as the list of the book, which is empty there.
 pub fn kinds_of(edition: u32) -> usize
     ensures { (result ≡ length (kinds_of edition)) × (result ≤ most_kinds) }
 {

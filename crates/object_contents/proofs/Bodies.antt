@@ -45,12 +45,6 @@ fit s n k at e =
       inside = leb-true (length_in s n k) (length s - at) (and_right t3 t4 q);
     }
 
--- the test, with the code's numbers in it
-pub tests : (s : List ℕ) (n k at x y l z : ℕ) → x ≡ kind_in s k → y ≡ first_in s n k → l ≡ length_in s n k → z ≡ size_of k
-    → (eqb x (k + 1) && (eqb y at && (eqb (l % z) 0 && leb l (length s - at)))) ≡ body_fits s n k at
-unfolding body_fits
-tests s n k at x y l z ex ey el ez = rw (ex, ey, el, ez, add-one k)
-
 -- ---- what the contents have of a kind, and what they have not
 
 pub first_there : (s : List ℕ) (n k : ℕ) → k < n → word_at s (20 + 12 * k) ≡ first_in s n k

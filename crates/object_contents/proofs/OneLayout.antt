@@ -3,12 +3,11 @@
 use mathlib.Core.Path.{◌≡◌, refl, sym, ap, ◌∙◌}
 use Prim.Native.Nat.{ℕ, ◌/◌}
 use mathlib.Core.List.{List}
+use Rattle.std.specs.Prelude.{Option, Some, None}
 use mathlib.Core.Option.{none, some}
 use lib.ListN.{length}
 use Rattle.rules_object.specs.Object.{Object}
 use Rattle.object_contents.specs.declared.Layout.{Layout}
-use Rattle.object_contents.specs.declared.Contents.{Contents}
-use Rattle.object_contents.specs.declared.Contents.TheVariants.{Read, Wrong}
 use Rattle.object_contents.specs.Layout.{object_at}
 use Rattle.object_words.specs.Word.{word_at}
 use Rattle.object_contents.specs.Opened.{OpenedAt, Opened}
@@ -69,8 +68,8 @@ pub layout_is : (s : List ℕ) (n : ℕ) (r : Layout)
 unfolding layout_in
 layout_is s n r v d c f1 n1 f2 n2 f3 n3 f4 n4 f5 n5 f6 n6 f7 n7 f8 n8 f9 n9 f10 n10 = rw (v, d, c, f1, n1, f2, n2, f3, n3, f4, n4, f5, n5, f6, n6, f7, n7, f8, n8, f9, n9, f10, n10)
 
-pub one_answer : (s : List ℕ) (q r : Contents) → Opened s q → Opened s r → q ≡ r
-one_answer s (Read e) (Read f) a b = ap Read (one_layout s e f a b)
-one_answer s (Read e) Wrong a b = let z : some (object_at e s) ≡ none = sym a.is ∙ b in cc
-one_answer s Wrong (Read e) a b = let z : some (object_at e s) ≡ none = sym b.is ∙ a in cc
-one_answer s Wrong Wrong a b = refl
+pub one_answer : (s : List ℕ) (q r : Option Layout) → Opened s q → Opened s r → q ≡ r
+one_answer s (Some e) (Some f) a b = ap Some (one_layout s e f a b)
+one_answer s (Some e) None a b = let z : some (object_at e s) ≡ none = sym a.is ∙ b in cc
+one_answer s None (Some e) a b = let z : some (object_at e s) ≡ none = sym b.is ∙ a in cc
+one_answer s None None a b = refl

@@ -1,13 +1,12 @@
 -- What the book reads of any bytes, by the tests of the code: wrong at each of them, or the object of the layout that they hold.
 -- Assumes nothing.
 use mathlib.Core.Path.{◌≡◌, refl, sym, ap, ◌∙◌, subst}
-use Prim.Native.Nat.{ℕ, zero, suc, ◌+◌, ◌-◌, ◌*◌, ◌/◌, ◌%◌, ◌≤◌, ◌<◌}
+use Prim.Native.Nat.{ℕ, zero, suc, ◌+◌, ◌*◌, ◌/◌, ◌%◌, ◌≤◌, ◌<◌}
 use native.Mathlib.Nat.{div-add-mod', zero-div}
 use native.Mathlib.Omega.{arith}
 use mathlib.Core.Bool.{Bool, true, false, ◌&&◌, cond}
 use mathlib.Core.List.{List, [], ◌∷◌, map}
 use mathlib.Core.Option.{Option, none, some}
-use mathlib.Core.Logic.{◌⊎◌, inl, inr}
 use lib.Dec.{ltb, leb, eqb}
 use lib.ListN.{length, get_or, take, drop, length-take, length-drop, get_or-eq_default}
 use lib.Seq.{drop-drop, get_or-drop, get_or-take, length-take-le}
@@ -22,18 +21,11 @@ use Rattle.object_bodies.proofs.Editions.{first_sizes}
 use Rattle.object_words.specs.Word.{word_at}
 use Rattle.object_words.proofs.Laws.{word_at_lem}
 use Rattle.object_contents.specs.Layout.{list_from, element_at, loop_at, line_at, named_at, item_at, transfer_at, object_at, Placed}
-use Rattle.object_contents.specs.declared.Layout.{Layout}
-use Rattle.object_contents.specs.declared.Contents.{Contents}
-use Rattle.object_contents.specs.declared.Contents.TheVariants.{Read, Wrong}
-use Rattle.object_contents.specs.Opened.{OpenedAt, Opened}
+use Rattle.object_contents.specs.Opened.{OpenedAt}
 use Rattle.object_contents.specs.Bodies.{first_in, length_in, size_of, end_in, body_in, rest_in, InOrder, layout_in, Begun}
 use Rattle.object_contents.proofs.Lists.{length_from, get_d_all}
 use Rattle.object_contents.proofs.Bodies.{split, first_none, length_none, whole_four}
 use Rattle.object_contents.proofs.Reading.{Agrees, all_words_lem, all_entries, element_one, loop_one, line_one, named_one, item_one, transfer_one}
-
-pub either : {A B C : Type 0} → A ⊎ B → (A → C) → (B → C) → C
-either (inl a) f g = f a
-either (inr b) f g = g b
 
 -- ---- wrong
 
@@ -258,11 +250,3 @@ module _ (s : List ℕ) (n : ℕ) (b : Begun s n) (o : InOrder s n) where
 
   pub opens : ((i : ℕ) → get_or s i 0 < 256) → (length_in s n 4 / 4 ≡ 0 → ⊥) → OpenedAt s (layout_in s n)
   opens bytes h = record { is = reads_layout bytes h; placed = placed bytes h }
-
--- ---- for a caller that has taken the answer apart
-
-pub read_of : (s : List ℕ) (r : Contents) (e : Layout) → Opened s r → r ≡ Read e → OpenedAt s e
-read_of s r e h q = subst (Opened s) q h
-
-pub wrong_of : (s : List ℕ) (r : Contents) → Opened s r → r ≡ Wrong → read_object s ≡ none
-wrong_of s r h q = subst (Opened s) q h

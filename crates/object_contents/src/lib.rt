@@ -7,6 +7,10 @@ ghost use Rattle.object_bodies.specs.Edition.{most_kinds};
 ghost use Rattle.object_contents.specs.Opened.{Opened};
 ghost use Rattle.object_contents.specs.Bodies.{first_in, length_in, size_of, body_fits, AllFit, layout_in, Begun};
 
+pub mod placed;
+
+pub use placed::Object;
+
 // Of each body the byte that it starts at and how many entries it has.
 #[derive(Clone, Copy)]
 pub struct Layout {
@@ -35,12 +39,6 @@ pub struct Layout {
     pub transfer_count: usize,
 }
 
-#[derive(Drop)]
-pub enum Contents {
-    Read(Layout),
-    Wrong,
-}
-
 fn size_of(kind: usize) -> usize
     requires { kind < most_kinds }
     ensures { (result ≡ size_of kind) × (0 < result) }
@@ -49,6 +47,7 @@ fn size_of(kind: usize) -> usize
 }
 
 // A body that an edition of so many kinds does not have stands empty at the end.
+#[tactic(auto, using(std::proofs::lemmas::Bool::Decides::nat_tests), unfolding(crate::specs::Bodies::first_in))]
 fn first_of(o: &[u8], kinds: usize, kind: usize) -> usize
     requires { (contents_length kinds ≤ length o.now) × (kinds ≤ most_kinds) }
     ensures { result ≡ first_in o.now kinds kind }
@@ -56,9 +55,10 @@ fn first_of(o: &[u8], kinds: usize, kind: usize) -> usize
     if kinds <= kind {
         return o.len();
     }
-    object_words::index(object_words::load(o, 20 + 12 * kind))
+    object_words::load(o, 20 + 12 * kind) as usize
 }
 
+#[tactic(auto, using(std::proofs::lemmas::Bool::Decides::nat_tests), unfolding(crate::specs::Bodies::length_in))]
 fn length_of(o: &[u8], kinds: usize, kind: usize) -> usize
     requires { (contents_length kinds ≤ length o.now) × (kinds ≤ most_kinds) }
     ensures { result ≡ length_in o.now kinds kind }
@@ -66,7 +66,7 @@ fn length_of(o: &[u8], kinds: usize, kind: usize) -> usize
     if kinds <= kind {
         return 0;
     }
-    object_words::index(object_words::load(o, 24 + 12 * kind))
+    object_words::load(o, 24 + 12 * kind) as usize
 }
 
 fn count_of(o: &[u8], kinds: usize, kind: usize) -> usize
@@ -77,21 +77,16 @@ fn count_of(o: &[u8], kinds: usize, kind: usize) -> usize
 }
 
 // One body: its kind in order, right after the one before, whole entries, inside.
+#[tactic(auto, using(std::proofs::lemmas::Bool::Decides::nat_tests), unfolding(crate::specs::Bodies::body_fits))]
 fn body_fits(o: &[u8], kinds: usize, kind: usize, at: usize) -> bool
     requires { (contents_length kinds ≤ length o.now) × (kinds ≤ most_kinds) × (kind < kinds) × (at ≤ length o.now) }
     ensures { result ≡ body_fits o.now kinds kind at }
 {
-    if object_words::index(object_words::load(o, 16 + 12 * kind)) != kind + 1 {
-        return false;
-    }
-    if first_of(o, kinds, kind) != at {
-        return false;
-    }
     let n = length_of(o, kinds, kind);
-    if n % size_of(kind) != 0 {
-        return false;
-    }
-    n <= o.len() - at
+    object_words::load(o, 16 + 12 * kind) as usize == kind + 1
+        && first_of(o, kinds, kind) == at
+        && n % size_of(kind) == 0
+        && n <= o.len() - at
 }
 
 // Every body of so many kinds, and nothing after the last.
@@ -100,13 +95,11 @@ fn bodies_fit(o: &[u8], kinds: usize) -> bool
     ensures { AllFit o.now kinds result }
 {
     let mut at = object_bodies::contents_length(kinds);
-    let mut kind = 0;
-    while kind < kinds {
+    for kind in 0..kinds {
         if !body_fits(o, kinds, kind, at) {
             return false;
         }
         at += length_of(o, kinds, kind);
-        kind += 1;
     }
     at == o.len()
 }
@@ -143,29 +136,29 @@ fn layout_of(o: &[u8], kinds: usize) -> Layout
 }
 
 // The bodies of an object whose edition has so many kinds.
-fn bodies_of(o: &[u8], kinds: usize) -> Contents
+fn bodies_of(o: &[u8], kinds: usize) -> Option<Layout>
     requires { Begun o.now kinds }
     ensures { Opened o.now result }
 {
-    if o.len() < object_bodies::contents_length(kinds) || !bodies_fit(o, kinds) {
-        return Contents::Wrong;
+    if o.len() < object_bodies::contents_length(kinds)
+        || !bodies_fit(o, kinds)
+        || count_of(o, kinds, 4) == 0
+    {
+        return None;
     }
-    if count_of(o, kinds, 4) == 0 {
-        return Contents::Wrong;
-    }
-    Contents::Read(layout_of(o, kinds))
+    Some(layout_of(o, kinds))
 }
 
 // Any bytes: wrong by 40, or the places of the bodies. The first four words are the edition, the digits, the cells and how many bodies there are.
-pub fn contents_of(o: &[u8]) -> Contents
+pub fn contents_of(o: &[u8]) -> Option<Layout>
     ensures { Opened o.now result }
 {
     if o.len() < 16 || o.len() % 4 != 0 {
-        return Contents::Wrong;
+        return None;
     }
     let kinds = object_bodies::kinds_of(object_words::load(o, 0));
-    if kinds == 0 || object_words::index(object_words::load(o, 12)) != kinds {
-        return Contents::Wrong;
+    if kinds == 0 || object_words::load(o, 12) as usize != kinds {
+        return None;
     }
     bodies_of(o, kinds)
 }

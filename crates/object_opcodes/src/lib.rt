@@ -1,5 +1,8 @@
-// The operations of the machine by number, and the halts that an instruction may give.
+// The operations of the machine by number, and why a run halts.
 #![tactic(auto)]
+
+ghost use Rattle.std.specs.Prelude.{◌≡◌};
+ghost use Rattle.object_opcodes.specs.Halts.{number_of};
 
 pub const HLT: u32 = 0;
 
@@ -37,20 +40,26 @@ pub const READ: u32 = 16;
 
 pub const PRINT: u32 = 17;
 
-// ---- halts
+// Why a run halts. A halt's number is 01's.
+#[derive(Clone, Copy, PartialEq, Eq, Debug)]
+pub enum Halt {
+    Stop = 0,
+    End = 1,
+    Allowance = 2,
+    DivideByZero = 3,
+    BadSubscript = 4,
+    BadExit = 5,
+    BadParameter = 6,
+    BadStack = 7,
+    BadInstruction = 8,
+    RanOut = 9,
+    BadField = 10,
+}
 
-pub const DIVIDE_BY_ZERO: u32 = 3;
-
-pub const BAD_SUBSCRIPT: u32 = 4;
-
-pub const BAD_EXIT: u32 = 5;
-
-pub const BAD_PARAMETER: u32 = 6;
-
-pub const BAD_STACK: u32 = 7;
-
-pub const BAD_INSTRUCTION: u32 = 8;
-
-pub const RAN_OUT: u32 = 9;
-
-pub const BAD_FIELD: u32 = 10;
+impl Halt {
+    pub fn number(self) -> u32
+        ensures { result ≡ number_of self }
+    {
+        self as u32
+    }
+}

@@ -1,13 +1,12 @@
--- Words at their places: in the rest of some bytes, as the book's words, and after four stores.
+-- Words at their places: in the rest of some bytes, and as the book's words.
 -- Assumes nothing.
 use mathlib.Core.Path.{◌≡◌, refl, sym, ap, ◌∙◌}
 use Prim.Native.Nat.{ℕ, zero, suc, ◌+◌, ◌*◌, ◌≤◌}
 use native.Mathlib.Nat.{add_assoc}
-use native.Mathlib.Numerals.{add-one, add-two, add-three}
 use native.Mathlib.Omega.{arith}
-use mathlib.Core.List.{List, [], ◌∷◌, ◌++◌, append_assoc}
-use lib.ListN.{length, get_or, take, drop, set}
-use lib.Seq.{get_or-drop, sets-eq}
+use mathlib.Core.List.{List, [], ◌∷◌}
+use lib.ListN.{length, get_or, drop}
+use lib.Seq.{get_or-drop}
 use Rattle.rules_object.specs.Bytes.{words_of}
 use Rattle.object_words.specs.Word.{word_at}
 
@@ -27,8 +26,3 @@ word_at_lem (a ∷ b ∷ c ∷ d ∷ s) zero h = refl
 word_at_lem (a ∷ b ∷ c ∷ d ∷ s) (suc i) h =
     let e : 4 * suc i ≡ 4 + 4 * i = omega arith in
     ap (word_at (a ∷ b ∷ c ∷ d ∷ s)) e ∙ sym (word_drop 4 (a ∷ b ∷ c ∷ d ∷ s) (4 * i)) ∙ word_at_lem s i (omega arith)
-
-pub four_stores : (s : List ℕ) (at a b c d : ℕ) → at + 4 ≤ length s
-    → set (set (set (set s at a) (at + 1) b) (at + 2) c) (at + 3) d ≡ take at s ++ ((a ∷ b ∷ c ∷ d ∷ []) ++ drop (at + 4) s)
-four_stores s at a b c d h =
-    rw (add-one at, add-two at, add-three at) (sets-eq (a ∷ b ∷ c ∷ d ∷ []) s at h ∙ append_assoc (take at s) (a ∷ b ∷ c ∷ d ∷ []) (drop (at + 4) s))

@@ -5,18 +5,12 @@ ghost use Rattle.std.specs.Prelude.{◌≡◌, ◌+◌, ◌*◌, ◌/◌, ◌%�
 ghost use Rattle.rules_object.specs.Bytes.{word_bytes};
 ghost use Rattle.object_words.specs.Word.{word_at};
 
-fn wide(b: u8) -> u32
-    ensures { (result ≡ b) × (result < 256) }
-{
-    b as u32
-}
-
 // The word whose first byte is at `at`.
 pub fn load(s: &[u8], at: usize) -> u32
     requires { at + 4 ≤ length s.now }
     ensures { result ≡ word_at s.now at }
 {
-    wide(s[at]) + wide(s[at + 1]) * 256 + wide(s[at + 2]) * 65536 + wide(s[at + 3]) * 16777216
+    u32::from_le_bytes([s[at], s[at + 1], s[at + 2], s[at + 3]])
 }
 
 pub fn index(w: u32) -> usize
@@ -45,19 +39,10 @@ pub fn pack(op: u32, operand: u32) -> u32
     (op << 24) | operand
 }
 
-fn low(w: u32) -> u8
-    ensures { result ≡ w % 256 }
-{
-    (w & 0xff) as u8
-}
-
 // The word at `at`; the other bytes stay.
 pub fn store(out: &mut [u8], at: usize, w: u32)
     requires { at + 4 ≤ length out.old }
     ensures { out.new ≡ take at out.old ++ (word_bytes w ++ drop (at + 4) out.old) }
 {
-    out[at] = low(w);
-    out[at + 1] = low(w >> 8);
-    out[at + 2] = low(w >> 16);
-    out[at + 3] = low(w >> 24);
+    out[at..at + 4].copy_from_slice(&w.to_le_bytes());
 }

@@ -1,51 +1,37 @@
 // The program's control card.
 #![tactic(auto)]
 
-ghost use Rattle.std.specs.Prelude.{◌≡◌, ◌≤◌, ◌<◌, length, take, drop};
-ghost use Rattle.rules_shared.specs.Lists.{all};
-ghost use Rattle.rules_program.specs.Program.{is_blank, first_column, control_digits};
-ghost use Rattle.print_control_card.specs.Digits.{digits_of};
+ghost use Rattle.std.specs.Prelude.{◌≡◌, ◌≤◌, ◌==◌, length, IfSome};
+ghost use Rattle.std.specs.List.{list_all};
+ghost use Rattle.rules_program.specs.Program.{first_column, control_digits};
+ghost use Rattle.refusals.specs.Answers.{maybe};
 
 pub const CARD: usize = 80;
 
-fn blank_after_first(card: &[u8]) -> bool
-    requires { 80 ≤ length card.now }
-    ensures { result ≡ all is_blank (drop 1 (take 80 card.now)) }
+fn is_blank(columns: &[u8]) -> bool
+    ensures { result ≡ list_all (λ c. c == 32) columns.now }
 {
-    let mut i = 1;
-    while i < CARD {
-        if card[i] != b' ' {
-            return false;
-        }
-        i += 1;
-    }
-    true
+    columns.iter().all(|c| *c == b' ')
 }
 
-// The digits that column 1 says, 0 for none.
-fn first_column(c: u8) -> u32
-    ensures { first_column c ≡ digits_of result }
+// The digits that column 1 says.
+fn first_column(c: u8) -> Option<u32>
+    ensures { maybe (λ k. k) result ≡ first_column c }
 {
-    if c == b' ' {
-        return 5;
+    match c {
+        b' ' => Some(5),
+        b'1'..=b'9' => Some(u32::from(c - b'0')),
+        _ => None,
     }
-    if c < b'1' {
-        return 0;
-    }
-    if b'9' < c {
-        return 0;
-    }
-    (c - b'0') as u32
 }
 
-pub fn control(input: &[u8]) -> u32
-    ensures { (control_digits input.now ≡ digits_of result) × (0 < result → 80 ≤ length input.now) }
+// The digits on the control card that an input begins with.
+pub fn control(input: &[u8]) -> Option<u32>
+    ensures digits { maybe (λ k. k) result ≡ control_digits input.now }
+    ensures card { IfSome result (λ k. 80 ≤ length input.now) }
 {
-    if input.len() < CARD {
-        return 0;
-    }
-    if !blank_after_first(input) {
-        return 0;
+    if input.len() < CARD || !is_blank(&input[1..CARD]) {
+        return None;
     }
     first_column(input[0])
 }

@@ -4,12 +4,12 @@ use Prim.Native.Nat.{ℕ, ◌+◌, ◌≤◌, ◌<◌}
 use mathlib.Core.Path.{◌≡◌, refl, sym, ap, ◌∙◌, subst}
 use mathlib.Core.List.{List, [], ◌∷◌, ◌++◌}
 use native.Mathlib.Omega.{arith}
-use lib.ListN.{length, get_or, set, take, drop, length-append, length-drop}
-use lib.Seq.{get_or-drop}
+use native.Mathlib.Numerals.{add-one}
+use lib.ListN.{length, get_or, set, drop, length-append, drop_of_length-le}
+use lib.Seq.{drop-cons}
 use borrow.Author.Tests.{ne_eqb}
 use Rattle.read_texts.specs.Taking.{over}
 use Rattle.read_texts.proofs.TextLaws.{over_none, over_append}
-use Rattle.read_cards.proofs.CardLaws.{column, columns_end}
 use Rattle.rules_text.specs.Cards.{without_blanks}
 use Rattle.print_numbers.specs.Puts.{Room, Puts}
 use Rattle.print_numbers.proofs.PutLaws.{puts_length, one_byte}
@@ -46,54 +46,42 @@ module _ {whole : List ℕ} {at : ℕ} {before out : List ℕ} {n : ℕ} where
       let h = going_as e g in
       record { end = omega (arith, h.count); put = sym (h.same ∙ over_none n out) }
 
--- ---- a name's eight bytes, blanks gone: i of them so far
+-- ---- a name's bytes, blanks gone: i of them so far
 
-solid : (c : ℕ) (s : List ℕ) → (c ≡ 32 → ⊥) → without_blanks (c ∷ s) ≡ (c ∷ []) ++ without_blanks s
-solid c s n = simp (ne_eqb c 32 n)
+pub record Naming (text : List ℕ) (at : ℕ) (before out : List ℕ) (n i : ℕ) : Type 0 where
+  pub going : Going (without_blanks text) at before out n (without_blanks (drop i text))
 
-blank : (c : ℕ) (s : List ℕ) → c ≡ 32 → without_blanks (c ∷ s) ≡ without_blanks s
-blank c s e = simp e
+module _ (text : List ℕ) (at : ℕ) (before : List ℕ) where
+  pub naming_start : Naming text at before before at 0
+  naming_start = record { going = going_start (without_blanks text) at before }
 
-pub record Naming (s : List ℕ) (from at : ℕ) (before out : List ℕ) (n i : ℕ) : Type 0 where
-  pub most : i ≤ 8
-  pub going : Going (without_blanks (take 8 (drop from s))) at before out n (without_blanks (drop i (take 8 (drop from s))))
+  module _ (out : List ℕ) (n i : ℕ) (p : Naming text at before out n i) where
+    pub naming_end : length text ≤ i → Puts (without_blanks text) at before out n
+    naming_end h = going_end (ap without_blanks (drop_of_length-le text h)) p.going
 
-module _ (s : List ℕ) (from : ℕ) (l : from + 8 ≤ length s) (at : ℕ) (before : List ℕ) where
-  abbrev name : List ℕ
-  name = take 8 (drop from s)
-
-  pub naming_start : Naming s from at before before at 0
-  naming_start = record { most = omega arith; going = going_start (without_blanks name) at before }
-
-  module _ (out : List ℕ) (n i : ℕ) (p : Naming s from at before out n i) where
-    pub naming_end : 8 ≤ i → Puts (without_blanks name) at before out n
-    naming_end h = going_end (ap without_blanks (columns_end (drop from s) 8 i h)) p.going
-
-    module _ (h : i < 8) where
+    module _ (h : i < length text) where
       abbrev c : ℕ
-      c = get_or s (from + i) 0
+      c = get_or text i 0
 
       abbrev rest : List ℕ
-      rest = drop (i + 1) name
+      rest = drop (i + 1) text
 
-      here : drop i name ≡ c ∷ rest
-      here =
-          let d : 8 ≤ length (drop from s) = omega (arith, length-drop from s) in
-          column (drop from s) 8 i d h ∙ ap (λ (x : ℕ). x ∷ rest) (get_or-drop from s i 0)
+      here : drop i text ≡ c ∷ rest
+      here = drop-cons text i 0 h ∙ ap (λ (k : ℕ). c ∷ drop k text) (sym (add-one i))
 
-      on : (c ≡ 32 → ⊥) → Going (without_blanks name) at before out n ((c ∷ []) ++ without_blanks rest)
-      on b = going_as (ap without_blanks here ∙ solid c rest b) p.going
+      on : (c ≡ 32 → ⊥) → Going (without_blanks text) at before out n ((c ∷ []) ++ without_blanks rest)
+      on b = going_as (ap without_blanks here ∙ simp (ne_eqb c 32 b)) p.going
 
-      pub naming_room : (c ≡ 32 → ⊥) → Room (without_blanks name) at before → n < length out
+      pub naming_room : (c ≡ 32 → ⊥) → Room (without_blanks text) at before → n < length out
       naming_room b r = let f = going_room (c ∷ []) (without_blanks rest) (on b) r in omega (arith, f.fits)
 
-      pub naming_blank : (out' : List ℕ) (n' : ℕ) → c ≡ 32 → out' ≡ out → n' ≡ n → Naming s from at before out' n' (i + 1)
+      pub naming_blank : (out' : List ℕ) (n' : ℕ) → c ≡ 32 → out' ≡ out → n' ≡ n → Naming text at before out' n' (i + 1)
       naming_blank out' n' b e f =
-          subst (λ (o : List ℕ). Naming s from at before o n' (i + 1)) (sym e)
-          (subst (λ (k : ℕ). Naming s from at before out k (i + 1)) (sym f)
-          (record { most = omega arith; going = going_as (ap without_blanks here ∙ blank c rest b) p.going }))
+          subst (λ (o : List ℕ). Naming text at before o n' (i + 1)) (sym e)
+          (subst (λ (k : ℕ). Naming text at before out k (i + 1)) (sym f)
+          (record { going = going_as (ap without_blanks here ∙ simp b) p.going }))
 
-      pub naming_solid : (out' : List ℕ) (n' : ℕ) → (c ≡ 32 → ⊥) → out' ≡ set out n c → n' ≡ n + 1 → Naming s from at before out' n' (i + 1)
+      pub naming_solid : (out' : List ℕ) (n' : ℕ) → (c ≡ 32 → ⊥) → out' ≡ set out n c → n' ≡ n + 1 → Naming text at before out' n' (i + 1)
       naming_solid out' n' b e f =
           let one : Puts (c ∷ []) n out out' n' = record { end = f; put = e ∙ sym (one_byte c n out) } in
-          record { most = omega arith; going = going_on (c ∷ []) (without_blanks rest) (on b) one }
+          record { going = going_on (c ∷ []) (without_blanks rest) (on b) one }

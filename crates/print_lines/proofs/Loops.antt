@@ -4,7 +4,7 @@ use Prim.Native.Nat.{ℕ, ◌+◌, ◌-◌, ◌*◌, ◌≤◌, ◌<◌}
 use mathlib.Core.Path.{◌≡◌, refl, sym, ap, ◌∙◌}
 use mathlib.Core.List.{List, ◌++◌}
 use native.Mathlib.Omega.{arith}
-use lib.ListN.{length}
+use lib.ListN.{length, drop, length-take}
 use lib.IntN.{ℤ}
 use Rattle.rules_object.specs.Object.{Named}
 use Rattle.rules_object.specs.Check.{span}
@@ -20,42 +20,42 @@ use Rattle.print_lines.proofs.ValueLaws.{lines_more, lines_end, names_more, name
 
 -- ---- one name: i of its m values so far
 
-abbrev pub all_lines : Entry → List ℕ → List ℤ → List ℕ
-all_lines e s store = value_lines (named_in e s) store (span e.rows e.columns) 0
+abbrev pub all_lines : Entry → List ℤ → List ℕ
+all_lines e store = value_lines (named_in e) store (span e.rows e.columns) 0
 
-pub record Valuing (e : Entry) (s : List ℕ) (store : List ℤ) (m at : ℕ) (before out : List ℕ) (n i : ℕ) : Type 0 where
+pub record Valuing (e : Entry) (store : List ℤ) (m at : ℕ) (before out : List ℕ) (n i : ℕ) : Type 0 where
   pub most : i ≤ m
   pub low : n ≤ at + 41 * i
-  pub going : Going (all_lines e s store) at before out n (value_lines (named_in e s) store (m - i) i)
+  pub going : Going (all_lines e store) at before out n (value_lines (named_in e) store (m - i) i)
 
-module _ (e : Entry) (s : List ℕ) (store : List ℤ) (m : ℕ) (k : m ≡ span e.rows e.columns) (at : ℕ) (before : List ℕ) where
-  pub values_start : Valuing e s store m at before before at 0
+module _ (e : Entry) (store : List ℤ) (m : ℕ) (k : m ≡ span e.rows e.columns) (at : ℕ) (before : List ℕ) where
+  pub values_start : Valuing e store m at before before at 0
   values_start =
       let z : span e.rows e.columns ≡ m - 0 = omega arith in
       record {
         most = omega arith;
         low = omega arith;
-        going = going_as (ap (λ (j : ℕ). value_lines (named_in e s) store j 0) z) (going_start (all_lines e s store) at before);
+        going = going_as (ap (λ (j : ℕ). value_lines (named_in e) store j 0) z) (going_start (all_lines e store) at before);
       }
 
-  module _ (out : List ℕ) (n i : ℕ) (p : Valuing e s store m at before out n i) where
-    pub values_end : m ≤ i → Puts (all_lines e s store) at before out n × (n ≤ at + 41 * span e.rows e.columns)
-    values_end h = (going_end (lines_end (named_in e s) store m i h) p.going, omega (arith, p.low, p.most, k))
+  module _ (out : List ℕ) (n i : ℕ) (p : Valuing e store m at before out n i) where
+    pub values_end : m ≤ i → Puts (all_lines e store) at before out n × (n ≤ at + 41 * span e.rows e.columns)
+    values_end h = (going_end (lines_end (named_in e) store m i h) p.going, omega (arith, p.low, p.most, k))
 
     abbrev line : List ℕ
-    line = value_line (named_in e s) store i
+    line = value_line (named_in e) store i
 
     abbrev rest : List ℕ
-    rest = value_lines (named_in e s) store (m - (i + 1)) (i + 1)
+    rest = value_lines (named_in e) store (m - (i + 1)) (i + 1)
 
-    next : i < m → Going (all_lines e s store) at before out n (line ++ rest)
-    next h = going_as (lines_more (named_in e s) store m i h) p.going
+    next : i < m → Going (all_lines e store) at before out n (line ++ rest)
+    next h = going_as (lines_more (named_in e) store m i h) p.going
 
-    pub values_room : Inside e s store → at + 41 * span e.rows e.columns ≤ length before → i < m → Reads e i s store × (n + 41 ≤ length out)
+    pub values_room : Inside e store → at + 41 * span e.rows e.columns ≤ length before → i < m → Reads e i store × (n + 41 ≤ length out)
     values_room q r h =
         (record { text = q.text; cell = omega (arith, q.cells); most = q.most }, omega (arith, r, k, p.low, p.going.long))
 
-    pub values_on : i < m → {out' : List ℕ} {n' : ℕ} → Puts line n out out' n' × (n' ≤ n + 41) → Valuing e s store m at before out' n' (i + 1)
+    pub values_on : i < m → {out' : List ℕ} {n' : ℕ} → Puts line n out out' n' × (n' ≤ n + 41) → Valuing e store m at before out' n' (i + 1)
     values_on h q = record { most = omega arith; low = omega (arith, p.low, q.1); going = going_on line rest (next h) q.0 }
 
 -- ---- the names: i of them so far
@@ -95,18 +95,18 @@ module _ (e : Layout) (s : List ℕ) (store : List ℤ) (at : ℕ) (before : Lis
     pub listed : e.name_count ≤ i → Puts whole at before out n × (n ≤ at + 41 * values (object_at e s).names)
     listed h = (going_end (names_end (name_at e s) store e.name_count i h) p.going, omega (arith, p.low))
 
-    module _ (h : i < e.name_count) (x : Entry) (t : x.text ≡ e.names + 20 * i) (is : named_in x s ≡ name_at e s i) where
+    module _ (h : i < e.name_count) (x : Entry) (is : named_in x ≡ name_at e s i) where
       abbrev others : List ℕ
       others = name_lines (list_from (e.name_count - (i + 1)) (i + 1) (name_at e s)) store
 
       abbrev of_named : Named → List ℕ
       of_named v = value_lines v store (span v.rows v.columns) 0
 
-      same_lines : all_lines x s store ≡ of_named (name_at e s i)
+      same_lines : all_lines x store ≡ of_named (name_at e s i)
       unfolding named_in
       same_lines = ap of_named is
 
-      then : Going whole at before out n (all_lines x s store ++ others)
+      then : Going whole at before out n (all_lines x store ++ others)
       then = going_as (names_more (name_at e s) store e.name_count i h ∙ ap (λ (l : List ℕ). l ++ others) (sym same_lines)) p.going
 
       same_span : x.first + span x.rows x.columns ≡ (name_at e s i).first + span (name_at e s i).rows (name_at e s i).columns
@@ -117,15 +117,19 @@ module _ (e : Layout) (s : List ℕ) (store : List ℤ) (at : ℕ) (before : Lis
       unfolding named_in
       same_size = ap (λ (v : Named). span v.rows v.columns) is
 
+      short : length x.text.now ≤ 8
+      unfolding named_in named_at
+      short = omega (arith, ap (λ (v : Named). length v.name) is, length-take 8 (drop (e.names + 20 * i) s))
+
       left : values (list_from (e.name_count - i) i (name_at e s))
           ≡ span x.rows x.columns + values (list_from (e.name_count - (i + 1)) (i + 1) (name_at e s))
       left = values_more (name_at e s) e.name_count i h ∙ ap (λ (w : ℕ). w + values (list_from (e.name_count - (i + 1)) (i + 1) (name_at e s))) (sym same_size)
 
-      pub names_room : AllInside e s store → at + 41 * values (object_at e s).names ≤ length before → Inside x s store × (n + 41 * span x.rows x.columns ≤ length out)
+      pub names_room : AllInside e s store → at + 41 * values (object_at e s).names ≤ length before → Inside x store × (n + 41 * span x.rows x.columns ≤ length out)
       names_room q r = (
-        record { text = omega (arith, t, q.placed.whole); cells = omega (arith, same_span, q.cells i h); most = q.most },
+        record { text = short; cells = omega (arith, same_span, q.cells i h); most = q.most },
         omega (arith, r, p.low, left, p.going.long),
       )
 
-      pub names_on : {out' : List ℕ} {n' : ℕ} → Puts (all_lines x s store) n out out' n' × (n' ≤ n + 41 * span x.rows x.columns) → Listing e s store at before out' n' (i + 1)
-      names_on q = record { most = omega arith; low = omega (arith, p.low, left, q.1); going = going_on (all_lines x s store) others then q.0 }
+      pub names_on : {out' : List ℕ} {n' : ℕ} → Puts (all_lines x store) n out out' n' × (n' ≤ n + 41 * span x.rows x.columns) → Listing e s store at before out' n' (i + 1)
+      names_on q = record { most = omega arith; low = omega (arith, p.low, left, q.1); going = going_on (all_lines x store) others then q.0 }

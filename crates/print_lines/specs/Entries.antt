@@ -1,25 +1,25 @@
 -- A name of body 7 as the code keeps it, and what must be so that its values can be read.
 -- Assumes nothing.
-use Rattle.std.specs.Prelude.{ℕ, ◌+◌, ◌*◌, ◌≤◌, ◌<◌, List, length, take, drop, ℤ}
+use Rattle.std.specs.Prelude.{ℕ, ◌+◌, ◌*◌, ◌≤◌, ◌<◌, List, length, ℤ}
 use Rattle.rules_object.specs.Object.{Named}
 use Rattle.rules_object.specs.Check.{span}
 use Rattle.object_contents.specs.declared.Layout.{Layout}
 use Rattle.object_contents.specs.Layout.{named_at, Placed}
 use Rattle.print_lines.specs.declared.Entry.{Entry}
 
--- the book's name, whose bytes stand in the object
-unfoldable pub named_in : Entry → List ℕ → Named
-named_in e s = record { name = take 8 (drop e.text s); first = e.first; rows = e.rows; columns = e.columns }
+-- the book's name
+unfoldable pub named_in : Entry → Named
+named_in e = record { name = e.text.now; first = e.first; rows = e.rows; columns = e.columns }
 
 -- its i-th value can be read
-pub record Reads (e : Entry) (i : ℕ) (s : List ℕ) (store : List ℤ) : Type 0 where
-  pub text : e.text + 8 ≤ length s
+pub record Reads (e : Entry) (i : ℕ) (store : List ℤ) : Type 0 where
+  pub text : length e.text.now ≤ 8
   pub cell : e.first + i < length store
   pub most : length store ≤ 4096
 
 -- each of its values can be read
-pub record Inside (e : Entry) (s : List ℕ) (store : List ℤ) : Type 0 where
-  pub text : e.text + 8 ≤ length s
+pub record Inside (e : Entry) (store : List ℤ) : Type 0 where
+  pub text : length e.text.now ≤ 8
   pub cells : e.first + span e.rows e.columns ≤ length store
   pub most : length store ≤ 4096
 

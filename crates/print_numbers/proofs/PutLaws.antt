@@ -1,12 +1,12 @@
 -- Texts written one after the other, byte by byte, and a numeral's digits.
 -- Assumes nothing.
-use Prim.Native.Nat.{ℕ, ◌+◌, ◌/◌, ◌%◌, ◌≤◌, ◌<◌}
+use Prim.Native.Nat.{ℕ, ◌+◌, ◌-◌, ◌/◌, ◌%◌, ◌≤◌, ◌<◌}
 use mathlib.Core.Path.{◌≡◌, refl, sym, ap, ◌∙◌, subst}
-use mathlib.Core.List.{List, [], ◌∷◌, ◌++◌}
+use mathlib.Core.List.{List, [], ◌∷◌, ◌++◌, append_assoc}
 use native.Mathlib.Omega.{arith}
-use native.Mathlib.Numerals.{add-one}
-use lib.ListN.{length, get_or, set, drop, length-append, length-set, length-drop}
-use lib.Seq.{length-sets, drop-cons}
+use borrow.Rule.Slice.PartMut.{put_mid}
+use lib.ListN.{take, length, set, drop, length-append}
+use lib.Seq.{sets-eq, drop-drop, length-sets}
 use Rattle.read_texts.specs.Taking.{over}
 use Rattle.read_texts.proofs.TextLaws.{over_none, over_more, over_append}
 use Rattle.rules_program.specs.Text.{numeral}
@@ -49,46 +49,19 @@ room_first a b r = record { fits = omega (arith, r.fits, length-append a b) }
 pub room_then : (a b : List ℕ) {at m : ℕ} {o o' : List ℕ} → Puts a at o o' m → Room (a ++ b) at o → Room b m o'
 room_then a b p r = record { fits = omega (arith, r.fits, length-append a b, p.end, puts_length a p) }
 
--- ---- a text byte by byte: i of them so far
+-- ---- a text at once
 
-pub record Copying (words : List ℕ) (at : ℕ) (before out : List ℕ) (i : ℕ) : Type 0 where
-  pub most : i ≤ length words
-  pub long : length out ≡ length before
-  pub same : over at words before ≡ over (at + i) (drop i words) out
-
-module _ (words : List ℕ) (at : ℕ) (before : List ℕ) where
-  pub copying_start : Copying words at before before 0
-  copying_start =
-      let z : at ≡ at + 0 = omega arith in
-      record { most = omega arith; long = refl; same = ap (λ (k : ℕ). over k words before) z }
-
-  module _ (out : List ℕ) (i : ℕ) (p : Copying words at before out i) where
-    pub copying_room : Room words at before → i < length words → at + i < length out
-    copying_room r h = omega (arith, r.fits, p.long)
-
-    pub copying_more : i < length words → Copying words at before (set out (at + i) (get_or words i 0)) (i + 1)
-    copying_more h =
-        let x : ℕ = get_or words i 0 in
-        let here : drop i words ≡ x ∷ drop (i + 1) words = drop-cons words i 0 h ∙ ap (λ (k : ℕ). x ∷ drop k words) (sym (add-one i)) in
-        let e : at + i + 1 ≡ at + (i + 1) = omega arith in
-        record {
-          most = omega arith;
-          long = length-set out (at + i) x ∙ p.long;
-          same =
-              p.same
-              ∙ ap (λ (l : List ℕ). over (at + i) l out) here
-              ∙ over_more (at + i) x (drop (i + 1) words) out
-              ∙ ap (λ (k : ℕ). over k (drop (i + 1) words) (set out (at + i) x)) e;
-        }
-
-    pub copying_end : length words ≤ i → Puts words at before out (at + i)
-    copying_end h =
-        let none : drop i words ≡ [] = nothing (drop i words) (omega (arith, length-drop i words)) in
-        record { end = omega (arith, p.most); put = sym (p.same ∙ ap (λ (l : List ℕ). over (at + i) l out) none ∙ over_none (at + i) out) }
-      where
-        nothing : (l : List ℕ) → length l ≡ 0 → l ≡ []
-        nothing [] e = refl
-        nothing (x ∷ l) e = absurd (omega arith)
+pub puts_at : (words : List ℕ) (at : ℕ) (o : List ℕ) → Room words at o → Puts words at o (put_mid at (at + length words - at) o words) (at + length words)
+unfolding over
+puts_at words at o r =
+    let same : at + (at + length words - at) ≡ at + length words = omega arith in
+    record {
+      end = refl;
+      put =
+          ap (λ (l : List ℕ). take at o ++ (words ++ l)) (drop-drop (at + length words - at) at o ∙ ap (λ (n : ℕ). drop n o) same)
+          ∙ sym (append_assoc (take at o) words (drop (at + length words) o))
+          ∙ sym (sets-eq words o at r.fits);
+    }
 
 -- ---- a numeral
 

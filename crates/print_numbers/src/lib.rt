@@ -1,7 +1,7 @@
 // Words, numerals, signed numbers and subscripts, written into a lent output from a place on. Each function answers the place after what it wrote.
 #![tactic(auto)]
 
-ghost use Rattle.std.specs.Prelude.{◌≡◌, ◌+◌, ◌%◌, ◌<◌};
+ghost use Rattle.std.specs.Prelude.{◌<◌};
 ghost use Rattle.rules_program.specs.Text.{numeral, signed, stated, subscripts};
 ghost use Rattle.print_numbers.specs.Puts.{Room, Puts};
 
@@ -9,18 +9,9 @@ pub fn put_words(out: &mut [u8], at: usize, words: &[u8]) -> usize
     requires { Room words.now at out.old }
     ensures { Puts words.now at out.old out.new result }
 {
-    let mut i = 0;
-    while i < words.len() {
-        out[at + i] = words[i];
-        i += 1;
-    }
-    at + i
-}
-
-fn digit(n: u64) -> u8
-    ensures { result ≡ 48 + n % 10 }
-{
-    48 + ((n % 10) as u8)
+    let end = at + words.len();
+    out[at..end].copy_from_slice(words);
+    end
 }
 
 // The digits before the last, then the last.
@@ -28,12 +19,13 @@ pub fn put_numeral(out: &mut [u8], at: usize, n: u64) -> usize
     requires { Room (numeral n) at out.old }
     ensures { Puts (numeral n) at out.old out.new result }
 {
+    let digit = b'0' + (n % 10) as u8;
     if n < 10 {
-        out[at] = digit(n);
+        out[at] = digit;
         return at + 1;
     }
     let end = put_numeral(out, at, n / 10);
-    out[end] = digit(n);
+    out[end] = digit;
     end + 1
 }
 
@@ -49,7 +41,7 @@ pub fn put_signed(out: &mut [u8], at: usize, v: i64) -> usize
     requires { Room (signed v) at out.old }
     ensures { Puts (signed v) at out.old out.new result }
 {
-    let size = number::size(v);
+    let size = v.unsigned_abs();
     if v < 0 {
         let end = put_words(out, at, b"-");
         return put_numeral(out, end, size);

@@ -10,7 +10,6 @@ ghost use Rattle.print_numbers.specs.Puts.{Puts};
 ghost use Rattle.print_run.specs.Printing.{most_printed, ran_text, Zero};
 
 use limits::{CELLS, STACK};
-use object_contents::Contents;
 use run_object::Ran;
 
 const ALLOWANCE: u32 = 1_000_000;
@@ -19,13 +18,13 @@ fn print_names(object: &[u8], store: &[i64], out: &mut [u8], at: usize) -> usize
     requires { TidyObject object.now × (length store.now ≡ 4096) × (at ≤ 49) × (most_printed ≤ length out.old) }
     ensures { Puts (name_lines (names_of (read_object object.now)) store.now) at out.old out.new result × (result ≤ most_printed) }
 {
-    let contents = object_contents::contents_of(object);
-    match contents {
-        Contents::Read(e) => print_lines::put_names(out, at, object, e, store),
-        Contents::Wrong => at,
+    match object_contents::contents_of(object) {
+        Some(e) => print_lines::put_names(out, at, object, e, store),
+        None => at,
     }
 }
 
+// A run's number is that of a refusal, or 0: as C has it.
 fn print_ran(object: &[u8], ran: Ran, store: &[i64], out: &mut [u8]) -> usize
     requires { TidyObject object.now × (length store.now ≡ 4096) × (most_printed ≤ length out.old) }
     ensures { Puts (ran_text object.now ran store.now) 0 out.old out.new result × (result ≤ most_printed) }
@@ -49,8 +48,6 @@ fn run_and_print(
     let mut index = 0;
     let mut height = 0;
     let mut mark = 0;
-    let no_cards = [0u8; 0];
-    let mut no_lines = [0u8; 0];
     let ran = run_object::run(
         object,
         store,
@@ -58,8 +55,8 @@ fn run_and_print(
         &mut height,
         &mut mark,
         places,
-        &no_cards,
-        &mut no_lines,
+        &[],
+        &mut [],
         ALLOWANCE,
     );
     print_ran(object, ran, store, out)

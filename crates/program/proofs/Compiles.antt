@@ -1,18 +1,23 @@
 -- What is printed of what compiling answered, by its number of refusal; what it writes is an object that can be printed; and what is printed of the whole input.
 -- Assumes nothing.
-use Prim.Native.Nat.{ℕ, zero, suc, ◌-◌, ◌<◌}
+use Prim.Native.Nat.{ℕ, zero, suc, ◌-◌, ◌≤◌, ◌<◌}
 use mathlib.Core.Path.{◌≡◌, refl, sym, ap, ◌∙◌, subst}
 use mathlib.Core.Bool.{Bool, true, false}
 use mathlib.Core.List.{List}
-use mathlib.Core.Option.{some}
+use mathlib.Core.Option.{none, some}
+use Rattle.std.specs.Prelude.{Ok, Err}
+use Rattle.refusals.specs.declared.Reason.{Reason}
+use Rattle.refusals.specs.declared.Reason.TheVariants as reason
+use Rattle.refusals.specs.declared.Refusal.{Refusal}
+use Rattle.refusals.specs.Numbers.{number_of}
 use native.Mathlib.Omega.{arith}
 use lib.Dec.{leb}
 use lib.ListN.{length, take, drop, length-append, length-drop, replicate}
 use lib.Seq.{take-append_seam, take_all}
 use Rattle.rules_shared.specs.House.{house1401}
 use Rattle.rules_object.specs.Bytes.{object_bytes}
-use Rattle.rules_shared.specs.Refusals.{no_room}
-use Rattle.rules_shared.specs.Output.{Written, written_if, write}
+use Rattle.rules_shared.specs.Refusals.{refusal, no_room}
+use Rattle.rules_shared.specs.Output.{Written, not_written, written_if, write}
 use Rattle.rules_deck.specs.Translation.{translate}
 use Rattle.rules_text.specs.Cards.{card_length}
 use Rattle.rules_deck.specs.Seen.{object_in}
@@ -20,21 +25,60 @@ use Rattle.rules_deck.specs.Compile.{Read, not_read, read, deck_of, write_read, 
 use Rattle.rules_deck.proofs.Houses.{lawful1401}
 use Rattle.rules_deck.proofs.RefusedDeck.{ReadNumbered, refused_numbered}
 use Rattle.rules_program.specs.Text.{refused_line}
-use Rattle.rules_program.specs.Program.{control_digits, printed_object, most_bytes, written_lines, compiled_lines, deck_lines, printed}
+use Rattle.rules_program.specs.Program.{control_digits, printed_object, most_bytes, compiled_lines, deck_lines, printed}
 use Rattle.rules_program.specs.Tidy.{TidyObject}
 use Rattle.rules_program.proofs.TidyDeck.{compiled_tidy}
-use Rattle.compiler.specs.declared.Compiled.{Compiled}
 use Rattle.compiler.specs.Compiled.{answer}
-use Rattle.print_control_card.specs.Digits.{digits_of}
-use Rattle.program.specs.Compiling.{written_as, Object}
 
-pub compiled_refused : (number place n : ℕ) (object : List ℕ) → (number ≡ 0 → ⊥) → compiled_lines (written_as number place n object) ≡ refused_line number place
-compiled_refused zero place n object h = absurd (h refl)
-compiled_refused (suc m) place n object h = refl
+-- an object stands there
+pub record Object (n : ℕ) (bytes : List ℕ) : Type 0 where
+  pub within : n ≤ length bytes
+  pub tidy : TidyObject (take n bytes)
 
-pub compiled_printed : (number place n : ℕ) (object : List ℕ) → number ≡ 0 → compiled_lines (written_as number place n object) ≡ printed_object (take n object)
+-- ---- what is printed of an answer
+
+no_zero : (q : Reason) → number_of q ≡ 0 → ⊥
+no_zero reason.Digits e = omega arith
+no_zero reason.DeckLength e = omega arith
+no_zero reason.Character e = omega arith
+no_zero reason.NumberColumns e = omega arith
+no_zero reason.Continuation e = omega arith
+no_zero reason.Empty e = omega arith
+no_zero reason.Statements e = omega arith
+no_zero reason.Form e = omega arith
+no_zero reason.Name e = omega arith
+no_zero reason.Constant e = omega arith
+no_zero reason.Number e = omega arith
+no_zero reason.Parentheses e = omega arith
+no_zero reason.Dimension e = omega arith
+no_zero reason.Element e = omega arith
+no_zero reason.Table e = omega arith
+no_zero reason.End e = omega arith
+no_zero reason.DefinedTwice e = omega arith
+no_zero reason.Undefined e = omega arith
+no_zero reason.Range e = omega arith
+no_zero reason.Jump e = omega arith
+no_zero reason.Variable e = omega arith
+no_zero reason.Room e = omega arith
+no_zero reason.Contents e = omega arith
+no_zero reason.Limits e = omega arith
+no_zero reason.Entry e = omega arith
+no_zero reason.Instruction e = omega arith
+no_zero reason.Heights e = omega arith
+no_zero reason.StoreLength e = omega arith
+no_zero reason.StoreNumber e = omega arith
+no_zero reason.State e = omega arith
+
+pub compiled_refused : (r : Refusal) (object : List ℕ) → compiled_lines (answer (Err r) object) ≡ refused_line (number_of r.reason) r.place
+compiled_refused r object = by (number_of r.reason) (no_zero r.reason)
+  where
+    by : (m : ℕ) → (m ≡ 0 → ⊥) → compiled_lines (not_written (refusal m r.place r.kind) object) ≡ refused_line m r.place
+    by zero h = absurd (h refl)
+    by (suc m) h = refl
+
+pub compiled_printed : (n : ℕ) (object : List ℕ) → compiled_lines (answer (Ok n) object) ≡ printed_object (take n object)
 unfolding object_in
-compiled_printed number place n object e = ap (λ (m : ℕ). written_lines (written_as m place n object) m) e
+compiled_printed n object = refl
 
 module _ (k : ℕ) (deck output : List ℕ) where
   object_from : (r : Read) → deck_of (house1401 k) deck ≡ r → (write_read (house1401 k) output r).refusal.number ≡ 0 → Object (write_read (house1401 k) output r).length (write_read (house1401 k) output r).output
@@ -61,22 +105,13 @@ module _ (k : ℕ) (deck output : List ℕ) where
 
 -- ---- the whole
 
-pub printed_refused : (input : List ℕ) (k : ℕ) → control_digits input ≡ digits_of k → k ≡ 0 → refused_line 1 0 ≡ printed input
+pub printed_refused : (input : List ℕ) → none ≡ control_digits input → refused_line 1 0 ≡ printed input
 unfolding printed
-printed_refused input k e z = sym (ap (deck_lines (drop card_length input)) (e ∙ ap digits_of z))
+printed_refused input e = ap (deck_lines (drop card_length input)) e
 
-pub printed_deck : (input : List ℕ) (k : ℕ) → control_digits input ≡ digits_of k → (k ≡ 0 → ⊥)
-    → compiled_lines (compiling (house1401 k) (drop card_length input) (replicate most_bytes 0)) ≡ printed input
+pub printed_deck : (input : List ℕ) (k : ℕ) → some k ≡ control_digits input
+    → compiled_lines (compiling (house1401 k) (take (length input - 80) (drop 80 input)) (replicate most_bytes 0)) ≡ printed input
 unfolding printed
-printed_deck input k e n = sym (ap (deck_lines (drop card_length input)) (e ∙ some_of k n))
-  where
-    some_of : (k : ℕ) → (k ≡ 0 → ⊥) → digits_of k ≡ some k
-    some_of zero n = absurd (n refl)
-    some_of (suc k) n = refl
-
-pub part_rest : (a : ℕ) (s : List ℕ) → take (length s - a) (drop a s) ≡ drop a s
-part_rest a s = take_all (length s - a) (drop a s) (omega (arith, length-drop a s))
-
--- the answer by its case
-pub as_written : (r x : Compiled) (object : List ℕ) (w : Written) → r ≡ x → answer r object ≡ w → answer x object ≡ w
-as_written r x object w q e = ap (λ (y : Compiled). answer y object) (sym q) ∙ e
+printed_deck input k e =
+    ap (λ (deck : List ℕ). compiled_lines (compiling (house1401 k) deck (replicate most_bytes 0))) (take_all (length input - 80) (drop 80 input) (omega (arith, length-drop 80 input)))
+    ∙ ap (deck_lines (drop card_length input)) e

@@ -7,20 +7,17 @@ use mathlib.Core.List.{List, [], ◌∷◌}
 use mathlib.Core.Logic.{◌⊎◌, inl, inr, ⊎_elim}
 use native.Mathlib.Omega.{arith}
 use native.Mathlib.Nat.{pow-suc, pow-le-pow_right, mul_assoc, mul_comm}
-use native.Mathlib.Numerals.{add-one}
 use lib.Dec.{T, leb, eqb}
-use lib.ListN.{length, get_or, take, drop, replicate, length-take, length-replicate, drop_of_length-le}
-use lib.Seq.{drop-cons, get_or-take, length-take-le, take-add, drop_at}
+use lib.ListN.{length, get_or, take, replicate, length-take, length-replicate}
 use borrow.Author.Tests.{le-leb, lt-leb, ne_eqb, leb-true}
 use Rattle.rules_object.specs.Check.{blanks, is_digit, character}
 use Rattle.rules_text.specs.Trees.{value_from, value_of}
-use Rattle.rules_text.specs.Cards.{number_columns, text_columns, comment, first_card, characters, all_digits, without_blanks, number_of, right_number}
+use Rattle.rules_text.specs.Cards.{number_columns, comment, first_card, characters, all_digits, without_blanks, number_of, right_number}
 use Rattle.rules_text.proofs.CardsLaws.{and_both}
 use Rattle.number.proofs.Table.{at}
-use Rattle.read_cards.specs.declared.Value.{Value}
-use Rattle.read_cards.specs.declared.Value.TheVariants as value
-use Rattle.read_cards.specs.declared.Columns.{Columns}
-use Rattle.read_cards.specs.declared.Columns.TheVariants as columns
+use Rattle.std.specs.Prelude.{Option, Some, None}
+use Rattle.std.specs.List.{list_all}
+use Rattle.read_cards.specs.declared.Number.{Number}
 use Rattle.read_cards.specs.Columns.{digits_of, punched_of}
 
 -- ---- one column
@@ -30,24 +27,6 @@ same_past : (l : List ℕ) (i d e : ℕ) → i < length l → get_or l i d ≡ g
 same_past [] i d e h = absurd (omega arith)
 same_past (x ∷ l) zero d e h = refl
 same_past (x ∷ l) (suc i) d e h = same_past l i d e (omega arith)
-
-pub column : (card : List ℕ) (n i : ℕ) → n ≤ length card → i < n → drop i (take n card) ≡ get_or card i 0 ∷ drop (i + 1) (take n card)
-column card n i l h =
-    let t : length (take n card) ≡ n = length-take-le n card l in
-    let d : i < length (take n card) = omega arith in
-    drop-cons (take n card) i 0 d
-    ∙ (ap (λ (x : ℕ). x ∷ drop (suc i) (take n card)) (get_or-take n card i 0 h) ∙ ap (λ (k : ℕ). get_or card i 0 ∷ drop k (take n card)) (sym (add-one i)))
-
-pub columns_end : (card : List ℕ) (n i : ℕ) → n ≤ i → drop i (take n card) ≡ []
-columns_end card n i h =
-    let l : length (take n card) ≤ i = omega (arith, length-take n card) in
-    drop_of_length-le (take n card) l
-
--- columns 7-72 are what is left of 1-72 after six
-pub text_from : (card : List ℕ) → length card ≡ 80 → text_columns card ≡ drop 6 (take 72 card)
-text_from card l =
-    let t : length (take 6 card) ≡ 6 = length-take-le 6 card (omega arith) in
-    sym (ap (drop 6) (take-add 6 66 card) ∙ drop_at (take 6 card) (take 66 (drop 6 card)) 6 t)
 
 pub comment_is : (card : List ℕ) → length card ≡ 80 → eqb (get_or card 0 0) 67 ≡ comment card
 unfolding comment
@@ -90,6 +69,10 @@ by_code c h =
     let l : length {A = ℕ} (replicate 256 0) ≡ 256 = length-replicate {A = ℕ} 256 0 in
     same_true (character c) (coded c) (at right (replicate 256 0) tt c (omega arith))
 
+pub characters_are : (s : List ℕ) → characters s ≡ list_all character s
+characters_are [] = refl
+characters_are (c ∷ s) = ap (λ (b : Bool). character c && b) (characters_are s)
+
 module _ (c : ℕ) (h : c < 256) where
   pub key : (c ≡ 32) ⊎ ((c ≡ 36) ⊎ (c ≡ 61)) → true ≡ character c
   unfolding character
@@ -127,100 +110,15 @@ module _ (c : ℕ) (h : c < 256) where
       go false x true false p q r s = refl
       go false x false z p q r s = refl
 
-module _ (card : List ℕ) (l : length card ≡ 80) (i : ℕ) where
-  pub characters_no : i < 72 → character (get_or card i 0) ≡ false → characters (drop i (take 72 card)) ≡ false
-  characters_no h n = ap characters (column card 72 i (omega arith) h) ∙ simp n
-
-  pub characters_more : i < 72 → character (get_or card i 0) ≡ true → characters (drop i (take 72 card)) ≡ characters (drop (i + 1) (take 72 card))
-  characters_more h n = ap characters (column card 72 i (omega arith) h) ∙ simp n
-
-  pub characters_end : 72 ≤ i → characters (drop i (take 72 card)) ≡ true
-  characters_end h = ap characters (columns_end card 72 i h)
-
-  pub blanks_no : i < 5 → (get_or card i 0 ≡ 32 → ⊥) → blanks (drop i (take 5 card)) ≡ false
-  blanks_no h n = ap blanks (column card 5 i (omega arith) h) ∙ simp (ne_eqb _ _ n)
-
-  pub blanks_more : i < 5 → get_or card i 0 ≡ 32 → blanks (drop i (take 5 card)) ≡ blanks (drop (i + 1) (take 5 card))
-  blanks_more h n = ap blanks (column card 5 i (omega arith) h) ∙ simp n
-
-  pub blanks_end : 5 ≤ i → blanks (drop i (take 5 card)) ≡ true
-  blanks_end h = ap blanks (columns_end card 5 i h)
-
 -- ---- the number of columns 1-5
 
 -- what columns give after v
-abbrev pub from : ℕ → List ℕ → Value
-from v s = cond (all_digits (without_blanks s)) (value.Of (value_from v (without_blanks s))) value.Wrong
-
-from_blank : (v c : ℕ) (s : List ℕ) → c ≡ 32 → from v (c ∷ s) ≡ from v s
-from_blank v c s e = simp e
-
-from_solid : (v c : ℕ) (s : List ℕ) → (c ≡ 32 → ⊥) → from v (c ∷ s) ≡ cond (is_digit c && all_digits (without_blanks s)) (value.Of (value_from (v * 10 + (c - 48)) (without_blanks s))) value.Wrong
-from_solid v c s n = simp (ne_eqb c 32 n)
-
-from_low : (v c : ℕ) (s : List ℕ) → (c ≡ 32 → ⊥) → c < 48 → from v (c ∷ s) ≡ value.Wrong
-from_low v c s n h = from_solid v c s n ∙ simp (lt-leb 48 c h)
-
-from_high : (v c : ℕ) (s : List ℕ) → (c ≡ 32 → ⊥) → 48 ≤ c → 57 < c → from v (c ∷ s) ≡ value.Wrong
-from_high v c s n g h = from_solid v c s n ∙ simp (le-leb 48 c g, lt-leb c 57 h)
-
-from_digit : (v c : ℕ) (s : List ℕ) → (c ≡ 32 → ⊥) → 48 ≤ c → c ≤ 57 → from v (c ∷ s) ≡ from (v * 10 + (c - 48)) s
-from_digit v c s n g h = from_solid v c s n ∙ simp (le-leb 48 c g, le-leb c 57 h)
+abbrev pub from : ℕ → List ℕ → Option ℕ
+from v s = cond (all_digits (without_blanks s)) (Some (value_from v (without_blanks s))) None
 
 pub from_start : (card : List ℕ) → digits_of card ≡ from 0 (take 5 card)
 unfolding digits_of number_of value_of
 from_start card = refl
-
-module _ (card : List ℕ) (l : length card ≡ 80) (v i : ℕ) (h : i < 5) where
-  abbrev here : ℕ
-  here = get_or card i 0
-
-  abbrev rest : List ℕ
-  rest = drop (i + 1) (take 5 card)
-
-  step : from v (drop i (take 5 card)) ≡ from v (here ∷ drop (i + 1) (take 5 card))
-  step = ap (from v) (column card 5 i (omega arith) h)
-
-  pub digits_blank : here ≡ 32 → from v (drop i (take 5 card)) ≡ from v (drop (i + 1) (take 5 card))
-  digits_blank e = step ∙ from_blank v here rest e
-
-  pub digits_low : (here ≡ 32 → ⊥) → here < 48 → from v (drop i (take 5 card)) ≡ value.Wrong
-  digits_low n a = step ∙ from_low v here rest n a
-
-  pub digits_high : (here ≡ 32 → ⊥) → 48 ≤ here → 57 < here → from v (drop i (take 5 card)) ≡ value.Wrong
-  digits_high n a b = step ∙ from_high v here rest n a b
-
-  pub digits_more : (here ≡ 32 → ⊥) → 48 ≤ here → here ≤ 57 → from v (drop i (take 5 card)) ≡ from (v * 10 + (here - 48)) (drop (i + 1) (take 5 card))
-  digits_more n a b = step ∙ from_digit v here rest n a b
-
-pub digits_end : (card : List ℕ) (v i : ℕ) → 5 ≤ i → from v (drop i (take 5 card)) ≡ value.Of v
-digits_end card v i h = ap (from v) (columns_end card 5 i h)
-
--- at most five digits
-pub small : (v i : ℕ) → v < 10 ^ i → i ≤ 4 → v < 10000
-small v i h l =
-    let p : 10 ^ i ≤ 10 ^ 4 = pow-le-pow_right (omega arith) l in
-    omega arith
-
-pub grown : (v d i : ℕ) → v < 10 ^ i → d ≤ 9 → v * 10 + d < 10 ^ (i + 1)
-grown v d i h l =
-    let e : 10 ^ (i + 1) ≡ 10 ^ i * 10 = ap (λ (k : ℕ). 10 ^ k) (add-one i) ∙ pow-suc 10 i in
-    omega arith
-
-pub same_power : (v i : ℕ) → v < 10 ^ i → v < 10 ^ (i + 1)
-same_power v i h =
-    let e : 10 ^ (i + 1) ≡ 10 ^ i * 10 = ap (λ (k : ℕ). 10 ^ k) (add-one i) ∙ pow-suc 10 i in
-    omega arith
-
--- one turn over a digit
-pub digits_turn : (card : List ℕ) (l : length card ≡ 80) (v i w : ℕ) → i < 5 → (get_or card i 0 ≡ 32 → ⊥) → 48 ≤ get_or card i 0 → get_or card i 0 ≤ 57 → v < 10 ^ i → w ≡ v * 10 + (get_or card i 0 - 48) → (w < 10 ^ (i + 1)) × (from v (drop i (take 5 card)) ≡ from w (drop (i + 1) (take 5 card)))
-digits_turn card l v i w h n a b s e =
-    let d : get_or card i 0 - 48 ≤ 9 = omega arith in
-    (omega (arith, grown v (get_or card i 0 - 48) i s d), digits_more card l v i h n a b ∙ ap (λ (x : ℕ). from x (drop (i + 1) (take 5 card))) (sym e))
-
--- one over a blank
-pub blank_turn : (card : List ℕ) (l : length card ≡ 80) (v i w : ℕ) → i < 5 → get_or card i 0 ≡ 32 → v < 10 ^ i → w ≡ v → (w < 10 ^ (i + 1)) × (from v (drop i (take 5 card)) ≡ from w (drop (i + 1) (take 5 card)))
-blank_turn card l v i w h n s e = (omega (arith, same_power v i s), digits_blank card l v i h n ∙ ap (λ (x : ℕ). from x (drop (i + 1) (take 5 card))) (sym e))
 
 no_digits : (s : List ℕ) → blanks s ≡ true → without_blanks s ≡ []
 no_digits [] e = refl
@@ -255,42 +153,42 @@ five card e =
     omega (arith, below s 0 1 e (omega arith))
 
 module _ (card : List ℕ) where
-  pub punched_blank : blanks (number_columns card) ≡ true → columns.Punched (record { 0 = 0 }) ≡ punched_of card
+  pub punched_blank : blanks (number_columns card) ≡ true → Some (record { 0 = 0 }) ≡ punched_of card
   unfolding punched_of right_number number_of value_of
   punched_blank e = sym (simp (e, no_digits (number_columns card) e))
 
-  told : Bool → Columns
-  told b = cond (b && (leb 1 (number_of card) && leb (number_of card) 99999)) (columns.Punched (record { 0 = number_of card })) columns.Wrong
+  told : Bool → Option Number
+  told b = cond (b && (leb 1 (number_of card) && leb (number_of card) 99999)) (Some (record { 0 = number_of card })) None
 
   not_blank : blanks (number_columns card) ≡ false → punched_of card ≡ told (all_digits (without_blanks (number_columns card)))
   unfolding told punched_of right_number
   not_blank e = simp e
 
-  pub punched_wrong : blanks (number_columns card) ≡ false → digits_of card ≡ value.Wrong → columns.Wrong ≡ punched_of card
+  pub punched_wrong : blanks (number_columns card) ≡ false → digits_of card ≡ None → None ≡ punched_of card
   unfolding told digits_of
   punched_wrong e w = sym (not_blank e ∙ go (all_digits (without_blanks (number_columns card))) w)
     where
-      go : (b : Bool) → cond b (value.Of (number_of card)) value.Wrong ≡ value.Wrong → told b ≡ columns.Wrong
+      go : (b : Bool) → cond b (Some (number_of card)) None ≡ None → told b ≡ None
       go true h = cc
       go false h = refl
 
   -- the value is the number
-  pub value_is : (v : ℕ) → digits_of card ≡ value.Of v → (all_digits (without_blanks (number_columns card)) ≡ true) × (number_of card ≡ v)
+  pub value_is : (v : ℕ) → digits_of card ≡ Some v → (all_digits (without_blanks (number_columns card)) ≡ true) × (number_of card ≡ v)
   unfolding digits_of
   value_is v w = go (all_digits (without_blanks (number_columns card))) w
     where
-      go : (b : Bool) → cond b (value.Of (number_of card)) value.Wrong ≡ value.Of v → (b ≡ true) × (number_of card ≡ v)
+      go : (b : Bool) → cond b (Some (number_of card)) None ≡ Some v → (b ≡ true) × (number_of card ≡ v)
       go true h = (refl, cc)
       go false h = (cc, cc)
 
-  pub punched_zero : (v : ℕ) → blanks (number_columns card) ≡ false → digits_of card ≡ value.Of v → v < 1 → columns.Wrong ≡ punched_of card
+  pub punched_zero : (v : ℕ) → blanks (number_columns card) ≡ false → digits_of card ≡ Some v → v < 1 → None ≡ punched_of card
   unfolding told
   punched_zero v e w z =
       let i = value_is v w in
       let n : number_of card < 1 = omega arith in
       sym (not_blank e ∙ simp (i.0, lt-leb _ _ n))
 
-  pub punched_number : (v : ℕ) → blanks (number_columns card) ≡ false → digits_of card ≡ value.Of v → 1 ≤ v → columns.Punched (record { 0 = v }) ≡ punched_of card
+  pub punched_number : (v : ℕ) → blanks (number_columns card) ≡ false → digits_of card ≡ Some v → 1 ≤ v → Some (record { 0 = v }) ≡ punched_of card
   unfolding told
   punched_number v e w o =
       let i = value_is v w in

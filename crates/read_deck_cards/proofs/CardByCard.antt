@@ -1,90 +1,68 @@
 -- The laws of going through a deck card by card.
 -- Assumes nothing.
-use Prim.Native.Nat.{ℕ, suc, ◌+◌, ◌-◌, ◌/◌, ◌≤◌, ◌<◌}
+use Prim.Native.Nat.{ℕ, suc, ◌+◌, ◌-◌, ◌≤◌, ◌<◌}
 use mathlib.Core.Path.{◌≡◌, refl, sym, ap, ◌∙◌}
 use mathlib.Core.Bool.{Bool, true, false, cond}
 use mathlib.Core.List.{List, [], ◌∷◌}
 use native.Mathlib.Omega.{arith}
 use lib.Dec.{eqb}
-use lib.ListN.{length, drop, length-append}
+use native.Mathlib.Numerals.{add-one}
+use lib.ListN.{length, get_or, drop, length-append, drop_of_length-le}
+use lib.Seq.{drop-cons}
+use Rattle.std.specs.Prelude.{Some, None, Ok, Err}
+use Rattle.std.specs.Option.{is_some}
+use Rattle.refusals.specs.declared.Reason.{Reason}
+use Rattle.refusals.specs.declared.Reason.TheVariants.{Character, NumberColumns, Continuation}
+use Rattle.refusals.specs.Numbers.{number_of}
 use borrow.Author.Tests.{ne_eqb}
 use Rattle.rules_shared.specs.House.{house1401}
 use Rattle.rules_object.specs.Check.{blanks}
-use Rattle.rules_text.specs.Cards.{cards_of, columns_read, number_columns, text_columns, comment, first_card, characters, Punched, right_number, Reading, nothing_read, wrong_first, wrong_continuation, wrong_card, started, extended, continued, after_card, cards_refused, card_by_card}
-use Rattle.rules_text.proofs.CardsLaws.{Stands, as_comment, as_first, as_continuation, stands}
-use Rattle.read_cards.specs.declared.Columns.TheVariants as columns
+use Rattle.rules_text.specs.Cards.{columns_read, number_columns, text_columns, comment, first_card, characters, Punched, right_number, Reading, nothing_read, wrong_card, started, extended, continued, after_card, cards_refused, card_by_card}
 use Rattle.read_cards.specs.declared.Number.{Number}
-use Rattle.read_cards.specs.Columns.{punched_of, CardAt}
-use Rattle.read_cards.proofs.DeckLaws.{cards_end}
-use Rattle.read_deck_cards.specs.declared.Judged.TheVariants.{Refused, Statements}
+use Rattle.read_cards.specs.Columns.{punched_of}
 use Rattle.read_deck_cards.specs.declared.Begun.{Begun}
-use Rattle.read_deck_cards.specs.Judging.{judged_of, begun_of, after_of}
+use Rattle.read_deck_cards.specs.Judging.{Judges, begun_of, after_of, After}
 
--- ---- what a card is refused by
+-- ---- one card
 
-module _ (card : List ℕ) where
-  pub first_wrong_lem : punched_of card ≡ columns.Wrong → 4 ≡ wrong_first card
-  unfolding punched_of
-  first_wrong_lem h = go (right_number card) _ h
-    where
-      go : (b : Bool) (n : Number) → cond b (columns.Punched n) columns.Wrong ≡ columns.Wrong → ◌≡◌ {A = ℕ} 4 (cond b 0 4)
-      go true n h = cc
-      go false n h = refl
+module _ (k : ℕ) (b : Begun) (card : List ℕ) where
+  pub after_comment : comment card ≡ true → After (house1401 k) b card (Ok (record { place = b.place + 1; statements = b.statements; room = b.room }))
+  unfolding wrong_card after_of
+  after_comment c = (simp c, simp c)
 
-  pub first_right : (n : Number) → punched_of card ≡ columns.Punched n → 0 ≡ wrong_first card
-  unfolding punched_of
-  first_right n h = go (right_number card) _ h
-    where
-      go : (b : Bool) (m : Number) → cond b (columns.Punched m) columns.Wrong ≡ columns.Punched n → ◌≡◌ {A = ℕ} 0 (cond b 0 4)
-      go true m h = refl
-      go false m h = cc
-
-  pub continuation_wrong : (room : ℕ) → blanks (number_columns card) ≡ false → 4 ≡ wrong_continuation room card
-  continuation_wrong room h = sym (simp h)
-
-  pub continuation_none : (room : ℕ) → blanks (number_columns card) ≡ true → room ≡ 0 → 5 ≡ wrong_continuation room card
-  continuation_none room h z = sym (simp (h, z))
-
-  pub continuation_right : (room : ℕ) → blanks (number_columns card) ≡ true → (room ≡ 0 → ⊥) → 0 ≡ wrong_continuation room card
-  continuation_right room h z = sym (simp (h, ne_eqb room 0 z))
-
-  pub wrong_comment : (room : ℕ) → comment card ≡ true → 0 ≡ wrong_card room card
+  pub no_characters : comment card ≡ false → characters (columns_read card) ≡ false → After (house1401 k) b card (Err Character)
   unfolding wrong_card
-  wrong_comment room c = sym (simp c)
+  no_characters c a = (simp (c, a), λ h. cc)
 
-  pub wrong_characters_lem : (room : ℕ) → comment card ≡ false → characters (columns_read card) ≡ false → 3 ≡ wrong_card room card
-  unfolding wrong_card
-  wrong_characters_lem room c a = sym (simp (c, a))
+  module _ (c : comment card ≡ false) (a : characters (columns_read card) ≡ true) where
+    pub no_first : first_card card ≡ true → is_some (punched_of card) ≡ false → After (house1401 k) b card (Err NumberColumns)
+    unfolding wrong_card punched_of
+    no_first f n = (simp (c, a, f) (go (right_number card) _ n), λ h. cc)
+      where
+        go : (r : Bool) (m : Number) → is_some (cond r (Some m) None) ≡ false → ◌≡◌ {A = ℕ} (cond r 0 4) 4
+        go true m n = cc
+        go false m n = refl
 
-  pub wrong_as_first : (room : ℕ) → comment card ≡ false → characters (columns_read card) ≡ true → first_card card ≡ true → wrong_first card ≡ wrong_card room card
-  unfolding wrong_card
-  wrong_as_first room c a f = sym (simp (c, a, f))
+    pub after_first : first_card card ≡ true → is_some (punched_of card) ≡ true → After (house1401 k) b card (Ok (record { place = b.place + 1; statements = b.statements + 1; room = 9 }))
+    unfolding wrong_card punched_of after_of
+    after_first f n = (simp (c, a, f) (go (right_number card) _ n), simp (c, f))
+      where
+        go : (r : Bool) (m : Number) → is_some (cond r (Some m) None) ≡ true → ◌≡◌ {A = ℕ} (cond r 0 4) 0
+        go true m n = refl
+        go false m n = cc
 
-  pub wrong_as_continuation : (room : ℕ) → comment card ≡ false → characters (columns_read card) ≡ true → first_card card ≡ false → wrong_continuation room card ≡ wrong_card room card
-  unfolding wrong_card
-  wrong_as_continuation room c a f = sym (simp (c, a, f))
+    module _ (f : first_card card ≡ false) where
+      pub no_blanks : blanks (number_columns card) ≡ false → After (house1401 k) b card (Err NumberColumns)
+      unfolding wrong_card
+      no_blanks n = (simp (c, a, f, n), λ h. cc)
 
-  -- ---- what is read after it
+      pub no_room : blanks (number_columns card) ≡ true → b.room ≡ 0 → After (house1401 k) b card (Err Continuation)
+      unfolding wrong_card
+      no_room n z = (simp (c, a, f, n, z), λ h. cc)
 
-  pub after_comment : (k : ℕ) (b : Begun) → comment card ≡ true → record { place = b.place + 1; statements = b.statements; room = b.room } ≡ after_of (house1401 k) b card
-  unfolding after_of
-  after_comment k b c = sym (simp c)
-
-  pub after_first : (k : ℕ) (b : Begun) → comment card ≡ false → first_card card ≡ true → record { place = b.place + 1; statements = b.statements + 1; room = 9 } ≡ after_of (house1401 k) b card
-  unfolding after_of
-  after_first k b c f = sym (simp (c, f))
-
-  pub after_continuation : (k : ℕ) (b : Begun) → comment card ≡ false → first_card card ≡ false → record { place = b.place + 1; statements = b.statements; room = b.room - 1 } ≡ after_of (house1401 k) b card
-  unfolding after_of
-  after_continuation k b c f = sym (simp (c, f))
-
-  pub has_room : (room : ℕ) → wrong_card room card ≡ 0 → comment card ≡ false → first_card card ≡ false → 1 ≤ room
-  has_room room w c f = go (stands room card w)
-    where
-      go : Stands room card → 1 ≤ room
-      go (as_comment d) = let z : ◌≡◌ {A = ℕ} 0 1 = cc in omega arith
-      go (as_first d g a n) = let z : ◌≡◌ {A = ℕ} 0 1 = cc in omega arith
-      go (as_continuation d g a b r) = omega arith
+      pub after_continuation : blanks (number_columns card) ≡ true → (b.room ≡ 0 → ⊥) → After (house1401 k) b card (Ok (record { place = b.place + 1; statements = b.statements; room = b.room - 1 }))
+      unfolding wrong_card after_of
+      after_continuation n z = (simp (c, a, f, n, ne_eqb b.room 0 z), simp (c, f))
 
 length_extended : (ps : List Punched) (t : List ℕ) → length (extended ps t) ≡ length ps
 length_extended [] t = refl
@@ -116,50 +94,51 @@ one_more k b card =
 -- ---- the loop
 
 -- the cards before i are read and none is refused
-pub record Going (k : ℕ) (deck : List ℕ) (b : Begun) (i : ℕ) : Type 0 where
+pub record Going (k : ℕ) (cards : List (List ℕ)) (b : Begun) (i : ℕ) : Type 0 where
   pub reading : Reading
-  pub same : card_by_card (house1401 k) 1 nothing_read (cards_of deck) ≡ card_by_card (house1401 k) b.place reading (drop i (cards_of deck))
+  pub same : card_by_card (house1401 k) 1 nothing_read cards ≡ card_by_card (house1401 k) b.place reading (drop i cards)
   pub told : begun_of b.place reading ≡ b
   pub placed : b.place ≡ i + 1
   pub few : b.statements ≤ i
-  pub within : i ≤ length deck / 80
 
-pub going_start : (k : ℕ) (deck : List ℕ) → Going k deck (record { place = 1; statements = 0; room = 0 }) 0
-going_start k deck = record { reading = nothing_read; same = refl; told = refl; placed = omega arith; few = omega arith; within = omega arith }
+pub going_start : (k : ℕ) (cards : List (List ℕ)) → Going k cards (record { place = 1; statements = 0; room = 0 }) 0
+going_start k cards = record { reading = nothing_read; same = refl; told = refl; placed = omega arith; few = omega arith }
 
-module _ (k : ℕ) (deck card : List ℕ) (b : Begun) (i : ℕ) (g : Going k deck b i) (a : CardAt deck i card) where
-  abbrev rest : List (List ℕ)
-  rest = drop (i + 1) (cards_of deck)
+module _ (k : ℕ) (cards : List (List ℕ)) (b : Begun) (i : ℕ) (g : Going k cards b i) where
+  module _ (h : i < length cards) where
+    abbrev card : List ℕ
+    card = get_or cards i []
 
-  room_is : g.reading.room ≡ b.room
-  room_is = ap (λ (x : Begun). x.room) g.told
+    abbrev rest : List (List ℕ)
+    rest = drop (i + 1) cards
 
-  step : card_by_card (house1401 k) 1 nothing_read (cards_of deck) ≡ cond (eqb (wrong_card b.room card) 0) (card_by_card (house1401 k) (suc b.place) (after_card (house1401 k) g.reading card) rest) (cards_refused (wrong_card b.room card) b.place)
-  step =
-      g.same ∙ ap (card_by_card (house1401 k) b.place g.reading) a.here
-      ∙ ap (λ (n : ℕ). cond (eqb (wrong_card n card) 0) (card_by_card (house1401 k) (suc b.place) (after_card (house1401 k) g.reading card) rest) (cards_refused (wrong_card n card) b.place)) room_is
+    at_card : drop i cards ≡ card ∷ rest
+    at_card = drop-cons cards i [] h ∙ ap (λ (n : ℕ). card ∷ drop n cards) (sym (add-one i))
 
-  pub going_refused : (n : ℕ) → n ≡ wrong_card b.room card → (n ≡ 0 → ⊥) → Refused n b.place ≡ judged_of (card_by_card (house1401 k) 1 nothing_read (cards_of deck))
-  unfolding judged_of
-  going_refused n e z =
-      let r : card_by_card (house1401 k) 1 nothing_read (cards_of deck) ≡ cards_refused n b.place = step ∙ simp (sym e, ne_eqb n 0 z) in
-      sym (ap judged_of r)
+    step : card_by_card (house1401 k) 1 nothing_read cards ≡ cond (eqb (wrong_card b.room card) 0) (card_by_card (house1401 k) (suc b.place) (after_card (house1401 k) g.reading card) rest) (cards_refused (wrong_card b.room card) b.place)
+    step =
+        g.same ∙ ap (card_by_card (house1401 k) b.place g.reading) at_card
+        ∙ ap (λ (n : ℕ). cond (eqb (wrong_card n card) 0) (card_by_card (house1401 k) (suc b.place) (after_card (house1401 k) g.reading card) rest) (cards_refused (wrong_card n card) b.place)) (ap (λ (x : Begun). x.room) g.told)
 
-  pub going_on : (i < length deck / 80) → wrong_card b.room card ≡ 0 → Going k deck (after_of (house1401 k) b card) (i + 1)
-  going_on h e =
-      let m = one_more k b card in
-      let s : suc b.place ≡ (after_of (house1401 k) b card).place = omega arith in
-      let r : card_by_card (house1401 k) 1 nothing_read (cards_of deck) ≡ card_by_card (house1401 k) (suc b.place) (after_card (house1401 k) g.reading card) rest = step ∙ simp e in
-      record {
-        reading = after_card (house1401 k) g.reading card;
-        same = r ∙ ap (λ (n : ℕ). card_by_card (house1401 k) n (after_card (house1401 k) g.reading card) rest) s;
-        told = ap (λ (n : ℕ). begun_of n (after_card (house1401 k) g.reading card)) m.0 ∙ after_is k b.place g.reading card ∙ ap (λ (x : Begun). after_of (house1401 k) x card) g.told;
-        placed = omega (arith, g.placed);
-        few = omega (arith, g.few);
-        within = omega arith;
-      }
+    pub going_refused : (reason : Reason) → After (house1401 k) b card (Err reason) → Judges (card_by_card (house1401 k) 1 nothing_read cards) (Err (record { reason = reason; place = b.place; kind = 0 }))
+    going_refused reason e = (step ∙ simp (e.0, ne_eqb (number_of reason) 0 e.1), refl)
 
-pub going_end : (k : ℕ) (deck : List ℕ) (b : Begun) (i : ℕ) → Going k deck b i → length deck / 80 ≤ i → Statements (record { 0 = b.statements }) ≡ judged_of (card_by_card (house1401 k) 1 nothing_read (cards_of deck))
-unfolding judged_of
-going_end k deck b i g h =
-    sym (ap judged_of (g.same ∙ ap (card_by_card (house1401 k) b.place g.reading) (cards_end deck i h)) ∙ ap (λ (x : Begun). Statements (record { 0 = x.statements })) g.told)
+    pub going_on : (after : Begun) → After (house1401 k) b card (Ok after) → Going k cards after (i + 1)
+    going_on after e =
+        let m = one_more k b card in
+        let p = ap (λ (x : Begun). x.place) e.1 in
+        let q = ap (λ (x : Begun). x.statements) e.1 in
+        let s : suc b.place ≡ after.place = omega arith in
+        let z = e.0 in
+        let r : card_by_card (house1401 k) 1 nothing_read cards ≡ card_by_card (house1401 k) (suc b.place) (after_card (house1401 k) g.reading card) rest = step ∙ simp z in
+        record {
+          reading = after_card (house1401 k) g.reading card;
+          same = r ∙ ap (λ (n : ℕ). card_by_card (house1401 k) n (after_card (house1401 k) g.reading card) rest) s;
+          told = ap (λ (n : ℕ). begun_of n (after_card (house1401 k) g.reading card)) (p ∙ m.0) ∙ after_is k b.place g.reading card ∙ ap (λ (x : Begun). after_of (house1401 k) x card) g.told ∙ sym e.1;
+          placed = omega (arith, g.placed);
+          few = omega (arith, g.few);
+        }
+
+  pub going_end : length cards ≤ i → Judges (card_by_card (house1401 k) 1 nothing_read cards) (Ok (record { 0 = b.statements }))
+  going_end h =
+      (g.reading.begun, g.same ∙ ap (card_by_card (house1401 k) b.place g.reading) (drop_of_length-le cards h), sym (ap (λ (x : Begun). x.statements) g.told))

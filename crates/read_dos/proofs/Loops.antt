@@ -12,6 +12,7 @@ use Rattle.rules_text.specs.Trees.{Name, Digits, value_of, Expr, con, var, level
 use Rattle.rules_text.specs.Tokens.{comma, equals, word_do, Found, bad, give, ahead, and_then, after, all_of, whole, number, name, plus_sign, give_if}
 use Rattle.rules_text.specs.Grammar.{parameter, do_loop, read_do, parse, an_expression, expression, is_parameter}
 use Rattle.rules_text.proofs.ReadForms.{clash}
+use Rattle.std.proofs.Common.{Option as Maybe, Some, None}
 use Rattle.read_cards.specs.declared.Number.{Number}
 use Rattle.read_tokens.specs.declared.Name as code
 use Rattle.read_tokens.specs.declared.Sizes.{Sizes}
@@ -21,7 +22,7 @@ use Rattle.read_tokens.specs.Reading.{constant_size, name_size}
 use Rattle.read_tokens.specs.Reading as reading
 use Rattle.read_tokens.proofs.Measured.{sizes_join}
 use Rattle.read_tokens.proofs.Tokens.{after_none, inside, word_none, word_fits}
-use Rattle.read_tokens.proofs.Chains.{Upto, give_upto, byte_yes, byte_no, upto_as, then_upto, then_bad, then_none, Shape, Took, accept, refuse, Leads, then_leads, after_leads, word_leads, leads_more, leads_as, leads_bad, leads_upto, whole_some, whole_short, whole_bad}
+use Rattle.read_tokens.proofs.Chains.{Upto, give_upto, byte_yes, byte_no, upto_as, then_upto, then_bad, then_none, Took, accept, refuse, Leads, then_leads, after_leads, word_leads, leads_more, leads_as, leads_bad, leads_upto, whole_some, whole_short, whole_bad}
 use Rattle.read_items.specs.Items.{op_item, flat, expr_sizes}
 use Rattle.read_forms.specs.declared.Parameter.{Parameter}
 use Rattle.read_forms.specs.declared.Parameter.TheVariants.{Constant, Variable}
@@ -29,12 +30,7 @@ use Rattle.read_forms.specs.declared.Statement.{Statement}
 use Rattle.read_forms.specs.declared.Statement.TheVariants as statement
 use Rattle.read_forms.specs.Statements.{as_number, parameter_value, form_sizes, statement_of, answer}
 use Rattle.read_forms.proofs.Forms.{here, TookExpr, expr_within, expr_upto, expr_count, expr_table, expr_refused}
-use Rattle.read_dos.specs.declared.GotParameter.TheVariants.{Read, Bad}
 use Rattle.read_dos.specs.Parameters.{no_weight, ReadsParameter, by_of, parameters_of, EndsBy, EndsDo}
-
-pub parameter_shape : Shape Read Bad
-parameter_shape =
-    record { place = λ e. cc; value = λ e. cc; sizes = λ e. cc; apart = λ e. let z : ◌≡◌ {A = ℕ} 0 1 = cc in omega arith }
 
 abbrev TookNumber : List ℕ → ℕ → ℕ → ℕ → Sizes → Type 0
 TookNumber s from at w z = Took capped constant_size reading.two s from (number (drop from s)) at w z
@@ -118,7 +114,7 @@ one_is (par e) i = absurd (clash i)
 one_is (bin o a b) i = absurd (clash i)
 
 module _ (s : List ℕ) (from : ℕ) (le : from ≤ length s) where
-  pub parameter_plus : get_or s from 0 ≡ plus_sign → ReadsParameter s from (parameter (drop from s)) Bad
+  pub parameter_plus : get_or s from 0 ≡ plus_sign → ReadsParameter s from (parameter (drop from s)) None
   unfolding parameter
   parameter_plus p = refuse (byte_yes s from plus_sign _ _ (omega arith) p) le refl
 
@@ -127,7 +123,7 @@ module _ (s : List ℕ) (from : ℕ) (le : from ≤ length s) where
     unfolding parameter
     unsigned = byte_no s from plus_sign _ _ (omega arith) ne
 
-    pub parameter_none : parse an_expression (drop from s) ≡ bad → ReadsParameter s from (parameter (drop from s)) Bad
+    pub parameter_none : parse an_expression (drop from s) ≡ bad → ReadsParameter s from (parameter (drop from s)) None
     parameter_none e = refuse (unsigned ∙ then_bad s from expression _ (expr_refused s from e)) le refl
 
     module _ {a b : List ℕ} {k n : ℕ} {z : Sizes} (t : TookExpr s from a b k n z) where
@@ -138,18 +134,18 @@ module _ (s : List ℕ) (from : ℕ) (le : from ≤ length s) where
       unfolding expr_sizes sizes_of
       levels_are = ap (λ (x : Sizes). x.levels) t.sizes_is
 
-      not_one : is_parameter t.tree ≡ false → ReadsParameter s from (parameter (drop from s)) Bad
+      not_one : is_parameter t.tree ≡ false → ReadsParameter s from (parameter (drop from s)) None
       unfolding give_if
       not_one i = refuse (unsigned ∙ then_none s from expression _ (expr_upto s from le t (from + k) refl) (ap (λ (x : Bool). give_if x t.tree (drop (from + k) s)) i)) le refl
 
-      other : (b : Bool) → is_parameter t.tree ≡ b → (b ≡ true → ⊥) → ReadsParameter s from (parameter (drop from s)) Bad
+      other : (b : Bool) → is_parameter t.tree ≡ b → (b ≡ true → ⊥) → ReadsParameter s from (parameter (drop from s)) None
       other true i f = absurd (f refl)
       other false i f = not_one i
 
-      pub parameter_deep : (z.levels ≡ 0 → ⊥) → ReadsParameter s from (parameter (drop from s)) Bad
+      pub parameter_deep : (z.levels ≡ 0 → ⊥) → ReadsParameter s from (parameter (drop from s)) None
       parameter_deep f = other (is_parameter t.tree) refl (λ i. f (levels_are ∙ one_is t.tree i))
 
-      one_read : {w : Parameter} → is_parameter t.tree ≡ true → w ≡ parameter_value t.tree → ReadsParameter s from (parameter (drop from s)) (Read (from + k) w z)
+      one_read : {w : Parameter} → is_parameter t.tree ≡ true → w ≡ parameter_value t.tree → ReadsParameter s from (parameter (drop from s)) (Some (record { at = from + k; value = w; sizes = z }))
       unfolding give_if no_weight
       one_read i e =
           let given : Upto s (from + k) (give_if (is_parameter t.tree) t.tree (drop (from + k) s)) (from + k) t.tree =
@@ -163,33 +159,33 @@ module _ (s : List ℕ) (from : ℕ) (le : from ≤ length s) where
       shows : z.levels ≡ 0 → Shown b t.tree
       shows d = shown t.tree b (sym levels_are ∙ d) (expr_table s from le t)
 
-      pub parameter_constant : z.levels ≡ 0 → n ≡ 2 → ReadsParameter s from (parameter (drop from s)) (Read (from + k) (Constant (get_or b 1 0)) z)
+      pub parameter_constant : z.levels ≡ 0 → n ≡ 2 → ReadsParameter s from (parameter (drop from s)) (Some (record { at = from + k; value = Constant (get_or b 1 0); sizes = z }))
       parameter_constant d e = go (shows d)
         where
-          go : Shown b t.tree → ReadsParameter s from (parameter (drop from s)) (Read (from + k) (Constant (get_or b 1 0)) z)
+          go : Shown b t.tree → ReadsParameter s from (parameter (drop from s)) (Some (record { at = from + k; value = Constant (get_or b 1 0); sizes = z }))
           go (constant i l v) = one_read i v
           go (variable i l h v) = absurd (omega (arith, l, long, e))
           go (neither i l h) = absurd (l (sym long ∙ e))
 
-      pub parameter_other : z.levels ≡ 0 → (n ≡ 2 → ⊥) → (n ≡ 5 → get_or b 0 0 ≡ 2 → ⊥) → ReadsParameter s from (parameter (drop from s)) Bad
+      pub parameter_other : z.levels ≡ 0 → (n ≡ 2 → ⊥) → (n ≡ 5 → get_or b 0 0 ≡ 2 → ⊥) → ReadsParameter s from (parameter (drop from s)) None
       parameter_other d e f = go (shows d)
         where
-          go : Shown b t.tree → ReadsParameter s from (parameter (drop from s)) Bad
+          go : Shown b t.tree → ReadsParameter s from (parameter (drop from s)) None
           go (constant i l v) = absurd (e (long ∙ l))
           go (variable i l h v) = absurd (f (long ∙ l) h)
           go (neither i l h) = not_one i
 
-      pub parameter_variable : z.levels ≡ 0 → n ≡ 5 → get_or b 0 0 ≡ 2 → ReadsParameter s from (parameter (drop from s)) (Read (from + k) (Variable (name_at b 1)) z)
+      pub parameter_variable : z.levels ≡ 0 → n ≡ 5 → get_or b 0 0 ≡ 2 → ReadsParameter s from (parameter (drop from s)) (Some (record { at = from + k; value = Variable (name_at b 1); sizes = z }))
       parameter_variable d e f = go (shows d)
         where
-          go : Shown b t.tree → ReadsParameter s from (parameter (drop from s)) (Read (from + k) (Variable (name_at b 1)) z)
+          go : Shown b t.tree → ReadsParameter s from (parameter (drop from s)) (Some (record { at = from + k; value = Variable (name_at b 1); sizes = z }))
           go (constant i l v) = absurd (omega (arith, l, long, e))
           go (variable i l h v) = one_read i v
           go (neither i l h) = absurd (h (sym long ∙ e) f)
 
 -- ---- the end of a DO
 
-bad_is : {o : Found Form} (n : ℕ) → o ≡ bad → statement.Bad ≡ answer (all_of n o)
+bad_is : {o : Found Form} (n : ℕ) → o ≡ bad → None ≡ answer (all_of n o)
 unfolding answer
 bad_is n e = sym (ap answer (whole_bad n e))
 
@@ -198,14 +194,8 @@ append_none [] = refl
 append_none {A} (x ∷ l) = ap (λ (m : List A). x ∷ m) (append_none l)
 
 same_do : {a a' : Number} {b b' : code.Name} {p q r p' q' r' : Parameter} {z z' : Sizes} → a ≡ a' → b ≡ b' → p ≡ p' → q ≡ q' → r ≡ r' → z ≡ z'
-    → statement.Do (record { last = a; name = b; first = p; limit = q; by = r; sizes = z }) ≡ statement.Do (record { last = a'; name = b'; first = p'; limit = q'; by = r'; sizes = z' })
-same_do {a} {a'} {b} {b'} {p} {q} {r} {p'} {q'} {r'} {z} {z'} ea eb ep eq er ez =
-    ap (λ (x : Number). statement.Do (record { last = x; name = b; first = p; limit = q; by = r; sizes = z })) ea
-    ∙ ap (λ (x : code.Name). statement.Do (record { last = a'; name = x; first = p; limit = q; by = r; sizes = z })) eb
-    ∙ ap (λ (x : Parameter). statement.Do (record { last = a'; name = b'; first = x; limit = q; by = r; sizes = z })) ep
-    ∙ ap (λ (x : Parameter). statement.Do (record { last = a'; name = b'; first = p'; limit = x; by = r; sizes = z })) eq
-    ∙ ap (λ (x : Parameter). statement.Do (record { last = a'; name = b'; first = p'; limit = q'; by = x; sizes = z })) er
-    ∙ ap (λ (x : Sizes). statement.Do (record { last = a'; name = b'; first = p'; limit = q'; by = r'; sizes = x })) ez
+    → ◌≡◌ {A = Maybe Statement} (Some (statement.Do (record { last = a; name = b; first = p; limit = q; by = r; sizes = z }))) (Some (statement.Do (record { last = a'; name = b'; first = p'; limit = q'; by = r'; sizes = z' })))
+same_do ea eb ep eq er ez = cc
 
 module _ (s : List ℕ) (from : ℕ) (le : from ≤ length s) (l : Number) (nm : code.Name) (fs lm : Parameter) (sizes : Sizes) where
   module _ (ne : get_or s from 0 ≡ comma → ⊥) where
@@ -213,29 +203,26 @@ module _ (s : List ℕ) (from : ℕ) (le : from ≤ length s) (l : Number) (nm :
     unfolding by_of
     two_upto n v p q = leads_upto (here from _) (upto_as s from (byte_no s from comma _ _ (omega arith) ne) (give_upto s from (loop n v p q none) le))
 
-    pub two_more : (from ≡ length s → ⊥) → EndsBy s from l nm fs lm sizes statement.Bad
+    pub two_more : (from ≡ length s → ⊥) → EndsBy s from l nm fs lm sizes None
     unfolding answer
     two_more m n v p q el en ef em es = sym (ap answer (whole_short (two_upto n v p q) m))
 
-    pub two_read : from ≡ length s
-        → EndsBy s from l nm fs lm sizes (statement.Do (record { last = l; name = nm; first = fs; limit = lm; by = Constant 1; sizes = sizes }))
+    pub two_read : {b : Parameter} → from ≡ length s → b ≡ Constant 1
+        → EndsBy s from l nm fs lm sizes (Some (statement.Do (record { last = l; name = nm; first = fs; limit = lm; by = b; sizes = sizes })))
     unfolding answer statement_of form_sizes form_names form_constants form_levels parameter_value capped value_of
-    two_read e n v p q el en ef em es =
-        same_do el en ef em refl
+    two_read e one n v p q el en ef em es =
+        same_do el en ef em one
         (es ∙ ap (λ (x : List Name). sizes_of (v ∷ (expr_names p ++ x)) (expr_constants p ++ expr_constants q) (max (levels p) (levels q))) (sym (append_none (expr_names q)))
         ∙ ap (λ (x : List Digits). sizes_of (v ∷ (expr_names p ++ (expr_names q ++ []))) (expr_constants p ++ x) (max (levels p) (levels q))) (sym (append_none (expr_constants q))))
         ∙ sym (ap answer (whole_some (two_upto n v p q) e))
 
   module _ (c : get_or s from 0 ≡ comma) where
-    pub third_inside : from + 1 ≤ length s
-    third_inside = let i = inside comma (omega arith) s from c in omega arith
-
     third_lead : (n : Digits) (v : Name) (p q : Expr) → Leads 0 (ahead from (by_of n v p q (drop from s))) (from + 1) (and_then parameter (λ by. give (loop n v p q (some by))) (drop (from + 1) s))
     unfolding by_of
     third_lead n v p q =
         leads_more (leads_as (here from _) (byte_yes s from comma _ _ (omega arith) c)) (after_leads s from comma _ (omega arith) c)
 
-    pub third_bad : parameter (drop (from + 1) s) ≡ bad → EndsBy s from l nm fs lm sizes statement.Bad
+    pub third_bad : parameter (drop (from + 1) s) ≡ bad → EndsBy s from l nm fs lm sizes None
     third_bad b n v p q el en ef em es = bad_is (length s) (leads_bad (third_lead n v p q) (then_bad s (from + 1) parameter _ b))
 
     module _ {at : ℕ} {w : Parameter} {z : Sizes} (t : TookParameter s (from + 1) at w z) where
@@ -243,12 +230,12 @@ module _ (s : List ℕ) (from : ℕ) (le : from ≤ length s) (l : Number) (nm :
       third_upto n v p q =
           leads_upto (third_lead n v p q) (then_upto s (from + 1) parameter _ t.upto (give_upto s at (loop n v p q (some t.tree)) t.upto.within))
 
-      pub third_more : (at ≡ length s → ⊥) → EndsBy s from l nm fs lm sizes statement.Bad
+      pub third_more : (at ≡ length s → ⊥) → EndsBy s from l nm fs lm sizes None
       unfolding answer
       third_more m n v p q el en ef em es = sym (ap answer (whole_short (third_upto n v p q) m))
 
       pub third_read : {b : Sizes} → at ≡ length s → b ≡ both sizes z
-          → EndsBy s from l nm fs lm sizes (statement.Do (record { last = l; name = nm; first = fs; limit = lm; by = w; sizes = b }))
+          → EndsBy s from l nm fs lm sizes (Some (statement.Do (record { last = l; name = nm; first = fs; limit = lm; by = w; sizes = b })))
       unfolding answer statement_of form_sizes form_names form_constants form_levels expr_sizes
       third_read {b} e be n v p q el en ef em es =
           same_do el en ef em t.value_is
@@ -262,28 +249,25 @@ module _ (s : List ℕ) (from : ℕ) (le : from ≤ length s) (l : Number) (nm :
 -- ---- the first two parameters
 
 module _ (s : List ℕ) (from : ℕ) (l : Number) (nm : code.Name) (sizes : Sizes) where
-  pub first_bad_lem : parameter (drop from s) ≡ bad → EndsDo s from l nm sizes statement.Bad
+  pub first_bad_lem : parameter (drop from s) ≡ bad → EndsDo s from l nm sizes None
   unfolding parameters_of
   first_bad_lem b n v el en es = bad_is (length s) (leads_bad (here from _) (then_bad s from parameter _ b))
 
   module _ {a : ℕ} {w : Parameter} {z : Sizes} (t : TookParameter s from a w z) where
-    pub first_no_comma : (get_or s a 0 ≡ comma → ⊥) → EndsDo s from l nm sizes statement.Bad
+    pub first_no_comma : (get_or s a 0 ≡ comma → ⊥) → EndsDo s from l nm sizes None
     unfolding parameters_of
     first_no_comma ne n v el en es =
         bad_is (length s) (leads_bad (leads_more (here from _) (then_leads s from parameter _ t.upto)) (after_none comma (omega arith) s a _ ne))
 
     module _ (c : get_or s a 0 ≡ comma) where
-      pub first_inside : a + 1 ≤ length s
-      first_inside = let i = inside comma (omega arith) s a c in omega arith
-
       first_lead : (n : Digits) (v : Name) → Leads 0 (ahead from (parameters_of n v (drop from s))) (a + 1) (and_then parameter (λ limit. by_of n v t.tree limit) (drop (a + 1) s))
       unfolding parameters_of
       first_lead n v = leads_more (leads_more (here from _) (then_leads s from parameter _ t.upto)) (after_leads s a comma _ (omega arith) c)
 
-      pub second_bad : parameter (drop (a + 1) s) ≡ bad → EndsDo s from l nm sizes statement.Bad
+      pub second_bad : parameter (drop (a + 1) s) ≡ bad → EndsDo s from l nm sizes None
       second_bad b n v el en es = bad_is (length s) (leads_bad (first_lead n v) (then_bad s (a + 1) parameter _ b))
 
-      pub second_read : {b : ℕ} {w' : Parameter} {z' y y' : Sizes} {r : Statement} → TookParameter s (a + 1) b w' z' → y ≡ both z z' → y' ≡ both sizes y
+      pub second_read : {b : ℕ} {w' : Parameter} {z' y y' : Sizes} {r : Maybe Statement} → TookParameter s (a + 1) b w' z' → y ≡ both z z' → y' ≡ both sizes y
           → EndsBy s b l nm w w' y' r → EndsDo s from l nm sizes r
       unfolding name_size expr_sizes
       second_read {b} {w'} {z'} {y} {y'} {r} u ye ye' h n v el en es =
@@ -300,7 +284,7 @@ module _ (s : List ℕ) (from : ℕ) (l : Number) (nm : code.Name) (sizes : Size
 
 -- ---- DO
 
-pub do_no_word : (s : List ℕ) → starts_word word_do s ≡ false → statement.Bad ≡ answer (read_do s)
+pub do_no_word : (s : List ℕ) → starts_word word_do s ≡ false → None ≡ answer (read_do s)
 unfolding read_do whole do_loop
 do_no_word s e = bad_is (length s) (word_none word_do _ s e)
 
@@ -312,7 +296,7 @@ module _ (s : List ℕ) (w : starts_word word_do s ≡ true) where
   unfolding do_loop parameters_of by_of
   do_lead = word_leads word_do _ s w
 
-  pub do_no_number : number (drop 2 s) ≡ bad → statement.Bad ≡ answer (read_do s)
+  pub do_no_number : number (drop 2 s) ≡ bad → None ≡ answer (read_do s)
   unfolding read_do whole
   do_no_number e = bad_is (length s) (leads_bad do_lead (then_bad s 2 number _ e))
 
@@ -320,7 +304,7 @@ module _ (s : List ℕ) (w : starts_word word_do s ≡ true) where
     do_after : Leads 0 (do_loop s) a (and_then name (λ v. after equals (parameters_of t.tree v)) (drop a s))
     do_after = leads_more do_lead (then_leads s 2 number _ t.upto)
 
-    pub do_no_name : name (drop a s) ≡ bad → statement.Bad ≡ answer (read_do s)
+    pub do_no_name : name (drop a s) ≡ bad → None ≡ answer (read_do s)
     unfolding read_do whole
     do_no_name e = bad_is (length s) (leads_bad do_after (then_bad s a name _ e))
 
@@ -328,7 +312,7 @@ module _ (s : List ℕ) (w : starts_word word_do s ≡ true) where
       do_named : Leads 0 (do_loop s) b (after equals (parameters_of t.tree u.tree) (drop b s))
       do_named = leads_more do_after (then_leads s a name _ u.upto)
 
-      pub do_no_equals : (get_or s b 0 ≡ equals → ⊥) → statement.Bad ≡ answer (read_do s)
+      pub do_no_equals : (get_or s b 0 ≡ equals → ⊥) → None ≡ answer (read_do s)
       unfolding read_do whole
       do_no_equals n = bad_is (length s) (leads_bad do_named (after_none equals (omega arith) s b _ n))
 
@@ -336,7 +320,7 @@ module _ (s : List ℕ) (w : starts_word word_do s ≡ true) where
         pub do_inside : b + 1 ≤ length s
         do_inside = let i = inside equals (omega arith) s b e in omega arith
 
-        pub do_read : {l : Number} {r : Statement} → l ≡ as_number v → EndsDo s (b + 1) l v' z' r → r ≡ answer (read_do s)
+        pub do_read : {l : Number} {r : Maybe Statement} → l ≡ as_number v → EndsDo s (b + 1) l v' z' r → r ≡ answer (read_do s)
         unfolding read_do whole
         do_read {l} {r} le h =
             let ld = leads_more do_named (after_leads s b equals _ (omega arith) e) in

@@ -4,159 +4,110 @@
 ghost use Rattle.std.specs.Prelude.{◌≡◌, ◌*◌, ◌≤◌, length, drop};
 ghost use Rattle.rules_text.specs.Grammar.{parameter, read_do};
 ghost use Rattle.read_forms.specs.Statements.{answer};
+ghost use Rattle.read_forms.specs.declared.Parameter.TheVariants as Parameter;
 ghost use Rattle.read_dos.specs.Parameters.{ReadsParameter, EndsBy, EndsDo};
 
 use read_cards::Number;
 use read_forms::{Do, Parameter, Statement};
-use read_items::Got;
-use read_tokens::{GotName, Name, Sizes, Token};
-
-#[derive(Drop)]
-pub enum GotParameter {
-    Read {
-        at: usize,
-        parameter: Parameter,
-        sizes: Sizes,
-    },
-    Bad,
-}
+use read_tokens::{Name, Read};
 
 // An expression that is one constant or name, with nothing around it. What the table holds then is free.
-fn read_parameter(text: &[u8], from: usize, items: &mut [u64]) -> GotParameter
+fn read_parameter(text: &[u8], from: usize, items: &mut [u64]) -> Option<Read<Parameter>>
     requires { (from ≤ length text.now) × (5 * length text.now ≤ length items.old) }
     ensures { ReadsParameter text.now from (parameter (drop from text.now)) result }
 {
     if read_tokens::byte(text, from) == b'+' {
-        return GotParameter::Bad;
+        return None;
     }
-    let Got::Read { at, n, sizes } = read_expressions::expression(&text[from..], items, 0) else {
-        return GotParameter::Bad;
-    };
-    if sizes.levels != 0 {
-        return GotParameter::Bad;
+    let expression = read_expressions::expression(&text[from..], items, 0)?;
+    if expression.sizes.levels != 0 {
+        return None;
     }
-    if n == 2 {
-        return GotParameter::Read {
-            at: from + at,
-            parameter: Parameter::Constant(items[1]),
+    let at = from + expression.at;
+    let sizes = expression.sizes;
+    match expression.value {
+        2 => Some(Read {
+            at,
+            value: Parameter::Constant(items[1]),
             sizes,
-        };
-    }
-    if n != 5 {
-        return GotParameter::Bad;
-    }
-    if items[0] != 2 {
-        return GotParameter::Bad;
-    }
-    GotParameter::Read {
-        at: from + at,
-        parameter: Parameter::Variable(read_tokens::name_at(items, 1)),
-        sizes,
+        }),
+        5 if items[0] == 2 => Some(Read {
+            at,
+            value: Parameter::Variable(read_tokens::name_at(items, 1)),
+            sizes,
+        }),
+        _ => None,
     }
 }
 
-// What follows the second parameter: a third or the end of the text.
-fn read_by(
-    text: &[u8],
-    items: &mut [u64],
-    from: usize,
-    last: Number,
-    name: Name,
-    first: Parameter,
-    limit: Parameter,
-    sizes: Sizes,
-) -> Statement
-    requires { (from ≤ length text.now) × (5 * length text.now ≤ length items.old) }
-    ensures { EndsBy text.now from last name first limit sizes result }
+// What follows the second parameter, a third or the end of the text, after a DO in which the third is 1.
+fn read_by(text: &[u8], items: &mut [u64], from: usize, two: Do) -> Option<Statement>
+    requires room { (from ≤ length text.now) × (5 * length text.now ≤ length items.old) }
+    requires one { two.by ≡ Parameter.Constant 1 }
+    ensures { EndsBy text.now from two.last two.name two.first two.limit two.sizes result }
 {
     if read_tokens::byte(text, from) != b',' {
         if from != text.len() {
-            return Statement::Bad;
+            return None;
         }
-        return Statement::Do(Do {
-            last,
-            name,
-            first,
-            limit,
-            by: Parameter::Constant(1),
-            sizes,
-        });
+        return Some(Statement::Do(two));
     }
-    let GotParameter::Read {
-        at,
-        parameter: by,
-        sizes: z,
-    } = read_parameter(text, from + 1, items)
-    else {
-        return Statement::Bad;
-    };
-    if at != text.len() {
-        return Statement::Bad;
+    let by = read_parameter(text, from + 1, items)?;
+    if by.at != text.len() {
+        return None;
     }
-    Statement::Do(Do {
-        last,
-        name,
-        first,
-        limit,
-        by,
-        sizes: read_tokens::of_both(sizes, z),
-    })
+    Some(Statement::Do(Do {
+        by: by.value,
+        sizes: two.sizes.join(by.sizes),
+        ..two
+    }))
 }
 
+// The parameters, from the place after the equals sign on: `name` is told that place.
 fn read_parameters(
     text: &[u8],
     items: &mut [u64],
-    from: usize,
     last: Number,
-    name: Name,
-    sizes: Sizes,
-) -> Statement
-    requires { (from ≤ length text.now) × (5 * length text.now ≤ length items.old) }
-    ensures { EndsDo text.now from last name sizes result }
+    name: Read<Name>,
+) -> Option<Statement>
+    requires { (name.at ≤ length text.now) × (5 * length text.now ≤ length items.old) }
+    ensures { EndsDo text.now name.at last name.value name.sizes result }
 {
-    let GotParameter::Read {
-        at: a,
-        parameter: first,
-        sizes: z,
-    } = read_parameter(text, from, items)
-    else {
-        return Statement::Bad;
-    };
-    if read_tokens::byte(text, a) != b',' {
-        return Statement::Bad;
+    let first = read_parameter(text, name.at, items)?;
+    if read_tokens::byte(text, first.at) != b',' {
+        return None;
     }
-    let GotParameter::Read {
-        at: b,
-        parameter: limit,
-        sizes: y,
-    } = read_parameter(text, a + 1, items)
-    else {
-        return Statement::Bad;
+    let limit = read_parameter(text, first.at + 1, items)?;
+    let two = Do {
+        last,
+        name: name.value,
+        first: first.value,
+        limit: limit.value,
+        by: Parameter::Constant(1),
+        sizes: name.sizes.join(first.sizes.join(limit.sizes)),
     };
-    let both = read_tokens::of_both(sizes, read_tokens::of_both(z, y));
-    read_by(text, items, b, last, name, first, limit, both)
+    read_by(text, items, limit.at, two)
 }
 
-pub fn read_do(text: &[u8], items: &mut [u64]) -> Statement
+pub fn read_do(text: &[u8], items: &mut [u64]) -> Option<Statement>
     requires { 5 * length text.now ≤ length items.old }
     ensures { result ≡ answer (read_do text.now) }
 {
-    if !read_tokens::starts_word(text, b"DO") {
-        return Statement::Bad;
+    if !text.starts_with(b"DO") {
+        return None;
     }
-    let Token::Read {
-        at: a,
-        word: last,
-        sizes: _,
-    } = read_tokens::read_number(text, 2)
-    else {
-        return Statement::Bad;
-    };
-    let GotName::Read { at: b, name, sizes } = read_tokens::read_name(text, a) else {
-        return Statement::Bad;
-    };
-    if read_tokens::byte(text, b) != b'=' {
-        return Statement::Bad;
+    let last = read_tokens::read_number(text, 2)?;
+    let name = read_tokens::read_name(text, last.at)?;
+    if read_tokens::byte(text, name.at) != b'=' {
+        return None;
     }
-    read_parameters(text, items, b + 1, read_forms::number_of(last), name, sizes)
+    read_parameters(
+        text,
+        items,
+        read_forms::number_of(last.value),
+        Read {
+            at: name.at + 1,
+            ..name
+        },
+    )
 }

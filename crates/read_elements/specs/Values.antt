@@ -1,11 +1,13 @@
 -- Subscripts, elements and targets as values, and what their readers ensure.
 -- Assumes nothing.
-use Rattle.std.specs.Prelude.{◌≡◌, List, [], cond, ℕ, eqb, drop}
+use Rattle.std.specs.Prelude.{◌≡◌, List, [], cond, ℕ, eqb, drop, Some, None}
+use Rattle.std.specs.Prelude.{Option as Maybe}
 use Rattle.std.proofs.Math.Option.{Option, none, some}
 use Rattle.rules_text.specs.Trees.{Digits, optional, nothing, plus, minus, constant, linear, one, two, cell, addend_constants, subscript_names, subscript_constants, subscripts_names, subscripts_constants, target_names, target_constants}
 use Rattle.rules_text.specs.Trees as trees
 use Rattle.rules_text.specs.Tokens.{Found, plus_sign, minus_sign}
 use Rattle.rules_text.specs.Grammar.{linear_of}
+use Rattle.read_tokens.specs.declared.Read.{Read}
 use Rattle.read_tokens.specs.declared.Sizes.{Sizes}
 use Rattle.read_tokens.specs.Words.{capped, name_of, no_name}
 use Rattle.read_tokens.specs.Sizes.{sizes_of}
@@ -15,20 +17,12 @@ use Rattle.read_elements.specs.declared.Subscript.{Subscript}
 use Rattle.read_elements.specs.declared.Subscripts.{Subscripts}
 use Rattle.read_elements.specs.declared.Target.{Target}
 use Rattle.read_elements.specs.declared.Target.TheVariants as target
-use Rattle.read_elements.specs.declared.GotAddend.{GotAddend}
-use Rattle.read_elements.specs.declared.GotAddend.TheVariants as gotAddend
-use Rattle.read_elements.specs.declared.GotSubscript.{GotSubscript}
-use Rattle.read_elements.specs.declared.GotSubscript.TheVariants as gotSubscript
-use Rattle.read_elements.specs.declared.GotSubscripts.{GotSubscripts}
-use Rattle.read_elements.specs.declared.GotSubscripts.TheVariants as gotSubscripts
-use Rattle.read_elements.specs.declared.GotPlace.{GotPlace}
-use Rattle.read_elements.specs.declared.GotPlace.TheVariants as gotPlace
 
 -- ---- the values
 
--- 1 for a plus, 2 for a minus
-unfoldable pub sign_number : ℕ → ℕ
-sign_number c = cond (eqb c plus_sign) 1 (cond (eqb c minus_sign) 2 0)
+-- a sign's word: 0 for a plus, 1 for a minus
+abbrev pub minus_of : ℕ → Maybe ℕ
+minus_of c = cond (eqb c plus_sign) (Some 0) (cond (eqb c minus_sign) (Some 1) None)
 
 unfoldable pub addend_value : trees.Addend → Addend
 addend_value nothing = record { minus = 0; value = 0 }
@@ -86,19 +80,19 @@ target_weight (trees.element v s) = 20
 
 -- ---- what the readers ensure
 
-abbrev pub ReadsAddend : List ℕ → ℕ → Found trees.Addend → GotAddend → Type 0
-ReadsAddend s from o r = Reads gotAddend.Read gotAddend.Bad addend_value addend_sizes addend_weight s from o r
+abbrev pub ReadsAddend : List ℕ → ℕ → Found trees.Addend → Maybe (Read Addend) → Type 0
+ReadsAddend s from o r = Reads addend_value addend_sizes addend_weight s from o r
 
-abbrev pub ReadsSubscript : List ℕ → ℕ → Found trees.Subscript → GotSubscript → Type 0
-ReadsSubscript s from o r = Reads gotSubscript.Read gotSubscript.Bad subscript_value subscript_sizes subscript_weight s from o r
+abbrev pub ReadsSubscript : List ℕ → ℕ → Found trees.Subscript → Maybe (Read Subscript) → Type 0
+ReadsSubscript s from o r = Reads subscript_value subscript_sizes subscript_weight s from o r
 
 -- after any multiplier of the value and the sizes that are handed in
-abbrev pub ReadsLinear : List ℕ → ℕ → ℕ → Sizes → GotSubscript → Type 0
+abbrev pub ReadsLinear : List ℕ → ℕ → ℕ → Sizes → Maybe (Read Subscript) → Type 0
 ReadsLinear s from times before r =
     (m : Option Digits) → times ≡ times_of m → before ≡ sizes_of [] (optional m) 0 → ReadsSubscript s from (linear_of m (drop from s)) r
 
-abbrev pub ReadsSubscripts : List ℕ → ℕ → Found trees.Subscripts → GotSubscripts → Type 0
-ReadsSubscripts s from o r = Reads gotSubscripts.Read gotSubscripts.Bad subscripts_value subscripts_sizes subscripts_weight s from o r
+abbrev pub ReadsSubscripts : List ℕ → ℕ → Found trees.Subscripts → Maybe (Read Subscripts) → Type 0
+ReadsSubscripts s from o r = Reads subscripts_value subscripts_sizes subscripts_weight s from o r
 
-abbrev pub ReadsPlace : List ℕ → ℕ → Found trees.Target → GotPlace → Type 0
-ReadsPlace s from o r = Reads gotPlace.Read gotPlace.Bad target_value target_sizes target_weight s from o r
+abbrev pub ReadsPlace : List ℕ → ℕ → Found trees.Target → Maybe (Read Target) → Type 0
+ReadsPlace s from o r = Reads target_value target_sizes target_weight s from o r

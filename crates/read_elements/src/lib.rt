@@ -3,9 +3,9 @@
 
 ghost use Rattle.std.specs.Prelude.{◌≡◌, ◌≤◌, length, drop};
 ghost use Rattle.rules_text.specs.Grammar.{addend, subscript, subscripts, place};
-ghost use Rattle.read_elements.specs.Values.{sign_number, no_subscript, ReadsAddend, ReadsSubscript, ReadsLinear, ReadsSubscripts, ReadsPlace};
+ghost use Rattle.read_elements.specs.Values.{minus_of, ReadsAddend, ReadsSubscript, ReadsLinear, ReadsSubscripts, ReadsPlace};
 
-use read_tokens::{GotName, Name, Sizes, Token};
+use read_tokens::{Name, Read, Sizes};
 
 #[derive(Drop)]
 pub struct Addend {
@@ -13,260 +13,183 @@ pub struct Addend {
     pub value: u64,
 }
 
-#[derive(Clone, Copy)]
+// Word for word as in an item, from which take_operands makes it again: a 0 or 1 in `minus`, and `no_name` for none, are words there.
+#[derive(Clone, Copy, Debug, PartialEq, Eq)]
 pub struct Subscript {
     pub times: u64,
-    // `no_name` for none
     pub name: Name,
     pub minus: u64,
     pub addend: u64,
 }
 
-#[derive(Clone, Copy)]
+#[derive(Clone, Copy, Debug, PartialEq, Eq)]
 pub struct Subscripts {
     pub count: u64,
     pub first: Subscript,
     pub second: Subscript,
 }
 
-#[derive(Clone, Copy)]
+#[derive(Clone, Copy, Debug, PartialEq, Eq)]
 pub struct Element {
     pub name: Name,
     pub subscripts: Subscripts,
 }
 
 // A plain cell or an element.
-#[derive(Clone, Copy)]
+#[derive(Clone, Copy, Debug, PartialEq, Eq)]
 pub enum Target {
     Cell(Name),
     Element(Element),
 }
 
-#[derive(Drop)]
-pub enum GotAddend {
-    Read {
-        at: usize,
-        addend: Addend,
-        sizes: Sizes,
-    },
-    Bad,
-}
+const NO_SUBSCRIPT: Subscript = Subscript {
+    times: 0,
+    name: Name(0, 0, 0, 0),
+    minus: 0,
+    addend: 0,
+};
 
-#[derive(Drop)]
-pub enum GotSubscript {
-    Read {
-        at: usize,
-        subscript: Subscript,
-        sizes: Sizes,
-    },
-    Bad,
-}
-
-#[derive(Drop)]
-pub enum GotSubscripts {
-    Read {
-        at: usize,
-        subscripts: Subscripts,
-        sizes: Sizes,
-    },
-    Bad,
-}
-
-#[derive(Drop)]
-pub enum GotPlace {
-    Read {
-        at: usize,
-        target: Target,
-        sizes: Sizes,
-    },
-    Bad,
-}
-
-// 1 for a plus, 2 for a minus, 0 for any other byte.
-fn sign_of(c: u8) -> u64
-    ensures { result ≡ sign_number c }
+// A sign's word: 0 for a plus, 1 for a minus.
+fn minus_of(c: u8) -> Option<u64>
+    ensures { result ≡ minus_of c }
 {
-    if c == b'+' {
-        return 1;
-    }
-    if c == b'-' {
-        return 2;
-    }
-    0
-}
-
-fn no_subscript() -> Subscript
-    ensures { result ≡ no_subscript }
-{
-    Subscript {
-        times: 0,
-        name: read_tokens::no_name(),
-        minus: 0,
-        addend: 0,
+    match c {
+        b'+' => Some(0),
+        b'-' => Some(1),
+        _ => None,
     }
 }
 
-fn read_addend(s: &[u8], from: usize) -> GotAddend
+fn read_addend(s: &[u8], from: usize) -> Option<Read<Addend>>
     requires { from ≤ length s.now }
     ensures { ReadsAddend s.now from (addend (drop from s.now)) result }
 {
-    let sign = sign_of(read_tokens::byte(s, from));
-    if sign == 0 {
-        return GotAddend::Read {
+    let Some(minus) = minus_of(read_tokens::byte(s, from)) else {
+        return Some(Read {
             at: from,
-            addend: Addend { minus: 0, value: 0 },
-            sizes: read_tokens::none(),
-        };
-    }
-    let Token::Read { at, word, sizes } = read_tokens::read_number(s, from + 1) else {
-        return GotAddend::Bad;
+            value: Addend { minus: 0, value: 0 },
+            sizes: Sizes::default(),
+        });
     };
-    GotAddend::Read {
-        at,
-        addend: Addend {
-            minus: sign - 1,
-            value: word,
+    let number = read_tokens::read_number(s, from + 1)?;
+    Some(Read {
+        at: number.at,
+        value: Addend {
+            minus,
+            value: number.value,
         },
-        sizes,
-    }
+        sizes: number.sizes,
+    })
 }
 
 // A variable and its addend, after a multiplier.
-fn read_linear(s: &[u8], from: usize, times: u64, sizes: Sizes) -> GotSubscript
-    requires { from ≤ length s.now }
-    ensures { ReadsLinear s.now from times sizes result }
+fn read_linear(s: &[u8], times: Read<u64>) -> Option<Read<Subscript>>
+    requires { times.at ≤ length s.now }
+    ensures { ReadsLinear s.now times.at times.value times.sizes result }
 {
-    let GotName::Read {
-        at: a,
-        name,
-        sizes: z,
-    } = read_tokens::read_name(s, from)
-    else {
-        return GotSubscript::Bad;
-    };
-    let GotAddend::Read {
-        at,
-        addend,
-        sizes: y,
-    } = read_addend(s, a)
-    else {
-        return GotSubscript::Bad;
-    };
-    GotSubscript::Read {
-        at,
-        subscript: Subscript {
-            times,
-            name,
-            minus: addend.minus,
-            addend: addend.value,
+    let name = read_tokens::read_name(s, times.at)?;
+    let addend = read_addend(s, name.at)?;
+    Some(Read {
+        at: addend.at,
+        value: Subscript {
+            times: times.value,
+            name: name.value,
+            minus: addend.value.minus,
+            addend: addend.value.value,
         },
-        sizes: read_tokens::of_both(sizes, read_tokens::of_both(z, y)),
-    }
+        sizes: times.sizes.join(name.sizes.join(addend.sizes)),
+    })
 }
 
-fn read_subscript(s: &[u8], from: usize) -> GotSubscript
+fn read_subscript(s: &[u8], from: usize) -> Option<Read<Subscript>>
     requires { from ≤ length s.now }
     ensures { ReadsSubscript s.now from (subscript (drop from s.now)) result }
 {
-    let Token::Read { at, word, sizes } = read_tokens::read_number(s, from) else {
-        return read_linear(s, from, 1, read_tokens::none());
+    let Some(number) = read_tokens::read_number(s, from) else {
+        return read_linear(
+            s,
+            Read {
+                at: from,
+                value: 1,
+                sizes: Sizes::default(),
+            },
+        );
     };
-    if read_tokens::byte(s, at) == b'*' {
-        return read_linear(s, at + 1, word, sizes);
+    if read_tokens::byte(s, number.at) == b'*' {
+        return read_linear(
+            s,
+            Read {
+                at: number.at + 1,
+                ..number
+            },
+        );
     }
-    GotSubscript::Read {
-        at,
-        subscript: Subscript {
-            times: 0,
-            name: read_tokens::no_name(),
-            minus: 0,
-            addend: word,
+    Some(Read {
+        at: number.at,
+        value: Subscript {
+            addend: number.value,
+            ..NO_SUBSCRIPT
         },
-        sizes,
-    }
+        sizes: number.sizes,
+    })
 }
 
-fn read_subscripts(s: &[u8], from: usize) -> GotSubscripts
+fn read_subscripts(s: &[u8], from: usize) -> Option<Read<Subscripts>>
     requires { from ≤ length s.now }
     ensures { ReadsSubscripts s.now from (subscripts (drop from s.now)) result }
 {
     if read_tokens::byte(s, from) != b'(' {
-        return GotSubscripts::Bad;
+        return None;
     }
-    let GotSubscript::Read {
-        at: a,
-        subscript: first,
-        sizes: z,
-    } = read_subscript(s, from + 1)
-    else {
-        return GotSubscripts::Bad;
-    };
-    if read_tokens::byte(s, a) != b',' {
-        if read_tokens::byte(s, a) != b')' {
-            return GotSubscripts::Bad;
-        }
-        return GotSubscripts::Read {
-            at: a + 1,
-            subscripts: Subscripts {
+    let first = read_subscript(s, from + 1)?;
+    match read_tokens::byte(s, first.at) {
+        b')' => Some(Read {
+            at: first.at + 1,
+            value: Subscripts {
                 count: 1,
-                first,
-                second: no_subscript(),
+                first: first.value,
+                second: NO_SUBSCRIPT,
             },
-            sizes: z,
-        };
-    }
-    let GotSubscript::Read {
-        at,
-        subscript: second,
-        sizes: y,
-    } = read_subscript(s, a + 1)
-    else {
-        return GotSubscripts::Bad;
-    };
-    if read_tokens::byte(s, at) != b')' {
-        return GotSubscripts::Bad;
-    }
-    GotSubscripts::Read {
-        at: at + 1,
-        subscripts: Subscripts {
-            count: 2,
-            first,
-            second,
-        },
-        sizes: read_tokens::of_both(z, y),
+            sizes: first.sizes,
+        }),
+        b',' => {
+            let second = read_subscript(s, first.at + 1)?;
+            if read_tokens::byte(s, second.at) != b')' {
+                return None;
+            }
+            Some(Read {
+                at: second.at + 1,
+                value: Subscripts {
+                    count: 2,
+                    first: first.value,
+                    second: second.value,
+                },
+                sizes: first.sizes.join(second.sizes),
+            })
+        }
+        _ => None,
     }
 }
 
-pub fn read_place(s: &[u8], from: usize) -> GotPlace
+pub fn read_place(s: &[u8], from: usize) -> Option<Read<Target>>
     requires { from ≤ length s.now }
     ensures { ReadsPlace s.now from (place (drop from s.now)) result }
 {
-    let GotName::Read {
-        at: a,
-        name,
-        sizes: z,
-    } = read_tokens::read_name(s, from)
-    else {
-        return GotPlace::Bad;
-    };
-    if read_tokens::byte(s, a) != b'(' {
-        return GotPlace::Read {
-            at: a,
-            target: Target::Cell(name),
-            sizes: z,
-        };
+    let name = read_tokens::read_name(s, from)?;
+    if read_tokens::byte(s, name.at) != b'(' {
+        return Some(Read {
+            at: name.at,
+            value: Target::Cell(name.value),
+            sizes: name.sizes,
+        });
     }
-    let GotSubscripts::Read {
-        at,
-        subscripts,
-        sizes: y,
-    } = read_subscripts(s, a)
-    else {
-        return GotPlace::Bad;
-    };
-    GotPlace::Read {
-        at,
-        target: Target::Element(Element { name, subscripts }),
-        sizes: read_tokens::of_both(z, y),
-    }
+    let subscripts = read_subscripts(s, name.at)?;
+    Some(Read {
+        at: subscripts.at,
+        value: Target::Element(Element {
+            name: name.value,
+            subscripts: subscripts.value,
+        }),
+        sizes: name.sizes.join(subscripts.sizes),
+    })
 }

@@ -2,6 +2,7 @@
 -- Assumes nothing.
 use mathlib.Core.Path.{◌≡◌, refl, sym, ap, ◌∙◌, subst}
 use mathlib.Core.List.{List, [], ◌∷◌, ◌++◌, append_assoc}
+use mathlib.Core.Option.{none}
 use mathlib.Core.Bool.{Bool, true, false, cond}
 use Prim.Native.Nat.{ℕ, suc, ◌+◌, ◌≤◌, ◌<◌}
 use native.Mathlib.Omega.{arith}
@@ -63,7 +64,7 @@ term_starts {s} {a} {b} {n} {k} {m} {z} t e = record {
 -- ---- an expression
 
 pub sign_is : (s : List ℕ) → sign s ≡ found (eqb (get_or s 0 0) 45) (sign_len (get_or s 0 0))
-unfolding sign choose starts after give ahead sign_len
+unfolding sign choose starts after give ahead
 sign_is [] = refl
 sign_is (c ∷ s) = go (eqb c 43) (eqb c 45) refl refl
   where
@@ -81,7 +82,6 @@ sign_is (c ∷ s) = go (eqb c 43) (eqb c 45) refl refl
     go false false e f = refl
 
 pub sign_le : (s : List ℕ) → sign_len (get_or s 0 0) ≤ length s
-unfolding sign_len
 sign_le [] = omega arith
 sign_le (c ∷ s) = two (eqb c 43) (eqb c 45)
   where
@@ -109,7 +109,7 @@ extra true = 1
 extra false = 0
 
 extra_le : (c : ℕ) → extra (eqb c 45) ≤ sign_len c
-unfolding sign_len extra
+unfolding extra
 extra_le c = two (eqb c 43) (eqb c 45)
   where
     two : (x y : Bool) → extra y ≤ cond x 1 (cond y 1 0)
@@ -243,3 +243,13 @@ next_factor acc s = parse_step (more_factors acc) s
 pub next_term : (acc : Expr) (s : List ℕ) → parse (more_terms acc) s ≡ more parse sum_op a_term more_terms acc s
 unfolding step
 next_term acc s = parse_step (more_terms acc) s
+
+-- no operation is the byte 0, which stands past the end
+
+pub no_product : product_op 0 ≡ none
+unfolding product_op
+no_product = refl
+
+pub no_sum : sum_op 0 ≡ none
+unfolding sum_op
+no_sum = refl

@@ -5,115 +5,71 @@ ghost use Rattle.std.specs.Prelude.{◌+◌, ◌*◌, ◌<◌, ◌≤◌, length
 ghost use Rattle.rules_text.specs.Grammar.{parse, Mode};
 ghost use Rattle.read_items.specs.Parsed.{Parsed};
 
-use read_items::Got;
-use read_tokens::Sizes;
+use read_tokens::{Read, Sizes};
 
+// This loop and that of `term` stay two: no proof goes through a cycle of calls by a function that is handed on.
 #[cycle(expression_factor_term)]
-pub fn expression(s: &[u8], items: &mut [u64], n: usize) -> Got
+pub fn expression(s: &[u8], items: &mut [u64], n: usize) -> Option<Read<usize>>
     requires { n + 5 * length s.now ≤ length items.old }
     ensures { Parsed s.now items.old items.new n (parse Mode.an_expression s.now) result }
 {
     let c = read_tokens::byte(s, 0);
-    let a = read_operators::sign_len(c);
-    let Got::Read {
-        at: k,
-        n: m,
-        sizes: z,
-    } = term(&s[a..], items, n)
-    else {
-        return Got::Bad;
+    let sign = read_operators::sign_len(c);
+    let first = term(&s[sign..], items, n)?;
+    let mut read = Read {
+        at: sign + first.at,
+        value: read_operators::put_sign(items, first.value, c == b'-'),
+        sizes: first.sizes,
     };
-    let mut top = read_operators::put_sign(items, m, c == b'-');
-    let mut at = a + k;
-    let mut sizes = z;
-    while at < s.len() {
-        let op = read_operators::sum_op(s[at]);
-        if op == 0 {
-            return Got::Read { at, n: top, sizes };
-        }
-        let b = at + 1;
-        let Got::Read {
-            at: j,
-            n: m2,
-            sizes: z2,
-        } = term(&s[b..], items, top)
-        else {
-            return Got::Bad;
+    while let Some(op) = read_operators::sum_op(read_tokens::byte(s, read.at)) {
+        let next = term(&s[read.at + 1..], items, read.value)?;
+        items[next.value] = op;
+        read = Read {
+            at: read.at + 1 + next.at,
+            value: next.value + 1,
+            sizes: read.sizes.join(next.sizes),
         };
-        items[m2] = op;
-        top = m2 + 1;
-        at = b + j;
-        sizes = read_tokens::of_both(sizes, z2);
     }
-    Got::Read { at, n: top, sizes }
+    Some(read)
 }
 
 #[cycle(expression_factor_term)]
-fn term(s: &[u8], items: &mut [u64], n: usize) -> Got
+fn term(s: &[u8], items: &mut [u64], n: usize) -> Option<Read<usize>>
     requires { n + 5 * length s.now ≤ length items.old }
     ensures { Parsed s.now items.old items.new n (parse Mode.a_term s.now) result }
 {
-    let Got::Read {
-        at: k,
-        n: m,
-        sizes: z,
-    } = factor(s, items, n)
-    else {
-        return Got::Bad;
-    };
-    let mut top = m;
-    let mut at = k;
-    let mut sizes = z;
-    while at < s.len() {
-        let op = read_operators::product_op(s[at]);
-        if op == 0 {
-            return Got::Read { at, n: top, sizes };
-        }
-        let b = at + 1;
-        let Got::Read {
-            at: j,
-            n: m2,
-            sizes: z2,
-        } = factor(&s[b..], items, top)
-        else {
-            return Got::Bad;
+    let mut read = factor(s, items, n)?;
+    while let Some(op) = read_operators::product_op(read_tokens::byte(s, read.at)) {
+        let next = factor(&s[read.at + 1..], items, read.value)?;
+        items[next.value] = op;
+        read = Read {
+            at: read.at + 1 + next.at,
+            value: next.value + 1,
+            sizes: read.sizes.join(next.sizes),
         };
-        items[m2] = op;
-        top = m2 + 1;
-        at = b + j;
-        sizes = read_tokens::of_both(sizes, z2);
     }
-    Got::Read { at, n: top, sizes }
+    Some(read)
 }
 
 #[cycle(expression_factor_term)]
-fn factor(s: &[u8], items: &mut [u64], n: usize) -> Got
+fn factor(s: &[u8], items: &mut [u64], n: usize) -> Option<Read<usize>>
     requires { n + 5 * length s.now ≤ length items.old }
     ensures { Parsed s.now items.old items.new n (parse Mode.a_factor s.now) result }
 {
     if read_tokens::byte(s, 0) != b'(' {
         return read_items::operand(s, items, n);
     }
-    let Got::Read {
-        at: k,
-        n: m,
-        sizes: z,
-    } = expression(&s[1..], items, n)
-    else {
-        return Got::Bad;
-    };
-    let b = k + 1;
-    if read_tokens::byte(s, b) != b')' {
-        return Got::Bad;
+    let inner = expression(&s[1..], items, n)?;
+    let end = inner.at + 1;
+    if read_tokens::byte(s, end) != b')' {
+        return None;
     }
-    Got::Read {
-        at: b + 1,
-        n: m,
+    Some(Read {
+        at: end + 1,
+        value: inner.value,
         sizes: Sizes {
-            name: z.name,
-            other: z.other,
-            constant: z.constant,
-            levels: z.levels + 1,
+            levels: inner.sizes.levels + 1,
+            ..inner.sizes
         },
-    }
+    })
 }

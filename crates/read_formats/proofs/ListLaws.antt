@@ -9,12 +9,10 @@ use lib.ListN.{length, drop, length-map}
 use Rattle.rules_formats.specs.Format.{Format, close, group, Field, times, written_out, again_from, has_number}
 use Rattle.rules_formats.specs.Words.{most_words, field_word}
 use Rattle.rules_formats.specs.Punched.{most_number, Found, before, first, after_field, group_of, list}
+use Rattle.std.specs.Prelude.{Option, Some, None}
 use Rattle.read_formats.specs.Puts.{Puts, Repeats}
 use Rattle.read_formats.specs.declared.Sofar.{Sofar}
-use Rattle.read_formats.specs.declared.Listed.{Listed}
-use Rattle.read_formats.specs.declared.Listed.TheVariants.{Bad, Good}
-use Rattle.read_formats.specs.declared.Step.{Step}
-use Rattle.read_formats.specs.declared.Step.TheVariants.{Bad as Wrong, Closes, Next, Opens}
+use Rattle.read_formats.specs.declared.Step.TheVariants.{Closes, Next, Opens}
 use Rattle.read_formats.specs.declared.Place.{Place as Placed}
 use Rattle.read_formats.specs.declared.Place.TheVariants.{AfterField}
 use Rattle.read_formats.specs.Reads.{place_of, Ready, Goes, Steps, Gets, Reads}
@@ -39,37 +37,31 @@ or_false true = refl
 or_false false = refl
 
 -- what is told of an answer, where it is known which
-pub told_step : (cs a b : List ℕ) (s : Sofar) (o : Found Format) (r q : Step) → r ≡ q → Steps cs a b s o r → Steps cs a b s o q
-told_step cs a b s o r q e h = subst (λ (x : Step). Steps cs a b s o x) e h
-
-pub told_list : (cs a b : List ℕ) (s : Sofar) (o : Found Format) (r q : Listed) → r ≡ q → Reads cs a b s o r → Reads cs a b s o q
-told_list cs a b s o r q e h = subst (λ (x : Listed). Reads cs a b s o x) e h
-
 module _ (cs a : List ℕ) (s : Sofar) where
   -- ---- what a step leaves is ready to go on
 
-  pub ready_next : (b : List ℕ) (o : Found Format) (t : Sofar) (p : Placed) → Ready cs a s → Steps cs a b s o (Next t p) → Ready cs b t
+  pub ready_next : (b : List ℕ) (o : Found Format) (t : Sofar) (p : Placed) → Ready cs a s → Steps cs a b s o (Some (Next t p)) → Ready cs b t
   ready_next b o t p r k =
       let g = k.so in
       record { within = g.within; sized = g.puts.sized; top = g.puts.low; again = omega (arith, r.again, g.again) }
 
-  pub ready_opens : (b : List ℕ) (o : Found Format) (t : Sofar) (n : ℕ) → Ready cs a s → Steps cs a b s o (Opens t n) → Ready cs b t
+  pub ready_opens : (b : List ℕ) (o : Found Format) (t : Sofar) (n : ℕ) → Ready cs a s → Steps cs a b s o (Some (Opens t n)) → Ready cs b t
   ready_opens b o t n r k =
       let m = k.so.1 in
       record { within = m.within; sized = ap length m.words ∙ r.sized; top = omega (arith, r.top, m.top); again = omega (arith, r.again, m.again) }
 
-  pub falls_next : (b : List ℕ) (o : Found Format) (t : Sofar) (p : Placed) → Steps cs a b s o (Next t p) → (s.at < t.at) × (t.at ≤ length cs)
+  pub falls_next : (b : List ℕ) (o : Found Format) (t : Sofar) (p : Placed) → Steps cs a b s o (Some (Next t p)) → (s.at < t.at) × (t.at ≤ length cs)
   falls_next b o t p k = (k.so.onward, k.so.within)
 
-  pub falls_opens : (b : List ℕ) (o : Found Format) (t : Sofar) (n : ℕ) → Steps cs a b s o (Opens t n) → (s.at < t.at) × (t.at ≤ length cs)
+  pub falls_opens : (b : List ℕ) (o : Found Format) (t : Sofar) (n : ℕ) → Steps cs a b s o (Some (Opens t n)) → (s.at < t.at) × (t.at ≤ length cs)
   falls_opens b o t n k = (k.so.1.onward, k.so.1.within)
 
   -- ---- the list's end, or no list
 
-  pub list_wrong : (b : List ℕ) (o : Found Format) → Steps cs a b s o Wrong → Reads cs a b s o Bad
+  pub list_wrong : (b : List ℕ) (o : Found Format) → Steps cs a b s o None → Reads cs a b s o None
   list_wrong b o k = record { so = k.so }
 
-  pub list_closes : (b : List ℕ) (o : Found Format) (t : Sofar) → Ready cs a s → Steps cs a b s o (Closes t) → Reads cs a b s o (Good t)
+  pub list_closes : (b : List ℕ) (o : Found Format) (t : Sofar) → Ready cs a s → Steps cs a b s o (Some (Closes t)) → Reads cs a b s o (Some t)
   list_closes b o t r k =
       let m = k.so.1 in
       record {
@@ -90,9 +82,9 @@ module _ (cs a : List ℕ) (s : Sofar) where
 
   -- ---- a step and what follows
 
-  pub list_next : (b c : List ℕ) (o : Found Format) (t : Sofar) (p : Placed) → Steps cs a b s o (Next t p) → (r : Listed) → Reads cs b c t (list (place_of p) (drop t.at cs)) r → Reads cs a c s o r
-  list_next b c o t p k Bad h = record { so = k.so.is ∙ ap (before k.so.make) h.so }
-  list_next b c o t p k (Good u) h =
+  pub list_next : (b c : List ℕ) (o : Found Format) (t : Sofar) (p : Placed) → Steps cs a b s o (Some (Next t p)) → (r : Option Sofar) → Reads cs b c t (list (place_of p) (drop t.at cs)) r → Reads cs a c s o r
+  list_next b c o t p k None h = record { so = k.so.is ∙ ap (before k.so.make) h.so }
+  list_next b c o t p k (Some u) h =
       let g = k.so in
       let w = h.so in
       let same : map field_word g.fields ++ map field_word (written_out w.f) ≡ map field_word (written_out (g.make w.f)) = sym (map_append field_word g.fields (written_out w.f)) ∙ ap (map field_word) (sym (g.written w.f)) in
@@ -117,11 +109,11 @@ module _ (cs a : List ℕ) (s : Sofar) where
 
   -- ---- a group and what follows
 
-  module _ (b : List ℕ) (o : Found Format) (t : Sofar) (n : ℕ) (k : Steps cs a b s o (Opens t n)) where
-    pub group_wrong : (c : List ℕ) → Reads cs b c t (list first (drop t.at cs)) Bad → Reads cs a c s o Bad
+  module _ (b : List ℕ) (o : Found Format) (t : Sofar) (n : ℕ) (k : Steps cs a b s o (Some (Opens t n))) where
+    pub group_wrong : (c : List ℕ) → Reads cs b c t (list first (drop t.at cs)) None → Reads cs a c s o None
     group_wrong c h = record { so = k.so.0 ∙ ap (group_of list n) h.so }
 
-    module _ (r : Ready cs a s) (c : List ℕ) (u : Sofar) (h : Reads cs b c t (list first (drop t.at cs)) (Good u)) where
+    module _ (r : Ready cs a s) (c : List ℕ) (u : Sofar) (h : Reads cs b c t (list first (drop t.at cs)) (Some u)) where
       pub group_room : (length c ≡ most_words) × (t.top ≤ u.top) × (u.top ≤ most_words + 1)
       group_room =
           (h.so.puts.sized, once_above _ b c t.top u.top (omega (arith, r.top, k.so.1.top)) h.so.puts, h.so.puts.low)
@@ -146,9 +138,9 @@ module _ (cs a : List ℕ) (s : Sofar) where
         is_group : o ≡ before (group n h.so.f) (list after_field (drop u.at cs))
         is_group = k.so.0 ∙ ap (group_of list n) h.so.is
 
-        pub group_then : (e : List ℕ) (x : Listed) → Reads cs d e then (list after_field (drop u.at cs)) x → Reads cs a e s o x
-        group_then e Bad g = record { so = is_group ∙ ap (before (group n h.so.f)) g.so }
-        group_then e (Good v) g =
+        pub group_then : (e : List ℕ) (x : Option Sofar) → Reads cs d e then (list after_field (drop u.at cs)) x → Reads cs a e s o x
+        group_then e None g = record { so = is_group ∙ ap (before (group n h.so.f)) g.so }
+        group_then e (Some v) g =
             let w = g.so in
             let m = k.so.1 in
             let xs = written_out h.so.f in
@@ -186,13 +178,13 @@ module _ (cs a : List ℕ) (s : Sofar) where
 pub record Reading (cs a : List ℕ) (s : Sofar) (q : Placed) (b : List ℕ) (t : Sofar) (p : Placed) : Type 0 where
   pub ready : Ready cs b t
   pub onward : s.at ≤ t.at
-  pub goes : (c : List ℕ) (r : Listed) → Reads cs b c t (list (place_of p) (drop t.at cs)) r → Reads cs a c s (list (place_of q) (drop s.at cs)) r
+  pub goes : (c : List ℕ) (r : Option Sofar) → Reads cs b c t (list (place_of p) (drop t.at cs)) r → Reads cs a c s (list (place_of q) (drop s.at cs)) r
 
 pub reading_start : (cs a : List ℕ) (s : Sofar) (q : Placed) → Ready cs a s → Reading cs a s q a s q
 reading_start cs a s q r = record { ready = r; onward = omega arith; goes = λ c x h. h }
 
 module _ (cs a : List ℕ) (s : Sofar) (q : Placed) (b : List ℕ) (t : Sofar) (p : Placed) (i : Reading cs a s q b t p) (c : List ℕ) (u : Sofar) where
-  pub reading_next : (w : Placed) → Steps cs b c t (list (place_of p) (drop t.at cs)) (Next u w) → Reading cs a s q c u w
+  pub reading_next : (w : Placed) → Steps cs b c t (list (place_of p) (drop t.at cs)) (Some (Next u w)) → Reading cs a s q c u w
   reading_next w k =
       record {
         ready = ready_next cs b t c _ u w i.ready k;
@@ -200,7 +192,7 @@ module _ (cs a : List ℕ) (s : Sofar) (q : Placed) (b : List ℕ) (t : Sofar) (
         goes = λ d x h. i.goes d x (list_next cs b t c d _ u w k x h);
       }
 
-  pub reading_group : (n : ℕ) (k : Steps cs b c t (list (place_of p) (drop t.at cs)) (Opens u n)) (d : List ℕ) (v : Sofar) (h : Reads cs c d u (list first (drop u.at cs)) (Good v)) (e : List ℕ) (top : ℕ)
+  pub reading_group : (n : ℕ) (k : Steps cs b c t (list (place_of p) (drop t.at cs)) (Some (Opens u n))) (d : List ℕ) (v : Sofar) (h : Reads cs c d u (list first (drop u.at cs)) (Some v)) (e : List ℕ) (top : ℕ)
       → Repeats n d e u.top v.top top → Reading cs a s q e (record { at = v.at; top = top; again = u.top; numbers = v.numbers }) AfterField
   reading_group n k d v h e top m =
       record {

@@ -6,6 +6,7 @@ use mathlib.Core.List.{List, ◌∷◌}
 use Prim.Native.Nat.{ℕ, ◌+◌, ◌-◌, ◌*◌, ◌≤◌, ◌<◌}
 use native.Mathlib.Numerals.{add-one}
 use native.Mathlib.Omega.{arith}
+use Rattle.std.proofs.lemmas.Bool.Decides.{nat_tests}
 use borrow.Author.Tests.{le-leb, lt-leb, eq-eqb, ne_eqb}
 use lib.Dec.{leb}
 use lib.ListN.{length, drop, get_or, drop_of_length-le}
@@ -13,7 +14,8 @@ use lib.Seq.{drop-cons}
 use Rattle.rules_formats.specs.Fields.{is_blank, is_digit}
 use Rattle.rules_formats.specs.Punched.{found, grown, number_from, right_number}
 use Rattle.read_formats.specs.declared.Run.{Run}
-use Rattle.read_formats.specs.Reads.{Capped, exact, large, Grown, Tested, Counts}
+use Rattle.std.specs.Prelude.{Option, Some, None}
+use Rattle.read_formats.specs.Reads.{Capped, exact, large, Grown, run_of, Counts}
 
 -- the column at i, and those after it
 pub split : (s : List ℕ) (i : ℕ) → i < length s → drop i s ≡ get_or s i 0 ∷ drop (i + 1) s
@@ -63,6 +65,16 @@ grown_fits n c d l h e g = record { low = omega arith; is = λ v k. subst (λ (x
 
 -- ---- the run
 
+at_least : (v : ℕ) → right_number v ≡ true → 1 ≤ v
+at_least v e = grind (arith, nat_tests)
+
+at_most : (v : ℕ) → right_number v ≡ true → v ≤ 99999
+at_most v e = grind (arith, nat_tests)
+
+same_run : (w v i : ℕ) → Capped w v → run_of v i ≡ run_of w i
+same_run w v i (exact l q) = ap (λ (x : ℕ). run_of x i) q
+same_run w v i (large l q) = rw (q, lt-leb w 99999 l, le-leb 1 w (omega arith)) refl
+
 pub record Counting (columns : List ℕ) (at n v i : ℕ) : Type 0 where
   pub w : ℕ
   pub capped : Capped w v
@@ -92,33 +104,39 @@ module _ (columns : List ℕ) (at n v i : ℕ) (k : Counting columns at n v i) w
         within = omega arith;
       }
 
-  done : number_from k.w (drop i columns) ≡ found k.w (drop i columns) → (r : Run) → Tested v i r → Counts columns at n r
-  done e r t =
-      record {
-        v = k.w;
-        is = k.is ∙ e ∙ ap (λ (j : ℕ). found k.w (drop j columns)) (sym t.there);
-        onward = omega (arith, k.onward, t.there);
-        within = omega (arith, k.within, t.there);
-        low = t.low;
-        same = λ h. same k.w k.capped h;
-        right = λ h. right k.w k.capped h;
-        wrong = λ h. wrong k.w k.capped h;
-      }
+  done : number_from k.w (drop i columns) ≡ found k.w (drop i columns) → Counts columns at n (run_of v i)
+  done e = record { v = k.w; end = i; is = k.is ∙ e; onward = k.onward; within = k.within; told = same_run k.w v i k.capped }
+
+  pub counted_stop : i < length columns → is_blank (get_or columns i 0) || is_digit (get_or columns i 0) ≡ false → Counts columns at n (run_of v i)
+  counted_stop h e = done (ap (number_from k.w) (split columns i h) ∙ stops k.w (get_or columns i 0) (drop (i + 1) columns) e ∙ ap (found k.w) (sym (split columns i h)))
+
+  pub counted_end : length columns ≤ i → Counts columns at n (run_of v i)
+  counted_end h = done (ap (number_from k.w) (drop_of_length-le columns h) ∙ ap (found k.w) (sym (drop_of_length-le columns h)))
+
+-- ---- what a number's run tells
+
+-- there is one
+pub record Counted (columns : List ℕ) (at n : ℕ) (r : Run) : Type 0 where
+  pub is : number_from n (drop at columns) ≡ found r.value (drop r.at columns)
+  pub onward : at ≤ r.at
+  pub within : r.at ≤ length columns
+  pub right : right_number r.value ≡ true
+  pub least : 1 ≤ r.value
+  pub most : r.value ≤ 99999
+
+module _ (columns : List ℕ) (at n : ℕ) where
+  pub counted_some : (r : Run) → Counts columns at n (Some r) → Counted columns at n r
+  counted_some r k = go (right_number k.v) refl k.told
     where
-      same : (w : ℕ) → Capped w v → 0 < r.value → r.value ≡ w
-      same w (exact l q) h = omega (arith, t.same (omega arith))
-      same w (large l q) h = absurd (omega (arith, t.none (omega arith)))
+      go : (b : Bool) → right_number k.v ≡ b → ◌≡◌ {A = Option Run} (Some r) (cond b (Some (record { value = k.v; at = k.end })) None) → Counted columns at n r
+      go true q e =
+          let same : r ≡ record { value = k.v; at = k.end } = cc e in
+          subst (Counted columns at n) (sym same) (record { is = k.is; onward = k.onward; within = k.within; right = q; least = at_least k.v q; most = at_most k.v q })
+      go false q e = cc e
 
-      right : (w : ℕ) → Capped w v → 0 < r.value → right_number w ≡ true
-      right w (exact l q) h = rw (le-leb 1 w (omega (arith, t.same (omega arith))), le-leb w 99999 l) refl
-      right w (large l q) h = absurd (omega (arith, t.none (omega arith)))
-
-      wrong : (w : ℕ) → Capped w v → r.value ≡ 0 → right_number w ≡ false
-      wrong w (exact l q) h = rw (lt-leb 1 w (omega (arith, t.same (omega arith)))) refl
-      wrong w (large l q) h = rw (lt-leb w 99999 l, le-leb 1 w (omega arith)) refl
-
-  pub counted_stop : i < length columns → is_blank (get_or columns i 0) || is_digit (get_or columns i 0) ≡ false → (r : Run) → Tested v i r → Counts columns at n r
-  counted_stop h e r t = done (ap (number_from k.w) (split columns i h) ∙ stops k.w (get_or columns i 0) (drop (i + 1) columns) e ∙ ap (found k.w) (sym (split columns i h))) r t
-
-  pub counted_end : length columns ≤ i → (r : Run) → Tested v i r → Counts columns at n r
-  counted_end h r t = done (ap (number_from k.w) (drop_of_length-le columns h) ∙ ap (found k.w) (sym (drop_of_length-le columns h))) r t
+  pub counted_none : (k : Counts columns at n None) → right_number k.v ≡ false
+  counted_none k = go (right_number k.v) refl k.told
+    where
+      go : (b : Bool) → right_number k.v ≡ b → ◌≡◌ {A = Option Run} None (cond b (Some (record { value = k.v; at = k.end })) None) → right_number k.v ≡ false
+      go true q e = cc e
+      go false q e = q

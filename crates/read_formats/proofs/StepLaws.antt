@@ -20,16 +20,17 @@ use Rattle.read_formats.specs.declared.Run.{Run}
 use Rattle.read_formats.specs.declared.Place.{Place as Placed}
 use Rattle.read_formats.specs.declared.Place.TheVariants.{AfterComma, AfterSlash, AfterField}
 use Rattle.read_formats.specs.declared.Step.{Step}
-use Rattle.read_formats.specs.declared.Step.TheVariants.{Bad, Closes, Next, Opens}
-use Rattle.read_formats.specs.Reads.{place_of, Counts, Ready, Ahead, Moved, field_at, Steps}
-use Rattle.read_formats.proofs.NumberLaws.{split}
+use Rattle.read_formats.specs.declared.Step.TheVariants.{Closes, Next, Opens}
+use Rattle.std.specs.Prelude.{Option, Some, None}
+use Rattle.read_formats.specs.Reads.{place_of, Counts, Ready, Ahead, field_at, Steps}
+use Rattle.read_formats.proofs.NumberLaws.{split, Counted, counted_none}
 use Rattle.read_formats.proofs.PutLaws.{puts_none, puts_same}
 
 -- what is said of one reading is said of another that is equal
-pub steps_same : (cs a b : List ℕ) (s : Sofar) (o q : Found Format) (r : Step) → o ≡ q → Steps cs a b s q r → Steps cs a b s o r
+pub steps_same : (cs a b : List ℕ) (s : Sofar) (o q : Found Format) (r : Option Step) → o ≡ q → Steps cs a b s q r → Steps cs a b s o r
 steps_same cs a b s o q r e h = subst (λ (x : Found Format). Steps cs a b s x r) (sym e) h
 
-pub steps_bad : (cs a b : List ℕ) (s : Sofar) (o : Found Format) → o ≡ bad → Steps cs a b s o Bad
+pub steps_bad : (cs a b : List ℕ) (s : Sofar) (o : Found Format) → o ≡ bad → Steps cs a b s o None
 steps_bad cs a b s o e = record { so = e }
 
 -- ---- small laws
@@ -54,9 +55,15 @@ words_of_text : (cs : List ℕ) → text_words cs ≡ map field_word (map H cs)
 words_of_text [] = refl
 words_of_text (c ∷ cs) = ap (λ (l : List ℕ). (50331648 + c) ∷ l) (words_of_text cs)
 
-pub some_value : (v : ℕ) → (v ≡ 0 → ⊥) → 0 < v
-some_value zero g = absurd (g refl)
-some_value (suc v) g = omega arith
+-- reading goes on at a column, with so many words
+pub record Moved (s : Sofar) (column count : ℕ) (t : Sofar) : Type 0 where
+  pub there : t.at ≡ column
+  pub top : t.top ≡ count
+  pub again : t.again ≡ s.again
+  pub numbers : t.numbers ≡ s.numbers
+
+pub moved : (s : Sofar) (column count : ℕ) → Moved s column count (record { at = column; top = count; again = s.again; numbers = s.numbers })
+moved s column count = record { there = refl; top = refl; again = refl; numbers = refl }
 
 -- ---- marks
 
@@ -123,26 +130,22 @@ column_field p c cs b k s r =
 module _ (cs a : List ℕ) (s : Sofar) where
   -- ---- the width after nI
 
-  pub width_bad : (at n : ℕ) (w : Run) → Counts cs at 0 w → w.value ≡ 0 → Steps cs a a s (width_of list n (number_from 0 (drop at cs))) Bad
-  width_bad at n w k e =
-      record {
-        so = ap (width_of list n) k.is ∙ ap (λ (b : Bool). provided b (before (number n k.v) (list after_field (drop w.at cs)))) (k.wrong e);
-      }
+  pub width_bad : (at n : ℕ) → Counts cs at 0 None → Steps cs a a s (width_of list n (number_from 0 (drop at cs))) None
+  width_bad at n k = record { so = ap (width_of list n) k.is ∙ ap (λ (b : Bool). provided b (before (number n k.v) (list after_field (drop k.end cs)))) (counted_none cs at 0 k) }
 
-  pub width_goes : (at n : ℕ) → Ahead cs a s at n → (w : Run) → Counts cs at 0 w → (w.value ≡ 0 → ⊥) → (b c : List ℕ) (once top : ℕ)
+  pub width_goes : (at n : ℕ) → Ahead cs a s at n → (w : Run) → Counted cs at 0 w → (b c : List ℕ) (once top : ℕ)
       → Puts ((16777216 + w.value) ∷ []) a b s.top once → Repeats n b c s.top once top
-      → Steps cs a c s (width_of list n (number_from 0 (drop at cs))) (Next (record { at = w.at; top = top; again = s.again; numbers = true }) AfterField)
-  width_goes at n h w k e b c once top p q =
-      let pos : 0 < w.value = some_value w.value e in
-      let same : times n ((16777216 + w.value) ∷ []) ≡ map field_word (replicate n (I k.v)) = ap (λ (v : ℕ). times n ((16777216 + v) ∷ [])) (k.same pos) ∙ words_repeated n k.v in
+      → Steps cs a c s (width_of list n (number_from 0 (drop at cs))) (Some (Next (record { at = w.at; top = top; again = s.again; numbers = true }) AfterField))
+  width_goes at n h w k b c once top p q =
+      let same : times n ((16777216 + w.value) ∷ []) ≡ map field_word (replicate n (I w.value)) = words_repeated n w.value in
       record {
         so =
             record {
-              make = number n k.v;
-              fields = replicate n (I k.v);
-              is = ap (width_of list n) k.is ∙ ap (λ (b : Bool). provided b (before (number n k.v) (list after_field (drop w.at cs)))) (k.right pos);
+              make = number n w.value;
+              fields = replicate n (I w.value);
+              is = ap (width_of list n) k.is ∙ ap (λ (b : Bool). provided b (before (number n w.value) (list after_field (drop w.at cs)))) k.right;
               written = λ f. refl;
-              scan = λ x y f. ap (λ (m : ℕ). again_from x (y + m) f) (sym (length-replicate n (I k.v)));
+              scan = λ x y f. ap (λ (m : ℕ). again_from x (y + m) f) (sym (length-replicate n (I w.value)));
               numbered = λ f. or_true s.numbers;
               puts = puts_same _ _ a c s.top top same (q.is ((16777216 + w.value) ∷ []) a h.ready.top p);
               again = refl;
@@ -158,19 +161,19 @@ module _ (cs a : List ℕ) (s : Sofar) where
     is : (c : ℕ) → get_or cs at 0 ≡ c → counted list n (mark_of (get_or cs at 0)) (drop (at + 1) cs) ≡ counted list n (mark_of c) (drop (at + 1) cs)
     is c e = ap (λ (x : ℕ). counted list n (mark_of x) (drop (at + 1) cs)) e
 
-    pub count_number : get_or cs at 0 ≡ letter_i → (b : List ℕ) (r : Step) → Steps cs a b s (width_of list n (number_from 0 (drop (at + 1) cs))) r
+    pub count_number : get_or cs at 0 ≡ letter_i → (b : List ℕ) (r : Option Step) → Steps cs a b s (width_of list n (number_from 0 (drop (at + 1) cs))) r
         → Steps cs a b s (counted list n (mark_of (get_or cs at 0)) (drop (at + 1) cs)) r
     count_number e b r k = steps_same cs a b s _ _ r (is letter_i e) k
 
     pub count_group : get_or cs at 0 ≡ left_paren
-        → Steps cs a a s (counted list n (mark_of (get_or cs at 0)) (drop (at + 1) cs)) (Opens (record { at = at + 1; top = s.top; again = s.again; numbers = s.numbers }) n)
+        → Steps cs a a s (counted list n (mark_of (get_or cs at 0)) (drop (at + 1) cs)) (Some (Opens (record { at = at + 1; top = s.top; again = s.again; numbers = s.numbers }) n))
     count_group e =
         record {
           so = (is left_paren e, record { words = refl; top = refl; again = refl; numbers = refl; onward = h.onward; within = h.inside }, h.least, h.most);
         }
 
     pub count_skip : get_or cs at 0 ≡ letter_x → (b : List ℕ) (top : ℕ) → Puts ((33554432 + n) ∷ []) a b s.top top
-        → Steps cs a b s (counted list n (mark_of (get_or cs at 0)) (drop (at + 1) cs)) (Next (record { at = at + 1; top = top; again = s.again; numbers = s.numbers }) AfterField)
+        → Steps cs a b s (counted list n (mark_of (get_or cs at 0)) (drop (at + 1) cs)) (Some (Next (record { at = at + 1; top = top; again = s.again; numbers = s.numbers }) AfterField))
     count_skip e b top p =
         record {
           so =
@@ -188,7 +191,7 @@ module _ (cs a : List ℕ) (s : Sofar) where
               };
         }
 
-    pub count_short : get_or cs at 0 ≡ letter_h → length cs - (at + 1) < n → Steps cs a a s (counted list n (mark_of (get_or cs at 0)) (drop (at + 1) cs)) Bad
+    pub count_short : get_or cs at 0 ≡ letter_h → length cs - (at + 1) < n → Steps cs a a s (counted list n (mark_of (get_or cs at 0)) (drop (at + 1) cs)) None
     count_short e l =
         record {
           so =
@@ -198,7 +201,7 @@ module _ (cs a : List ℕ) (s : Sofar) where
         }
 
     pub count_text : get_or cs at 0 ≡ letter_h → n ≤ length cs - (at + 1) → (b : List ℕ) (top : ℕ) → Puts (text_words (take n (drop (at + 1) cs))) a b s.top top
-        → Steps cs a b s (counted list n (mark_of (get_or cs at 0)) (drop (at + 1) cs)) (Next (record { at = at + 1 + n; top = top; again = s.again; numbers = s.numbers }) AfterField)
+        → Steps cs a b s (counted list n (mark_of (get_or cs at 0)) (drop (at + 1) cs)) (Some (Next (record { at = at + 1 + n; top = top; again = s.again; numbers = s.numbers }) AfterField))
     count_text e l b top p =
         record {
           so =
@@ -225,12 +228,12 @@ module _ (cs a : List ℕ) (s : Sofar) where
   pub ahead_once : Ready cs a s → s.at < length cs → Ahead cs a s (s.at + 1) 1
   ahead_once r l = record { ready = r; onward = omega arith; inside = omega arith; least = omega arith; most = omega arith }
 
-  pub ahead_counted : Ready cs a s → (d : ℕ) (n : Run) → Counts cs (s.at + 1) d n → 0 < n.value → n.at < length cs → Ahead cs a s (n.at + 1) n.value
-  ahead_counted r d n k l h = record { ready = r; onward = omega (arith, k.onward); inside = omega arith; least = omega arith; most = k.low }
+  pub ahead_counted : Ready cs a s → (d : ℕ) (n : Run) → Counted cs (s.at + 1) d n → n.at < length cs → Ahead cs a s (n.at + 1) n.value
+  ahead_counted r d n k h = record { ready = r; onward = omega (arith, k.onward); inside = omega arith; least = k.least; most = k.most }
 
   module _ (inside : s.at < length cs) where
     -- with no count: I, or a group
-    pub field_once : (c : ℕ) → get_or cs s.at 0 ≡ c → field_at (mark_of c) (drop (s.at + 1) cs) ≡ counted list 1 (mark_of c) (drop (s.at + 1) cs) → (b : List ℕ) (r : Step)
+    pub field_once : (c : ℕ) → get_or cs s.at 0 ≡ c → field_at (mark_of c) (drop (s.at + 1) cs) ≡ counted list 1 (mark_of c) (drop (s.at + 1) cs) → (b : List ℕ) (r : Option Step)
         → Steps cs a b s (counted list 1 (mark_of (get_or cs s.at 0)) (drop (s.at + 1) cs)) r → Steps cs a b s (field_at (mark_of (get_or cs s.at 0)) (drop (s.at + 1) cs)) r
     field_once c e same b r k =
         steps_same cs a b s _ _ r
@@ -245,10 +248,10 @@ module _ (cs a : List ℕ) (s : Sofar) where
         ap (λ (b : Bool). field_at (marked b (is_blank c) (eqb c comma) (eqb c stroke) (eqb c left_paren) (eqb c right_paren) (eqb c letter_i) (eqb c letter_x) (eqb c letter_h) c) (drop (s.at + 1) cs)) is
         ∙ ap (λ (x : ℕ). after_count list (number_from x (drop (s.at + 1) cs))) same
 
-    pub field_low : (get_or cs s.at 0 ≡ letter_i → ⊥) → (get_or cs s.at 0 ≡ left_paren → ⊥) → get_or cs s.at 0 < 48 → Steps cs a a s (field_at (mark_of (get_or cs s.at 0)) (drop (s.at + 1) cs)) Bad
+    pub field_low : (get_or cs s.at 0 ≡ letter_i → ⊥) → (get_or cs s.at 0 ≡ left_paren → ⊥) → get_or cs s.at 0 < 48 → Steps cs a a s (field_at (mark_of (get_or cs s.at 0)) (drop (s.at + 1) cs)) None
     field_low i l h = record { so = field_bad (get_or cs s.at 0) _ i l (ap (λ (b : Bool). b && leb (get_or cs s.at 0) 57) (lt-leb 48 (get_or cs s.at 0) h)) }
 
-    pub field_high : (get_or cs s.at 0 ≡ letter_i → ⊥) → (get_or cs s.at 0 ≡ left_paren → ⊥) → 48 ≤ get_or cs s.at 0 → 57 < get_or cs s.at 0 → Steps cs a a s (field_at (mark_of (get_or cs s.at 0)) (drop (s.at + 1) cs)) Bad
+    pub field_high : (get_or cs s.at 0 ≡ letter_i → ⊥) → (get_or cs s.at 0 ≡ left_paren → ⊥) → 48 ≤ get_or cs s.at 0 → 57 < get_or cs s.at 0 → Steps cs a a s (field_at (mark_of (get_or cs s.at 0)) (drop (s.at + 1) cs)) None
     field_high i l g h =
         record {
           so =
@@ -256,34 +259,34 @@ module _ (cs a : List ℕ) (s : Sofar) where
               (ap (λ (b : Bool). b && leb (get_or cs s.at 0) 57) (le-leb 48 (get_or cs s.at 0) g) ∙ lt-leb (get_or cs s.at 0) 57 h);
         }
 
-    module _ (d : ℕ) (l : 48 ≤ get_or cs s.at 0) (m : get_or cs s.at 0 ≤ 57) (e : d + 48 ≡ get_or cs s.at 0) (n : Run) (k : Counts cs (s.at + 1) d n) where
-      count_is : field_at (mark_of (get_or cs s.at 0)) (drop (s.at + 1) cs) ≡ after_count list (found k.v (drop n.at cs))
-      count_is = digit_at d l m e ∙ ap (after_count list) k.is
-
+    module _ (d : ℕ) (l : 48 ≤ get_or cs s.at 0) (m : get_or cs s.at 0 ≤ 57) (e : d + 48 ≡ get_or cs s.at 0) where
       wrong : (v : ℕ) (rest : List ℕ) → right_number v ≡ false → after_count list (found v rest) ≡ bad
       wrong v [] w = refl
       wrong v (c ∷ rest) w = ap (λ (b : Bool). provided b (counted list v (mark_of c) rest)) w
 
-      pub field_wrong : n.value ≡ 0 → Steps cs a a s (field_at (mark_of (get_or cs s.at 0)) (drop (s.at + 1) cs)) Bad
-      field_wrong z = record { so = count_is ∙ wrong k.v (drop n.at cs) (k.wrong z) }
+      pub field_wrong : Counts cs (s.at + 1) d None → Steps cs a a s (field_at (mark_of (get_or cs s.at 0)) (drop (s.at + 1) cs)) None
+      field_wrong k = record { so = digit_at d l m e ∙ ap (after_count list) k.is ∙ wrong k.v (drop k.end cs) (counted_none cs (s.at + 1) d k) }
 
-      pub field_ends : length cs ≤ n.at → Steps cs a a s (field_at (mark_of (get_or cs s.at 0)) (drop (s.at + 1) cs)) Bad
-      field_ends z = record { so = count_is ∙ ap (λ (x : List ℕ). after_count list (found k.v x)) (drop_of_length-le cs z) }
+      module _ (n : Run) (k : Counted cs (s.at + 1) d n) where
+        count_is : field_at (mark_of (get_or cs s.at 0)) (drop (s.at + 1) cs) ≡ after_count list (found n.value (drop n.at cs))
+        count_is = digit_at d l m e ∙ ap (after_count list) k.is
 
-      pub field_counted : 0 < n.value → n.at < length cs → (b : List ℕ) (r : Step)
-          → Steps cs a b s (counted list n.value (mark_of (get_or cs n.at 0)) (drop (n.at + 1) cs)) r
-          → Steps cs a b s (field_at (mark_of (get_or cs s.at 0)) (drop (s.at + 1) cs)) r
-      field_counted z g b r h =
-          steps_same cs a b s _ _ r
-          (count_is
-          ∙ ap (λ (x : List ℕ). after_count list (found k.v x)) (split cs n.at g)
-          ∙ ap (λ (x : Bool). provided x (counted list k.v (mark_of (get_or cs n.at 0)) (drop (n.at + 1) cs))) (k.right z)
-          ∙ ap (λ (x : ℕ). counted list x (mark_of (get_or cs n.at 0)) (drop (n.at + 1) cs)) (sym (k.same z))) h
+        pub field_ends : length cs ≤ n.at → Steps cs a a s (field_at (mark_of (get_or cs s.at 0)) (drop (s.at + 1) cs)) None
+        field_ends z = record { so = count_is ∙ ap (λ (x : List ℕ). after_count list (found n.value x)) (drop_of_length-le cs z) }
+
+        pub field_counted : n.at < length cs → (b : List ℕ) (r : Option Step)
+            → Steps cs a b s (counted list n.value (mark_of (get_or cs n.at 0)) (drop (n.at + 1) cs)) r
+            → Steps cs a b s (field_at (mark_of (get_or cs s.at 0)) (drop (s.at + 1) cs)) r
+        field_counted g b r h =
+            steps_same cs a b s _ _ r
+            (count_is
+            ∙ ap (λ (x : List ℕ). after_count list (found n.value x)) (split cs n.at g)
+            ∙ ap (λ (x : Bool). provided x (counted list n.value (mark_of (get_or cs n.at 0)) (drop (n.at + 1) cs))) k.right) h
 
   -- ---- any column of a list
 
   module _ (p : Placed) where
-    pub one_end : length cs ≤ s.at → Steps cs a a s (list (place_of p) (drop s.at cs)) Bad
+    pub one_end : length cs ≤ s.at → Steps cs a a s (list (place_of p) (drop s.at cs)) None
     one_end h = record { so = ap (list (place_of p)) (drop_of_length-le cs h) ∙ list_none (place_of p) }
 
     module _ (ready : Ready cs a s) (inside : s.at < length cs) where
@@ -295,7 +298,7 @@ module _ (cs a : List ℕ) (s : Sofar) where
 
       -- nothing but the column is passed
       passed : (t : Sofar) → Moved s (s.at + 1) s.top t → (q : Placed) → list (place_of p) (drop s.at cs) ≡ list (place_of q) (drop (s.at + 1) cs)
-          → Steps cs a a s (list (place_of p) (drop s.at cs)) (Next t q)
+          → Steps cs a a s (list (place_of p) (drop s.at cs)) (Some (Next t q))
       passed t m q e =
           record {
             so =
@@ -313,20 +316,20 @@ module _ (cs a : List ℕ) (s : Sofar) where
                 };
           }
 
-      pub one_blank : get_or cs s.at 0 ≡ 32 → (t : Sofar) → Moved s (s.at + 1) s.top t → Steps cs a a s (list (place_of p) (drop s.at cs)) (Next t p)
+      pub one_blank : get_or cs s.at 0 ≡ 32 → (t : Sofar) → Moved s (s.at + 1) s.top t → Steps cs a a s (list (place_of p) (drop s.at cs)) (Some (Next t p))
       one_blank e t m = passed t m p (there 32 e)
 
-      pub no_comma : get_or cs s.at 0 ≡ comma → may_comma (place_of p) ≡ false → Steps cs a a s (list (place_of p) (drop s.at cs)) Bad
+      pub no_comma : get_or cs s.at 0 ≡ comma → may_comma (place_of p) ≡ false → Steps cs a a s (list (place_of p) (drop s.at cs)) None
       no_comma e w = record { so = there comma e ∙ ap (λ (b : Bool). provided b (list after_comma (drop (s.at + 1) cs))) w }
 
-      pub one_comma : get_or cs s.at 0 ≡ comma → may_comma (place_of p) ≡ true → (t : Sofar) → Moved s (s.at + 1) s.top t → Steps cs a a s (list (place_of p) (drop s.at cs)) (Next t AfterComma)
+      pub one_comma : get_or cs s.at 0 ≡ comma → may_comma (place_of p) ≡ true → (t : Sofar) → Moved s (s.at + 1) s.top t → Steps cs a a s (list (place_of p) (drop s.at cs)) (Some (Next t AfterComma))
       one_comma e w t m = passed t m AfterComma (there comma e ∙ ap (λ (b : Bool). provided b (list after_comma (drop (s.at + 1) cs))) w)
 
-      pub no_slash : get_or cs s.at 0 ≡ stroke → may_slash (place_of p) ≡ false → Steps cs a a s (list (place_of p) (drop s.at cs)) Bad
+      pub no_slash : get_or cs s.at 0 ≡ stroke → may_slash (place_of p) ≡ false → Steps cs a a s (list (place_of p) (drop s.at cs)) None
       no_slash e w = record { so = there stroke e ∙ ap (λ (b : Bool). provided b (before slash (list after_slash (drop (s.at + 1) cs)))) w }
 
       pub one_slash : get_or cs s.at 0 ≡ stroke → may_slash (place_of p) ≡ true → (b : List ℕ) (top : ℕ) → Puts (67108864 ∷ []) a b s.top top
-          → (t : Sofar) → Moved s (s.at + 1) top t → Steps cs a b s (list (place_of p) (drop s.at cs)) (Next t AfterSlash)
+          → (t : Sofar) → Moved s (s.at + 1) top t → Steps cs a b s (list (place_of p) (drop s.at cs)) (Some (Next t AfterSlash))
       one_slash e w b top q t m =
           record {
             so =
@@ -347,10 +350,10 @@ module _ (cs a : List ℕ) (s : Sofar) where
                 };
           }
 
-      pub no_close : get_or cs s.at 0 ≡ right_paren → may_close (place_of p) ≡ false → Steps cs a a s (list (place_of p) (drop s.at cs)) Bad
+      pub no_close : get_or cs s.at 0 ≡ right_paren → may_close (place_of p) ≡ false → Steps cs a a s (list (place_of p) (drop s.at cs)) None
       no_close e w = record { so = there right_paren e ∙ ap (λ (b : Bool). provided b (found close (drop (s.at + 1) cs))) w }
 
-      pub one_close : get_or cs s.at 0 ≡ right_paren → may_close (place_of p) ≡ true → (t : Sofar) → Moved s (s.at + 1) s.top t → Steps cs a a s (list (place_of p) (drop s.at cs)) (Closes t)
+      pub one_close : get_or cs s.at 0 ≡ right_paren → may_close (place_of p) ≡ true → (t : Sofar) → Moved s (s.at + 1) s.top t → Steps cs a a s (list (place_of p) (drop s.at cs)) (Some (Closes t))
       one_close e w t m =
           record {
             so = (
@@ -363,8 +366,8 @@ module _ (cs a : List ℕ) (s : Sofar) where
         some_field : list (place_of p) (drop s.at cs) ≡ provided (may_field (place_of p)) (field_at (mark_of (get_or cs s.at 0)) (drop (s.at + 1) cs))
         some_field = here ∙ column_field (place_of p) (get_or cs s.at 0) (drop (s.at + 1) cs) b k t r
 
-        pub no_field : may_field (place_of p) ≡ false → Steps cs a a s (list (place_of p) (drop s.at cs)) Bad
+        pub no_field : may_field (place_of p) ≡ false → Steps cs a a s (list (place_of p) (drop s.at cs)) None
         no_field w = record { so = some_field ∙ ap (λ (x : Bool). provided x (field_at (mark_of (get_or cs s.at 0)) (drop (s.at + 1) cs))) w }
 
-        pub one_field : may_field (place_of p) ≡ true → (c : List ℕ) (u : Step) → Steps cs a c s (field_at (mark_of (get_or cs s.at 0)) (drop (s.at + 1) cs)) u → Steps cs a c s (list (place_of p) (drop s.at cs)) u
+        pub one_field : may_field (place_of p) ≡ true → (c : List ℕ) (u : Option Step) → Steps cs a c s (field_at (mark_of (get_or cs s.at 0)) (drop (s.at + 1) cs)) u → Steps cs a c s (list (place_of p) (drop s.at cs)) u
         one_field w c u h = steps_same cs a c s _ _ u (some_field ∙ ap (λ (x : Bool). provided x (field_at (mark_of (get_or cs s.at 0)) (drop (s.at + 1) cs))) w) h

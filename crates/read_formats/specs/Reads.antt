@@ -1,7 +1,7 @@
 -- What the code's parts of reading a FORMAT answer.
 -- Assumes nothing.
-use Rattle.std.specs.Prelude.{◌≡◌, Bool, true, false, ◌||◌, cond, List, ◌++◌, map, ℕ, ◌+◌, ◌≤◌, ◌<◌, length, drop}
-use Rattle.std.proofs.Math.Option.{Option, none, some}
+use Rattle.std.specs.Prelude.{◌≡◌, Bool, ◌||◌, cond, Option, Some, None, List, ◌++◌, map, ℕ, ◌+◌, ◌≤◌, ◌<◌, length, drop}
+use Rattle.std.proofs.Math.Option as book
 use Rattle.rules_formats.specs.Format.{Format, close, Field, written_out, again_from, has_number}
 use Rattle.rules_formats.specs.Words.{most_words, field_word}
 use Rattle.rules_formats.specs.Punched.{Mark, a_blank, a_comma, a_stroke, a_left, a_right, an_i, an_x, an_h, other, a_digit, Found, found, bad, before as followed, grown, number_from, most_number, right_number, Place, first, after_comma, after_slash, after_field, counted, group_of, after_count, list, without_blanks, alone}
@@ -11,11 +11,7 @@ use Rattle.read_formats.specs.declared.Place.TheVariants.{First, AfterComma, Aft
 use Rattle.read_formats.specs.declared.Sofar.{Sofar}
 use Rattle.read_formats.specs.declared.Run.{Run}
 use Rattle.read_formats.specs.declared.Step.{Step}
-use Rattle.read_formats.specs.declared.Step.TheVariants.{Bad, Closes, Next, Opens}
-use Rattle.read_formats.specs.declared.Listed.{Listed}
-use Rattle.read_formats.specs.declared.Listed.TheVariants.{Bad as NoList, Good}
-use Rattle.read_formats.specs.declared.Stands.{Stands}
-use Rattle.read_formats.specs.declared.Stands.TheVariants.{No, At}
+use Rattle.read_formats.specs.declared.Step.TheVariants.{Closes, Next, Opens}
 
 abbrev pub place_of : Placed → Place
 place_of First = first
@@ -35,23 +31,18 @@ pub record Grown (n c r : ℕ) : Type 0 where
   pub low : r ≤ most_number + 1
   pub is : (v : ℕ) → Capped v n → Capped (grown v c) r
 
--- 0 for what is over
-pub record Tested (v at : ℕ) (r : Run) : Type 0 where
-  pub there : r.at ≡ at
-  pub low : r.value ≤ most_number
-  pub same : v ≤ most_number → r.value ≡ v
-  pub none : most_number < v → r.value ≡ 0
+-- a number from 1 to 99999, and the column after its run
+abbrev pub run_of : ℕ → ℕ → Option Run
+run_of v at = cond (right_number v) (Some (record { value = v; at = at })) None
 
--- the book's number v, or 0 where that is none from 1 to 99999; and the column after its run
-pub record Counts (columns : List ℕ) (at n : ℕ) (r : Run) : Type 0 where
+-- the book's number v, if it is one from 1 to 99999, and the column after its run
+pub record Counts (columns : List ℕ) (at n : ℕ) (r : Option Run) : Type 0 where
   pub v : ℕ
-  pub is : number_from n (drop at columns) ≡ found v (drop r.at columns)
-  pub onward : at ≤ r.at
-  pub within : r.at ≤ length columns
-  pub low : r.value ≤ most_number
-  pub same : 0 < r.value → r.value ≡ v
-  pub right : 0 < r.value → right_number v ≡ true
-  pub wrong : r.value ≡ 0 → right_number v ≡ false
+  pub end : ℕ
+  pub is : number_from n (drop at columns) ≡ found v (drop end columns)
+  pub onward : at ≤ end
+  pub within : end ≤ length columns
+  pub told : r ≡ run_of v end
 
 -- ---- one step
 
@@ -83,13 +74,6 @@ field_at an_x cs = bad
 field_at an_h cs = bad
 field_at other cs = bad
 
--- reading goes on at a column, with so many words
-pub record Moved (s : Sofar) (column count : ℕ) (t : Sofar) : Type 0 where
-  pub there : t.at ≡ column
-  pub top : t.top ≡ count
-  pub again : t.again ≡ s.again
-  pub numbers : t.numbers ≡ s.numbers
-
 -- nothing was put, and reading is some columns further
 pub record Same (columns before after : List ℕ) (s t : Sofar) : Type 0 where
   pub words : after ≡ before
@@ -113,13 +97,13 @@ pub record Goes (columns before after : List ℕ) (s : Sofar) (o : Found Format)
   pub within : t.at ≤ length columns
 
 -- what one field or mark answers, where o is the book's reading from it on
-abbrev pub StepsSo : List ℕ → List ℕ → List ℕ → Sofar → Found Format → Step → Type 0
-StepsSo columns a b s o Bad = o ≡ bad
-StepsSo columns a b s o (Closes t) = (o ≡ found close (drop t.at columns)) × Same columns a b s t
-StepsSo columns a b s o (Next t p) = Goes columns a b s o t (place_of p)
-StepsSo columns a b s o (Opens t n) = (o ≡ group_of list n (list first (drop t.at columns))) × Same columns a b s t × (1 ≤ n) × (n ≤ most_number)
+abbrev pub StepsSo : List ℕ → List ℕ → List ℕ → Sofar → Found Format → Option Step → Type 0
+StepsSo columns a b s o None = o ≡ bad
+StepsSo columns a b s o (Some (Closes t)) = (o ≡ found close (drop t.at columns)) × Same columns a b s t
+StepsSo columns a b s o (Some (Next t p)) = Goes columns a b s o t (place_of p)
+StepsSo columns a b s o (Some (Opens t n)) = (o ≡ group_of list n (list first (drop t.at columns))) × Same columns a b s t × (1 ≤ n) × (n ≤ most_number)
 
-pub record Steps (columns before after : List ℕ) (s : Sofar) (o : Found Format) (r : Step) : Type 0 where
+pub record Steps (columns before after : List ℕ) (s : Sofar) (o : Found Format) (r : Option Step) : Type 0 where
   pub so : StepsSo columns before after s o r
 
 -- ---- a list, and what surrounds it
@@ -136,21 +120,21 @@ pub record Gets (columns before after : List ℕ) (s : Sofar) (o : Found Format)
   pub within : t.at ≤ length columns
 
 -- what a list answers, o being the book's reading of it
-abbrev pub ReadsSo : List ℕ → List ℕ → List ℕ → Sofar → Found Format → Listed → Type 0
-ReadsSo columns a b s o NoList = o ≡ bad
-ReadsSo columns a b s o (Good t) = Gets columns a b s o t
+abbrev pub ReadsSo : List ℕ → List ℕ → List ℕ → Sofar → Found Format → Option Sofar → Type 0
+ReadsSo columns a b s o None = o ≡ bad
+ReadsSo columns a b s o (Some t) = Gets columns a b s o t
 
-pub record Reads (columns before after : List ℕ) (s : Sofar) (o : Found Format) (r : Listed) : Type 0 where
+pub record Reads (columns before after : List ℕ) (s : Sofar) (o : Found Format) (r : Option Sofar) : Type 0 where
   pub so : ReadsSo columns before after s o r
 
 -- the columns after a character or word, o, begin at a column
-abbrev pub StoodSo : List ℕ → Option (List ℕ) → Stands → Type 0
-StoodSo columns o No = o ≡ none
-StoodSo columns o (At i) = (o ≡ some (drop i columns)) × (i ≤ length columns)
+abbrev pub StoodSo : List ℕ → book.Option (List ℕ) → Option ℕ → Type 0
+StoodSo columns o None = o ≡ book.none
+StoodSo columns o (Some i) = (o ≡ book.some (drop i columns)) × (i ≤ length columns)
 
-pub record Stood (columns : List ℕ) (o : Option (List ℕ)) (r : Stands) : Type 0 where
+pub record Stood (columns : List ℕ) (o : book.Option (List ℕ)) (r : Option ℕ) : Type 0 where
   pub so : StoodSo columns o r
 
 -- whether a list that ends before these columns stands alone
 pub record Alone (rest : List ℕ) (r : Bool) : Type 0 where
-  pub is : (f : Format) → alone f (without_blanks rest) ≡ cond r (some f) none
+  pub is : (f : Format) → alone f (without_blanks rest) ≡ cond r (book.some f) book.none

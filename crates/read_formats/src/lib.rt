@@ -7,7 +7,7 @@ ghost use Rattle.rules_formats.specs.Words.{most_words};
 ghost use Rattle.rules_formats.specs.Fields.{is_blank, is_digit};
 ghost use Rattle.rules_formats.specs.Punched.{list, most_number, number_from, mark_of, counted, width_of, may_field, may_comma, may_slash, may_close, opening, after_word, after, format_of};
 ghost use Rattle.read_formats.specs.Puts.{text_words, Puts, Repeats};
-ghost use Rattle.read_formats.specs.Reads.{place_of, Grown, Tested, Counts, Ready, Ahead, Moved, Steps, field_at, Reads, Stood, Alone};
+ghost use Rattle.read_formats.specs.Reads.{place_of, run_of, Grown, Counts, Ready, Ahead, Steps, field_at, Reads, Stood, Alone};
 ghost use Rattle.read_formats.specs.Formatted.{Formatted};
 
 // As many words as body 8 may have. A top of one more tells that there were more.
@@ -25,7 +25,7 @@ const KIND_SLASH: u32 = 67108864;
 const KIND_END: u32 = 83886080;
 
 // Where in a list: at its beginning, or after what.
-#[derive(Drop)]
+#[derive(Clone, Copy, PartialEq, Eq, Debug)]
 pub enum Place {
     First,
     AfterComma,
@@ -34,7 +34,7 @@ pub enum Place {
 }
 
 // How far reading is: the next column, the number of words, the word where a new scan begins, whether a number was among the fields.
-#[derive(Clone, Copy)]
+#[derive(Clone, Copy, PartialEq, Eq, Debug)]
 pub struct Sofar {
     pub at: usize,
     pub top: usize,
@@ -48,20 +48,7 @@ pub struct Sofar {
 fn in_run(c: u8) -> bool
     ensures { result ≡ is_blank c || is_digit c }
 {
-    if c == b' ' {
-        return true;
-    }
-    if c < 48 {
-        return false;
-    }
-    c <= 57
-}
-
-fn digit(c: u8) -> usize
-    requires { 48 ≤ c }
-    ensures { result + 48 ≡ c }
-{
-    (c - 48) as usize
+    c == b' ' || c.is_ascii_digit()
 }
 
 // A number with one column more of its run; 100000 for all that is over 99999.
@@ -70,48 +57,42 @@ fn grown(n: usize, c: u8) -> usize
     requires run { is_blank c || is_digit c ≡ true }
     ensures { Grown n c result }
 {
-    if c < 48 {
+    if c == b' ' {
         return n;
     }
-    let m = n * 10 + digit(c);
-    if m > 99999 {
-        return 100000;
-    }
-    m
+    (n * 10 + (c - b'0') as usize).min(100000)
 }
 
-// A number's value from 1 to 99999, or 0; and the column after its run.
-#[derive(Drop)]
+// A number from 1 to 99999, and the column after its run.
+#[derive(Clone, Copy, PartialEq, Eq, Debug)]
 pub struct Run {
     pub value: usize,
     pub at: usize,
 }
 
-fn tested(v: usize, at: usize) -> Run
-    ensures { Tested v at result }
+fn tested(value: usize, at: usize) -> Option<Run>
+    ensures { result ≡ run_of value at }
 {
-    if v > 99999 {
-        return Run { value: 0, at };
+    if value < 1 || 99999 < value {
+        return None;
     }
-    Run { value: v, at }
+    Some(Run { value, at })
 }
 
 // The number from a column on, n being what the digits before make.
-fn number(columns: &[u8], at: usize, n: usize) -> Run
+fn number(columns: &[u8], at: usize, n: usize) -> Option<Run>
     requires { (n ≤ most_number) × (at ≤ length columns.now) }
     ensures { Counts columns.now at n result }
 {
     let mut v = n;
-    let mut i = at;
-    while i < columns.len() {
+    for i in at..columns.len() {
         let c = columns[i];
         if !in_run(c) {
             return tested(v, i);
         }
         v = grown(v, c);
-        i += 1;
     }
-    tested(v, i)
+    tested(v, columns.len())
 }
 
 // ---- words
@@ -142,10 +123,8 @@ fn put_text(columns: &[u8], at: usize, n: usize, words: &mut [u32], top: usize) 
     ensures { Puts (text_words (take n (drop at columns.now))) words.old words.new top result }
 {
     let mut t = top;
-    let mut j: usize = 0;
-    while j < n {
+    for j in 0..n {
         t = put_character(words, t, columns[at + j]);
-        j += 1;
     }
     t
 }
@@ -160,23 +139,20 @@ fn repeat(words: &mut [u32], from: usize, top: usize, n: usize) -> usize
         return top;
     }
     let many = (n - 1) * (top - from);
-    let mut k: usize = 0;
-    while k < many {
+    for k in 0..many {
         if top + k >= MOST {
             return MOST + 1;
         }
         words[top + k] = words[from + k];
-        k += 1;
     }
-    top + k
+    top + many
 }
 
 // ---- one field, comma, slash or parenthesis
 
-// What one field or mark of a list comes to: it cannot stand there, the list ends, the list goes on at a place, a group begins with its count.
-#[derive(Drop)]
+// What one field or mark of a list comes to: the list ends, the list goes on at a place, a group begins with its count.
+#[derive(Clone, Copy, PartialEq, Eq, Debug)]
 pub enum Step {
-    Bad,
     Closes(Sofar),
     Next(Sofar, Place),
     Opens(Sofar, usize),
@@ -185,71 +161,46 @@ pub enum Step {
 fn may_field(p: Place) -> bool
     ensures { result ≡ may_field (place_of p) }
 {
-    match p {
-        Place::First => true,
-        Place::AfterComma => true,
-        Place::AfterSlash => true,
-        Place::AfterField => false,
-    }
+    matches!(p, Place::First | Place::AfterComma | Place::AfterSlash)
 }
 
 fn may_comma(p: Place) -> bool
     ensures { result ≡ may_comma (place_of p) }
 {
-    match p {
-        Place::First => false,
-        Place::AfterComma => false,
-        Place::AfterSlash => false,
-        Place::AfterField => true,
-    }
+    matches!(p, Place::AfterField)
 }
 
 fn may_slash(p: Place) -> bool
     ensures { result ≡ may_slash (place_of p) }
 {
-    match p {
-        Place::First => true,
-        Place::AfterComma => false,
-        Place::AfterSlash => true,
-        Place::AfterField => true,
-    }
+    matches!(p, Place::First | Place::AfterSlash | Place::AfterField)
 }
 
 fn may_close(p: Place) -> bool
     ensures { result ≡ may_close (place_of p) }
 {
-    match p {
-        Place::First => false,
-        Place::AfterComma => false,
-        Place::AfterSlash => true,
-        Place::AfterField => true,
-    }
+    matches!(p, Place::AfterSlash | Place::AfterField)
 }
 
 // The width after nI.
-fn width(columns: &[u8], at: usize, n: usize, words: &mut [u32], s: Sofar) -> Step
+fn width(columns: &[u8], at: usize, n: usize, words: &mut [u32], s: Sofar) -> Option<Step>
     requires ready { Ahead columns.now words.old s at n }
     ensures { Steps columns.now words.old words.new s (width_of list n (number_from 0 (drop at columns.now))) result }
 {
-    let w = number(columns, at, 0);
-    if w.value == 0 {
-        return Step::Bad;
-    }
+    let w = number(columns, at, 0)?;
     let once = put(words, s.top, KIND_I + w.value as u32);
     let top = repeat(words, s.top, once, n);
-    Step::Next(
-        Sofar {
-            at: w.at,
-            top,
-            again: s.again,
-            numbers: true,
-        },
-        Place::AfterField,
-    )
+    let next = Sofar {
+        at: w.at,
+        top,
+        numbers: true,
+        ..s
+    };
+    Some(Step::Next(next, Place::AfterField))
 }
 
 // What stands after a count: I and its width, X, H and its columns, a group.
-fn after_count(columns: &[u8], at: usize, n: usize, words: &mut [u32], s: Sofar) -> Step
+fn after_count(columns: &[u8], at: usize, n: usize, words: &mut [u32], s: Sofar) -> Option<Step>
     requires ready { Ahead columns.now words.old s (at + 1) n }
     ensures { Steps columns.now words.old words.new s (counted list n (mark_of (get_or columns.now at 0)) (drop (at + 1) columns.now)) result }
 {
@@ -259,48 +210,29 @@ fn after_count(columns: &[u8], at: usize, n: usize, words: &mut [u32], s: Sofar)
         return width(columns, next, n, words, s);
     }
     if c == b'(' {
-        return Step::Opens(
-            Sofar {
-                at: next,
-                top: s.top,
-                again: s.again,
-                numbers: s.numbers,
-            },
-            n,
-        );
+        return Some(Step::Opens(Sofar { at: next, ..s }, n));
     }
     if c == b'X' {
         let top = put(words, s.top, KIND_X + n as u32);
-        return Step::Next(
-            Sofar {
-                at: next,
-                top,
-                again: s.again,
-                numbers: s.numbers,
-            },
-            Place::AfterField,
-        );
+        return Some(Step::Next(Sofar { at: next, top, ..s }, Place::AfterField));
     }
     if c != b'H' {
-        return Step::Bad;
+        return None;
     }
     if n > columns.len() - next {
-        return Step::Bad;
+        return None;
     }
     let top = put_text(columns, next, n, words, s.top);
-    Step::Next(
-        Sofar {
-            at: next + n,
-            top,
-            again: s.again,
-            numbers: s.numbers,
-        },
-        Place::AfterField,
-    )
+    let end = Sofar {
+        at: next + n,
+        top,
+        ..s
+    };
+    Some(Step::Next(end, Place::AfterField))
 }
 
 // A field, with its count or without.
-fn field(columns: &[u8], words: &mut [u32], s: Sofar) -> Step
+fn field(columns: &[u8], words: &mut [u32], s: Sofar) -> Option<Step>
     requires ready { Ready columns.now words.old s }
     requires inside { s.at < length columns.now }
     ensures { Steps columns.now words.old words.new s (field_at (mark_of (get_or columns.now s.at 0)) (drop (s.at + 1) columns.now)) result }
@@ -313,107 +245,80 @@ fn field(columns: &[u8], words: &mut [u32], s: Sofar) -> Step
     if c == b'(' {
         return after_count(columns, at, 1, words, s);
     }
-    if c < 48 {
-        return Step::Bad;
+    if c < b'0' {
+        return None;
     }
-    if c > 57 {
-        return Step::Bad;
+    if c > b'9' {
+        return None;
     }
-    let n = number(columns, at + 1, digit(c));
-    if n.value == 0 {
-        return Step::Bad;
+    let n = number(columns, at + 1, (c - b'0') as usize)?;
+    if n.at >= columns.len() {
+        return None;
     }
-    let letter = n.at;
-    if letter >= columns.len() {
-        return Step::Bad;
-    }
-    after_count(columns, letter, n.value, words, s)
+    after_count(columns, n.at, n.value, words, s)
 }
 
-fn moved(s: Sofar, at: usize, top: usize) -> Sofar
-    ensures { Moved s at top result }
-{
-    Sofar {
-        at,
-        top,
-        again: s.again,
-        numbers: s.numbers,
-    }
-}
-
-fn one(columns: &[u8], words: &mut [u32], s: Sofar, place: Place) -> Step
+fn one(columns: &[u8], words: &mut [u32], s: Sofar, place: Place) -> Option<Step>
     requires ready { Ready columns.now words.old s }
     ensures { Steps columns.now words.old words.new s (list (place_of place) (drop s.at columns.now)) result }
 {
     let at = s.at;
     if at >= columns.len() {
-        return Step::Bad;
+        return None;
     }
     let c = columns[at];
     let next = at + 1;
     if c == b' ' {
-        return Step::Next(moved(s, next, s.top), place);
+        return Some(Step::Next(Sofar { at: next, ..s }, place));
     }
     if c == b',' {
         if !may_comma(place) {
-            return Step::Bad;
+            return None;
         }
-        return Step::Next(moved(s, next, s.top), Place::AfterComma);
+        return Some(Step::Next(Sofar { at: next, ..s }, Place::AfterComma));
     }
     if c == b'/' {
         if !may_slash(place) {
-            return Step::Bad;
+            return None;
         }
         let top = put(words, s.top, KIND_SLASH);
-        return Step::Next(moved(s, next, top), Place::AfterSlash);
+        return Some(Step::Next(Sofar { at: next, top, ..s }, Place::AfterSlash));
     }
     if c == b')' {
         if !may_close(place) {
-            return Step::Bad;
+            return None;
         }
-        return Step::Closes(moved(s, next, s.top));
+        return Some(Step::Closes(Sofar { at: next, ..s }));
     }
     if !may_field(place) {
-        return Step::Bad;
+        return None;
     }
     field(columns, words, s)
 }
 
 // ---- lists
 
-// The list's end, or that it is none.
-#[derive(Drop)]
-pub enum Listed {
-    Bad,
-    Good(Sofar),
-}
-
 // A list to its closing parenthesis. A group's fields are put once, and then copied.
-fn read_list(columns: &[u8], words: &mut [u32], s: Sofar, place: Place) -> Listed
+fn read_list(columns: &[u8], words: &mut [u32], s: Sofar, place: Place) -> Option<Sofar>
     requires { Ready columns.now words.old s }
     ensures { Reads columns.now words.old words.new s (list (place_of place) (drop s.at columns.now)) result }
 {
     let mut t = s;
     let mut p = place;
     loop {
-        let step = one(columns, words, t, p);
-        match step {
-            Step::Bad => return Listed::Bad,
-            Step::Closes(u) => return Listed::Good(u),
+        match one(columns, words, t, p)? {
+            Step::Closes(u) => return Some(u),
             Step::Next(u, q) => {
                 t = u;
                 p = q;
             }
             Step::Opens(u, n) => {
-                let Listed::Good(v) = read_list(columns, words, u, Place::First) else {
-                    return Listed::Bad;
-                };
+                let v = read_list(columns, words, u, Place::First)?;
                 let top = repeat(words, u.top, v.top, n);
                 t = Sofar {
-                    at: v.at,
                     top,
                     again: u.top,
-                    numbers: v.numbers,
+                    ..v
                 };
                 p = Place::AfterField;
             }
@@ -423,100 +328,87 @@ fn read_list(columns: &[u8], words: &mut [u32], s: Sofar, place: Place) -> Liste
 
 // ---- the statement
 
-const OPENING: [u8; 7] = [70, 79, 82, 77, 65, 84, 40];
+const OPENING: &[u8; 7] = b"FORMAT(";
 
-// The column after a character, or that something else stands there.
-#[derive(Drop)]
-pub enum Stands {
-    No,
-    At(usize),
-}
-
-fn past(columns: &[u8], at: usize, character: u8) -> Stands
+// The column after the next that is not blank, if it holds this character.
+fn past(columns: &[u8], at: usize, character: u8) -> Option<usize>
     ensures { Stood columns.now (after character (drop at columns.now)) result }
 {
-    let mut i = at;
-    while i < columns.len() {
+    for i in at..columns.len() {
         let c = columns[i];
         if c != b' ' {
             if c == character {
-                return Stands::At(i + 1);
+                return Some(i + 1);
             }
-            return Stands::No;
+            return None;
         }
-        i += 1;
     }
-    Stands::No
+    None
 }
 
 // The column after FORMAT(.
-fn opened(columns: &[u8]) -> Stands
+fn opened(columns: &[u8]) -> Option<usize>
     ensures { Stood columns.now (after_word opening (some columns.now)) result }
 {
-    let mut at: usize = 0;
-    let mut k: usize = 0;
-    while k < 7 {
-        let Stands::At(i) = past(columns, at, OPENING[k]) else {
-            return Stands::No;
-        };
-        at = i;
-        k += 1;
+    let mut at = 0;
+    for k in 0..OPENING.len() {
+        at = past(columns, at, OPENING[k])?;
     }
-    Stands::At(at)
+    Some(at)
 }
 
 // Whether only blanks stand from a column on.
 fn blank_from(columns: &[u8], at: usize) -> bool
     ensures { Alone (drop at columns.now) result }
 {
-    let mut i = at;
-    while i < columns.len() {
+    for i in at..columns.len() {
         if columns[i] != b' ' {
             return false;
         }
-        i += 1;
     }
     true
 }
 
-// What columns are: no FORMAT; one whose words do not fit; or one, with the words' count after it, and whether a number is among its fields.
-#[derive(Drop)]
-pub enum Format {
+// Why columns are not kept: they are no FORMAT, or its words do not fit.
+#[derive(Clone, Copy, PartialEq, Eq, Debug)]
+pub enum FormatError {
     Bad,
     Full,
-    Words { top: usize, numbers: bool },
+}
+
+// How many words there are with the FORMAT's, and whether a number is among its fields.
+#[derive(Clone, Copy, PartialEq, Eq, Debug)]
+pub struct Words {
+    pub top: usize,
+    pub numbers: bool,
 }
 
 // The columns read as a FORMAT, and its words put after those that stand.
-pub fn read_format(columns: &[u8], words: &mut [u32], top: usize) -> Format
+pub fn read_format(columns: &[u8], words: &mut [u32], top: usize) -> Result<Words, FormatError>
     requires { (length words.old ≡ most_words) × (top ≤ most_words) }
     ensures { Formatted words.old words.new top (format_of columns.now) result }
 {
-    let Stands::At(at) = opened(columns) else {
-        return Format::Bad;
+    let Some(at) = opened(columns) else {
+        return Err(FormatError::Bad);
     };
-    let Listed::Good(s) = read_list(
-        columns,
-        words,
-        Sofar {
-            at,
-            top,
-            again: top,
-            numbers: false,
-        },
-        Place::First,
-    ) else {
-        return Format::Bad;
+    let begin = Sofar {
+        at,
+        top,
+        again: top,
+        numbers: false,
+    };
+    let Some(s) = read_list(columns, words, begin, Place::First) else {
+        return Err(FormatError::Bad);
     };
     if !blank_from(columns, s.at) {
-        return Format::Bad;
+        return Err(FormatError::Bad);
     }
     let end = put(words, s.top, KIND_END + s.again as u32);
     if end > MOST {
-        return Format::Full;
+        return Err(FormatError::Full);
     }
-    Format::Words {
+    Ok(Words {
         top: end,
         numbers: s.numbers,
-    }
+    })
 }

@@ -1,21 +1,22 @@
 -- The cases of each form's reader, over plain lists.
 -- Assumes nothing.
 use mathlib.Core.Path.{◌≡◌, refl, sym, ap, ◌∙◌, subst}
-use mathlib.Core.List.{List, ◌++◌}
+use mathlib.Core.List.{List, [], ◌∷◌, ◌++◌}
 use mathlib.Core.Bool.{Bool, true, false, ◌&&◌, cond}
 use mathlib.Core.Option.{Option, none, some}
-use Prim.Native.Nat.{ℕ, ◌+◌, ◌≤◌, ◌<◌, max}
+use Prim.Native.Nat.{ℕ, suc, ◌+◌, ◌≤◌, ◌<◌, max}
 use native.Mathlib.Omega.{arith}
 use lib.Dec.{eqb}
+use lib.Pointwise.{pointwise}
 use lib.ListN.{length, take, drop, get_or, length-drop}
 use borrow.Author.Tests.{eqb-true, eqb-false, eq-eqb, ne_eqb}
 use Rattle.rules_text.specs.Trees.{Digits, Expr, levels, expr_names, expr_constants, target_names, target_constants, Form, assign, go_to, ifs, form_names, form_constants, form_levels}
 use Rattle.rules_text.specs.Tokens.{left_paren, right_paren, comma, equals, word_go_to, word_if, word_continue, word_stop, word_end, Found, found, bad, Reader, give, ahead, and_then, after, after_word, all_of, whole, number}
 use Rattle.rules_text.specs.Grammar.{place, expression, parse, an_expression, assignment, plain_go_to, arithmetic_if, read_assignment, read_go_to, read_if}
 use Rattle.rules_text.proofs.Found.{not_found}
+use Rattle.std.proofs.Common.{Option as Maybe, Some, None}
 use Rattle.read_cards.specs.declared.Number.{Number}
 use Rattle.read_tokens.specs.declared.Sizes.{Sizes}
-use Rattle.read_tokens.specs.declared.Token.TheVariants as token
 use Rattle.read_tokens.specs.Words.{most, capped, starts_word}
 use Rattle.read_tokens.specs.Sizes.{sizes_of, both}
 use Rattle.read_tokens.specs.Reading.{constant_size, ReadsNumber}
@@ -33,13 +34,13 @@ use Rattle.read_forms.specs.Statements.{form_words, as_number, number_value, for
 
 -- ---- an answer made
 
-pub reads_none : {b : List ℕ} {o : Option Form} → o ≡ none → Reads b o statement.Bad
+pub reads_none : {b : List ℕ} {o : Option Form} → o ≡ none → Reads b o None
 unfolding answer words
-reads_none {b} {o} e = subst (λ (x : Option Form). Reads b x statement.Bad) (sym e) (record { says = refl; table = refl })
+reads_none {b} {o} e = subst (λ (x : Option Form). Reads b x None) (sym e) (record { says = refl; table = refl })
 
-pub reads_some : {b : List ℕ} {o : Option Form} {r : Statement} (f : Form) → o ≡ some f → r ≡ statement_of f → take (length (form_words f)) b ≡ form_words f → Reads b o r
+pub reads_some : {b : List ℕ} {o : Option Form} {r : Statement} (f : Form) → o ≡ some f → r ≡ statement_of f → take (length (form_words f)) b ≡ form_words f → Reads b o (Some r)
 unfolding answer words
-reads_some {b} {o} {r} f e q t = subst (λ (x : Option Form). Reads b x r) (sym e) (record { says = q; table = t })
+reads_some {b} {o} {r} f e q t = subst (λ (x : Option Form). Reads b x (Some r)) (sym e) (record { says = ap (λ (x : Statement). Some x) q; table = t })
 
 -- ---- an expression in the middle of a text
 
@@ -69,12 +70,12 @@ expr_refused s from e = e
 abbrev TookPlace : List ℕ → ℕ → Target → Sizes → Type 0
 TookPlace s at t z = Took target_value target_sizes target_weight s 0 (place s) at t z
 
-pub assign_no_place : {b : List ℕ} (s : List ℕ) → place s ≡ bad → Reads b (read_assignment s) statement.Bad
+pub assign_no_place : {b : List ℕ} (s : List ℕ) → place s ≡ bad → Reads b (read_assignment s) None
 unfolding read_assignment whole assignment
 assign_no_place s e = reads_none (whole_bad (length s) (then_bad s 0 place _ e))
 
 module _ {s : List ℕ} {at : ℕ} {w : Target} {z : Sizes} (p : TookPlace s at w z) where
-  pub assign_no_equals : {b : List ℕ} → (get_or s at 0 ≡ equals → ⊥) → Reads b (read_assignment s) statement.Bad
+  pub assign_no_equals : {b : List ℕ} → (get_or s at 0 ≡ equals → ⊥) → Reads b (read_assignment s) None
   unfolding read_assignment whole assignment
   assign_no_equals n = reads_none (whole_bad (length s) (then_none s 0 place _ p.upto (after_none equals (omega arith) s at _ n)))
 
@@ -86,7 +87,7 @@ module _ {s : List ℕ} {at : ℕ} {w : Target} {z : Sizes} (p : TookPlace s at 
     unfolding assignment
     lead = leads_more (then_leads s 0 place _ p.upto) (after_leads s at equals _ (omega arith) e)
 
-    pub assign_no_expr : {b : List ℕ} → parse an_expression (drop (at + 1) s) ≡ bad → Reads b (read_assignment s) statement.Bad
+    pub assign_no_expr : {b : List ℕ} → parse an_expression (drop (at + 1) s) ≡ bad → Reads b (read_assignment s) None
     unfolding read_assignment whole
     assign_no_expr n = reads_none (whole_bad (length s) (leads_bad lead (then_bad s (at + 1) expression _ (expr_refused s (at + 1) n))))
 
@@ -96,12 +97,12 @@ module _ {s : List ℕ} {at : ℕ} {w : Target} {z : Sizes} (p : TookPlace s at 
           leads_upto lead (then_upto s (at + 1) expression _ (expr_upto s (at + 1) assign_inside t (at + 1 + k) refl)
           (give_upto s (at + 1 + k) (assign p.tree t.tree) (expr_within s (at + 1) assign_inside t)))
 
-      pub assign_more : (at + 1 + k ≡ length s → ⊥) → Reads b (read_assignment s) statement.Bad
+      pub assign_more : (at + 1 + k ≡ length s → ⊥) → Reads b (read_assignment s) None
       unfolding read_assignment whole
       assign_more n = reads_none (whole_short read n)
 
       pub assign_read : {x : Sizes} → at + 1 + k ≡ length s → x ≡ both z y
-          → Reads b (read_assignment s) (statement.Assign (record { target = w; count = n; sizes = x }))
+          → Reads b (read_assignment s) (Some (statement.Assign (record { target = w; count = n; sizes = x })))
       unfolding read_assignment whole statement_of form_words form_sizes form_names form_constants form_levels target_sizes expr_sizes
       assign_read {x} q xe =
           let levels_is : max 0 (levels t.tree) ≡ levels t.tree = omega arith in
@@ -128,7 +129,7 @@ number_fits n e = omega arith
 abbrev TookNumber : List ℕ → ℕ → ℕ → ℕ → Sizes → Type 0
 TookNumber s from at w z = Took capped constant_size reading.two s from (number (drop from s)) at w z
 
-pub go_to_no_word : (s : List ℕ) → starts_word word_go_to s ≡ false → statement.Bad ≡ answer (read_go_to s)
+pub go_to_no_word : (s : List ℕ) → starts_word word_go_to s ≡ false → None ≡ answer (read_go_to s)
 unfolding answer read_go_to whole plain_go_to
 go_to_no_word s e = sym (ap answer (whole_bad (length s) (word_none word_go_to _ s e)))
 
@@ -140,7 +141,7 @@ module _ (s : List ℕ) (w : starts_word word_go_to s ≡ true) where
   unfolding plain_go_to
   go_to_lead = word_leads word_go_to _ s w
 
-  pub go_to_no_number : number (drop 4 s) ≡ bad → statement.Bad ≡ answer (read_go_to s)
+  pub go_to_no_number : number (drop 4 s) ≡ bad → None ≡ answer (read_go_to s)
   unfolding answer read_go_to whole
   go_to_no_number e = sym (ap answer (whole_bad (length s) (leads_bad go_to_lead (then_bad s 4 number _ e))))
 
@@ -148,17 +149,17 @@ module _ (s : List ℕ) (w : starts_word word_go_to s ≡ true) where
     go_to_upto : Upto s 0 (plain_go_to s) at (go_to t.tree)
     go_to_upto = leads_upto go_to_lead (then_upto s 4 number _ t.upto (give_upto s at (go_to t.tree) t.upto.within))
 
-    pub go_to_more : (at ≡ length s → ⊥) → statement.Bad ≡ answer (read_go_to s)
+    pub go_to_more : (at ≡ length s → ⊥) → None ≡ answer (read_go_to s)
     unfolding answer read_go_to whole
     go_to_more n = sym (ap answer (whole_short go_to_upto n))
 
-    pub go_to_read : {m : Number} → m ≡ as_number v → at ≡ length s → statement.GoTo m ≡ answer (read_go_to s)
+    pub go_to_read : {m : Number} → m ≡ as_number v → at ≡ length s → Some (statement.GoTo m) ≡ answer (read_go_to s)
     unfolding answer read_go_to whole statement_of
-    go_to_read e q = ap statement.GoTo (e ∙ ap as_number t.value_is) ∙ sym (ap answer (whole_some go_to_upto q))
+    go_to_read e q = ap (λ (x : Number). Some (statement.GoTo x)) (e ∙ ap as_number t.value_is) ∙ sym (ap answer (whole_some go_to_upto q))
 
 -- ---- a comma and a number
 
-pub next_none : (s : List ℕ) (from : ℕ) → from ≤ length s → (get_or s from 0 ≡ comma → ⊥) → ReadsNumber s from (after comma number (drop from s)) token.Bad
+pub next_none : (s : List ℕ) (from : ℕ) → from ≤ length s → (get_or s from 0 ≡ comma → ⊥) → ReadsNumber s from (after comma number (drop from s)) None
 next_none s from le n = refuse (after_none comma (omega arith) s from number n) le refl
 
 module _ {A : Type 0} (s : List ℕ) (from c : ℕ) (some_byte : 0 < c) (r : Reader A) where
@@ -203,18 +204,18 @@ pub here : {A : Type 0} (from : ℕ) (o : Found A) → Leads 0 (ahead from o) fr
 here from o = record { count = from; is = refl; ends = omega arith }
 
 module _ (s : List ℕ) (from count : ℕ) (sizes : Sizes) where
-  pub exits_first : number (drop from s) ≡ bad → EndsIf s from count sizes statement.Bad
+  pub exits_first : number (drop from s) ≡ bad → EndsIf s from count sizes None
   unfolding exits_of
   exits_first n e b ce ze te = reads_none (whole_bad (length s) (leads_bad (here from _) (then_bad s from number _ n)))
 
   module _ {a v : ℕ} {z : Sizes} (t : TookNumber s from a v z) where
-    pub exits_second : after comma number (drop a s) ≡ bad → EndsIf s from count sizes statement.Bad
+    pub exits_second : after comma number (drop a s) ≡ bad → EndsIf s from count sizes None
     unfolding exits_of
     exits_second n e b ce ze te =
         reads_none (whole_bad (length s) (leads_bad (leads_more (here from _) (then_leads s from number _ t.upto)) (after_then_bad s a comma (omega arith) number _ n)))
 
     module _ {c v' : ℕ} {z' : Sizes} (t' : TookNext s a c v' z') where
-      pub exits_third : after comma number (drop c s) ≡ bad → EndsIf s from count sizes statement.Bad
+      pub exits_third : after comma number (drop c s) ≡ bad → EndsIf s from count sizes None
       unfolding exits_of
       exits_third n e b ce ze te =
           reads_none (whole_bad (length s) (leads_bad
@@ -230,11 +231,11 @@ module _ (s : List ℕ) (from count : ℕ) (sizes : Sizes) where
             (after_then_leads s c comma (omega arith) number _ t''.upto))
             (give_upto s d (ifs e t.tree t'.tree t''.tree) t''.upto.within)
 
-        pub exits_more : (d ≡ length s → ⊥) → EndsIf s from count sizes statement.Bad
+        pub exits_more : (d ≡ length s → ⊥) → EndsIf s from count sizes None
         exits_more n e b ce ze te = reads_none (whole_short (exits_upto e) n)
 
         pub exits_read : {i j k : Number} → i ≡ as_number v → j ≡ as_number v' → k ≡ as_number v'' → d ≡ length s
-            → EndsIf s from count sizes (statement.If (record { count = count; below = i; at = j; above = k; sizes = sizes }))
+            → EndsIf s from count sizes (Some (statement.If (record { count = count; below = i; at = j; above = k; sizes = sizes })))
         unfolding statement_of form_words form_sizes form_names form_constants form_levels expr_sizes
         exits_read {i} {j} {k} ei ej ek q e b ce ze te =
             reads_some (ifs e t.tree t'.tree t''.tree) (whole_some (exits_upto e) q)
@@ -245,12 +246,12 @@ module _ (s : List ℕ) (from count : ℕ) (sizes : Sizes) where
             ∙ ap (λ (x : Sizes). statement.If (record { count = length (flat e); below = number_value t.tree; at = number_value t'.tree; above = number_value t''.tree; sizes = x })) ze)
             te
 
-pub if_no_word : {b : List ℕ} (s : List ℕ) → starts_word word_if s ≡ false → Reads b (read_if s) statement.Bad
+pub if_no_word : {b : List ℕ} (s : List ℕ) → starts_word word_if s ≡ false → Reads b (read_if s) None
 unfolding read_if whole arithmetic_if
 if_no_word s e = reads_none (whole_bad (length s) (word_none word_if _ s e))
 
 module _ (s : List ℕ) (w : starts_word word_if s ≡ true) where
-  pub if_not_opened : {b : List ℕ} → (get_or s 2 0 ≡ left_paren → ⊥) → Reads b (read_if s) statement.Bad
+  pub if_not_opened : {b : List ℕ} → (get_or s 2 0 ≡ left_paren → ⊥) → Reads b (read_if s) None
   unfolding read_if whole arithmetic_if
   if_not_opened n = reads_none (whole_bad (length s) (leads_bad (word_leads word_if _ s w) (after_none left_paren (omega arith) s 2 _ n)))
 
@@ -262,7 +263,7 @@ module _ (s : List ℕ) (w : starts_word word_if s ≡ true) where
     unfolding arithmetic_if exits_of
     if_lead = leads_more (word_leads word_if _ s w) (after_leads s 2 left_paren _ (omega arith) o)
 
-    pub if_no_expr : {b : List ℕ} → parse an_expression (drop 3 s) ≡ bad → Reads b (read_if s) statement.Bad
+    pub if_no_expr : {b : List ℕ} → parse an_expression (drop 3 s) ≡ bad → Reads b (read_if s) None
     unfolding read_if whole
     if_no_expr n = reads_none (whole_bad (length s) (leads_bad if_lead (then_bad s 3 expression _ (expr_refused s 3 n))))
 
@@ -276,7 +277,7 @@ module _ (s : List ℕ) (w : starts_word word_if s ≡ true) where
       if_after : Leads 0 (arithmetic_if s) (k + 3) (after right_paren (exits_of t.tree) (drop (k + 3) s))
       if_after = leads_more if_lead (then_leads s 3 expression _ (expr_upto s 3 if_inside t (k + 3) swap))
 
-      pub if_not_closed : (get_or s (k + 3) 0 ≡ right_paren → ⊥) → Reads b (read_if s) statement.Bad
+      pub if_not_closed : (get_or s (k + 3) 0 ≡ right_paren → ⊥) → Reads b (read_if s) None
       unfolding read_if whole
       if_not_closed ne = reads_none (whole_bad (length s) (leads_bad if_after (after_none right_paren (omega arith) s (k + 3) _ ne)))
 
@@ -284,7 +285,7 @@ module _ (s : List ℕ) (w : starts_word word_if s ≡ true) where
         pub if_closed : k + 3 + 1 ≤ length s
         if_closed = let i = inside right_paren (omega arith) s (k + 3) c in omega arith
 
-        pub if_read : {r : Statement} → EndsIf s (k + 3 + 1) n z r → Reads b (read_if s) r
+        pub if_read : {r : Maybe Statement} → EndsIf s (k + 3 + 1) n z r → Reads b (read_if s) r
         unfolding read_if whole
         if_read {r} h =
             let l = leads_more if_after (after_leads s (k + 3) right_paren _ (omega arith) c) in
@@ -295,13 +296,26 @@ module _ (s : List ℕ) (w : starts_word word_if s ≡ true) where
 
 -- ---- a word alone
 
-pub other_length : (w s : List ℕ) → (length s ≡ length w → ⊥) → only_word w s ≡ false
-unfolding only_word
-other_length w s n = ap (λ (b : Bool). b && starts_word w s) (ne_eqb (length s) (length w) n)
+pub same_is_word : (w s : List ℕ) → pointwise eqb s w ≡ only_word w s
+unfolding only_word starts_word
+same_is_word [] [] = refl
+same_is_word [] (x ∷ s) = sym (ap (λ (b : Bool). b && true) (ne_eqb (length (x ∷ s)) 0 (λ z. omega arith)))
+same_is_word (c ∷ w) [] = sym (ap (λ (b : Bool). b && false) (ne_eqb 0 (length (c ∷ w)) (λ z. omega arith)))
+same_is_word (c ∷ w) (x ∷ s) =
+    ap (λ (b : Bool). eqb x c && b) (same_is_word w s) ∙ turn (eqb x c) (eqb (length s) (length w)) (starts_word w s)
+    ∙ ap (λ (b : Bool). b && (eqb x c && starts_word w s)) (one_more (length s) (length w))
+  where
+    one_more : (m n : ℕ) → eqb m n ≡ eqb (suc m) (suc n)
+    one_more m n = go (eqb m n) refl
+      where
+        go : (b : Bool) → eqb m n ≡ b → b ≡ eqb (suc m) (suc n)
+        go true e = sym (eq-eqb (suc m) (suc n) (ap (λ (k : ℕ). suc k) (eqb-true m n e)))
+        go false e = sym (ne_eqb (suc m) (suc n) (λ z. eqb-false m n e (omega arith)))
 
-pub same_length_word : (w s : List ℕ) → length s ≡ length w → only_word w s ≡ starts_word w s
-unfolding only_word
-same_length_word w s e = ap (λ (b : Bool). b && starts_word w s) (eq-eqb (length s) (length w) e)
+    turn : (p q r : Bool) → p && (q && r) ≡ q && (p && r)
+    turn true q r = refl
+    turn false true r = refl
+    turn false false r = refl
 
 pub only_is : (w s : List ℕ) (f : Form) → whole (after_word w (give f)) s ≡ cond (only_word w s) (some f) none
 unfolding whole only_word all_of give ahead
@@ -319,18 +333,18 @@ only_is w s f = ap (all_of (length s)) (word_is w (give f) s) ∙ go (starts_wor
     go false false e = refl
 
 module _ (s : List ℕ) where
-  pub word_continue_lem : only_word word_continue s ≡ true → statement.Continue ≡ answer (word_form s)
+  pub word_continue_lem : only_word word_continue s ≡ true → Some statement.Continue ≡ answer (word_form s)
   unfolding answer word_form statement_of
   word_continue_lem e = rw e
 
-  pub word_stop_lem : only_word word_continue s ≡ false → only_word word_stop s ≡ true → statement.Stop ≡ answer (word_form s)
+  pub word_stop_lem : only_word word_continue s ≡ false → only_word word_stop s ≡ true → Some statement.Stop ≡ answer (word_form s)
   unfolding answer word_form statement_of
   word_stop_lem e f = rw (e, f)
 
-  pub word_end_lem : only_word word_continue s ≡ false → only_word word_stop s ≡ false → only_word word_end s ≡ true → statement.End ≡ answer (word_form s)
+  pub word_end_lem : only_word word_continue s ≡ false → only_word word_stop s ≡ false → only_word word_end s ≡ true → Some statement.End ≡ answer (word_form s)
   unfolding answer word_form statement_of
   word_end_lem e f g = rw (e, f, g)
 
-  pub word_other : only_word word_continue s ≡ false → only_word word_stop s ≡ false → only_word word_end s ≡ false → statement.Bad ≡ answer (word_form s)
+  pub word_other : only_word word_continue s ≡ false → only_word word_stop s ≡ false → only_word word_end s ≡ false → None ≡ answer (word_form s)
   unfolding answer word_form
   word_other e f g = rw (e, f, g)

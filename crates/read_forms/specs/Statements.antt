@@ -1,6 +1,7 @@
 -- A statement that was read: what each form gives back, and the words that it leaves in the table of items.
 -- Assumes nothing.
-use Rattle.std.specs.Prelude.{◌≡◌, ℕ, List, [], ◌∷◌, ◌++◌, map, Bool, ◌&&◌, cond, eqb, length, take, drop}
+use Rattle.std.specs.Prelude.{◌≡◌, ℕ, List, [], ◌∷◌, ◌++◌, map, Bool, ◌&&◌, cond, eqb, length, take, drop, Some, None}
+use Rattle.std.specs.Prelude.{Option as Maybe}
 use Rattle.std.proofs.Math.Option.{Option, none, some}
 use Rattle.rules_text.specs.Trees.{Digits, Expr, con, var, elm, neg, par, bin, Array, array, Form, assign, go_to, computed, ifs, loop, continue, stop, end, dimension, form_names, form_constants, form_levels}
 use Rattle.rules_text.specs.Tokens.{comma, word_continue, word_stop, word_end, Reader, give, ahead, and_then, after, all_of, number}
@@ -80,9 +81,9 @@ statement_of stop = statement.Stop
 statement_of end = statement.End
 statement_of (dimension arrays) = statement.Dimension (record { arrays = length arrays; sizes = form_sizes (dimension arrays) })
 
-unfoldable pub answer : Option Form → Statement
-answer none = statement.Bad
-answer (some f) = statement_of f
+unfoldable pub answer : Option Form → Maybe Statement
+answer none = None
+answer (some f) = Some (statement_of f)
 
 unfoldable pub words : Option Form → List ℕ
 words none = []
@@ -91,7 +92,7 @@ words (some f) = form_words f
 -- ---- what readers ensure
 
 -- o is what the book reads, b the table afterwards, whose other words are free, r the answer
-pub record Reads (b : List ℕ) (o : Option Form) (r : Statement) : Type 0 where
+pub record Reads (b : List ℕ) (o : Option Form) (r : Maybe Statement) : Type 0 where
   pub says : r ≡ answer o
   pub table : take (length (words o)) b ≡ words o
 
@@ -101,7 +102,7 @@ exits_of e =
     and_then number (λ below. after comma (and_then number (λ at. after comma (and_then number (λ above. give (ifs e below at above))))))
 
 -- from a place on to the end of the text, after any expression of these sizes whose items are in the table
-abbrev pub EndsIf : List ℕ → ℕ → ℕ → Sizes → Statement → Type 0
+abbrev pub EndsIf : List ℕ → ℕ → ℕ → Sizes → Maybe Statement → Type 0
 EndsIf s from count sizes r =
     (e : Expr) (b : List ℕ) → count ≡ length (flat e) → sizes ≡ expr_sizes e → take (length (flat e)) b ≡ flat e
     → Reads b (all_of (length s) (ahead from (exits_of e (drop from s)))) r

@@ -9,11 +9,10 @@ ghost use Rattle.read_tokens.specs.Reading.{ReadsNumber};
 ghost use Rattle.read_forms.specs.Statements.{as_number, answer, Reads, EndsIf, only_word, word_form};
 
 use read_cards::Number;
-use read_elements::{GotPlace, Target};
-use read_items::Got;
-use read_tokens::{Name, Sizes, Token};
+use read_elements::Target;
+use read_tokens::{Name, Read, Sizes};
 
-#[derive(Clone, Copy)]
+#[derive(Clone, Copy, Debug, PartialEq, Eq)]
 pub struct Assignment {
     pub target: Target,
     // words of the expression's items in the table
@@ -21,7 +20,7 @@ pub struct Assignment {
     pub sizes: Sizes,
 }
 
-#[derive(Clone, Copy)]
+#[derive(Clone, Copy, Debug, PartialEq, Eq)]
 pub struct Computed {
     // numbers in the table
     pub exits: usize,
@@ -29,7 +28,7 @@ pub struct Computed {
     pub sizes: Sizes,
 }
 
-#[derive(Clone, Copy)]
+#[derive(Clone, Copy, Debug, PartialEq, Eq)]
 pub struct If {
     pub count: usize,
     pub below: Number,
@@ -39,13 +38,13 @@ pub struct If {
 }
 
 // A constant's value, or a variable.
-#[derive(Clone, Copy)]
+#[derive(Clone, Copy, Debug, PartialEq, Eq)]
 pub enum Parameter {
     Constant(u64),
     Variable(Name),
 }
 
-#[derive(Clone, Copy)]
+#[derive(Clone, Copy, Debug, PartialEq, Eq)]
 pub struct Do {
     pub last: Number,
     pub name: Name,
@@ -56,15 +55,14 @@ pub struct Do {
     pub sizes: Sizes,
 }
 
-#[derive(Clone, Copy)]
+#[derive(Clone, Copy, Debug, PartialEq, Eq)]
 pub struct Dimension {
     // arrays in the table, seven words each
     pub arrays: usize,
     pub sizes: Sizes,
 }
 
-// Bad is refused 10.
-#[derive(Clone, Copy)]
+#[derive(Clone, Copy, Debug, PartialEq, Eq)]
 pub enum Statement {
     Assign(Assignment),
     GoTo(Number),
@@ -75,37 +73,27 @@ pub enum Statement {
     Stop,
     End,
     Dimension(Dimension),
-    Bad,
 }
 
 // v=e, v(s)=e or v(s,s)=e: the expression reader is handed the text from where the expression begins.
-pub fn read_assignment(text: &[u8], items: &mut [u64]) -> Statement
+pub fn read_assignment(text: &[u8], items: &mut [u64]) -> Option<Statement>
     requires { 5 * length text.now ≤ length items.old }
     ensures { Reads items.new (read_assignment text.now) result }
 {
-    let GotPlace::Read {
-        at: a,
-        target,
-        sizes: z,
-    } = read_elements::read_place(text, 0)
-    else {
-        return Statement::Bad;
-    };
-    if read_tokens::byte(text, a) != b'=' {
-        return Statement::Bad;
+    let place = read_elements::read_place(text, 0)?;
+    if read_tokens::byte(text, place.at) != b'=' {
+        return None;
     }
-    let b = a + 1;
-    let Got::Read { at: k, n, sizes: y } = read_expressions::expression(&text[b..], items, 0) else {
-        return Statement::Bad;
-    };
-    if b + k != text.len() {
-        return Statement::Bad;
+    let from = place.at + 1;
+    let expression = read_expressions::expression(&text[from..], items, 0)?;
+    if from + expression.at != text.len() {
+        return None;
     }
-    Statement::Assign(Assignment {
-        target,
-        count: n,
-        sizes: read_tokens::of_both(z, y),
-    })
+    Some(Statement::Assign(Assignment {
+        target: place.value,
+        count: expression.value,
+        sizes: place.sizes.join(expression.sizes),
+    }))
 }
 
 // A statement number as its token has it: 13 is not judged yet, but the value is capped.
@@ -117,116 +105,94 @@ pub fn number_of(word: u64) -> Number
 }
 
 // GOTOn
-pub fn read_go_to(text: &[u8]) -> Statement
+pub fn read_go_to(text: &[u8]) -> Option<Statement>
     ensures { result ≡ answer (read_go_to text.now) }
 {
-    if !read_tokens::starts_word(text, b"GOTO") {
-        return Statement::Bad;
+    if !text.starts_with(b"GOTO") {
+        return None;
     }
-    let Token::Read { at, word, sizes: _ } = read_tokens::read_number(text, 4) else {
-        return Statement::Bad;
-    };
-    if at != text.len() {
-        return Statement::Bad;
+    let number = read_tokens::read_number(text, 4)?;
+    if number.at != text.len() {
+        return None;
     }
-    Statement::GoTo(number_of(word))
+    Some(Statement::GoTo(number_of(number.value)))
 }
 
 // A comma and a number.
-pub fn read_next(text: &[u8], from: usize) -> Token
+pub fn read_next(text: &[u8], from: usize) -> Option<Read<u64>>
     requires { from ≤ length text.now }
     ensures { ReadsNumber text.now from (after comma number (drop from text.now)) result }
 {
     if read_tokens::byte(text, from) != b',' {
-        return Token::Bad;
+        return None;
     }
     read_tokens::read_number(text, from + 1)
 }
 
-// n,n,n to the end of the text.
-fn read_exits(text: &[u8], from: usize, count: usize, sizes: Sizes) -> Statement
-    requires { from ≤ length text.now }
-    ensures { EndsIf text.now from count sizes result }
+// n,n,n to the end of the text, after an expression.
+fn read_exits(text: &[u8], expression: Read<usize>) -> Option<Statement>
+    requires { expression.at ≤ length text.now }
+    ensures { EndsIf text.now expression.at expression.value expression.sizes result }
 {
-    let Token::Read {
-        at: a,
-        word: below,
-        sizes: _,
-    } = read_tokens::read_number(text, from)
-    else {
-        return Statement::Bad;
-    };
-    let Token::Read {
-        at: b,
-        word: at,
-        sizes: _,
-    } = read_next(text, a)
-    else {
-        return Statement::Bad;
-    };
-    let Token::Read {
-        at: c,
-        word: above,
-        sizes: _,
-    } = read_next(text, b)
-    else {
-        return Statement::Bad;
-    };
-    if c != text.len() {
-        return Statement::Bad;
+    let below = read_tokens::read_number(text, expression.at)?;
+    let at = read_next(text, below.at)?;
+    let above = read_next(text, at.at)?;
+    if above.at != text.len() {
+        return None;
     }
-    Statement::If(If {
-        count,
-        below: number_of(below),
-        at: number_of(at),
-        above: number_of(above),
-        sizes,
-    })
+    Some(Statement::If(If {
+        count: expression.value,
+        below: number_of(below.value),
+        at: number_of(at.value),
+        above: number_of(above.value),
+        sizes: expression.sizes,
+    }))
 }
 
 // IF(e)n,n,n
-pub fn read_if(text: &[u8], items: &mut [u64]) -> Statement
+pub fn read_if(text: &[u8], items: &mut [u64]) -> Option<Statement>
     requires { 5 * length text.now ≤ length items.old }
     ensures { Reads items.new (read_if text.now) result }
 {
-    if !read_tokens::starts_word(text, b"IF") {
-        return Statement::Bad;
+    if !text.starts_with(b"IF") {
+        return None;
     }
     if read_tokens::byte(text, 2) != b'(' {
-        return Statement::Bad;
+        return None;
     }
-    let Got::Read { at: k, n, sizes } = read_expressions::expression(&text[3..], items, 0) else {
-        return Statement::Bad;
-    };
-    let a = k + 3;
-    if read_tokens::byte(text, a) != b')' {
-        return Statement::Bad;
+    let expression = read_expressions::expression(&text[3..], items, 0)?;
+    let end = expression.at + 3;
+    if read_tokens::byte(text, end) != b')' {
+        return None;
     }
-    read_exits(text, a + 1, n, sizes)
+    read_exits(
+        text,
+        Read {
+            at: end + 1,
+            ..expression
+        },
+    )
 }
 
-// Whether the text is this word and nothing more.
-pub fn is_word(text: &[u8], word: &[u8]) -> bool
+// Tried: a `match` on the byte strings leaves a goal for each byte.
+fn is_word(text: &[u8], word: &[u8]) -> bool
     ensures { result ≡ only_word word.now text.now }
 {
-    if text.len() != word.len() {
-        return false;
-    }
-    read_tokens::starts_word(text, word)
+    text == word
 }
 
 // CONTINUE, STOP or END
-pub fn read_word(text: &[u8]) -> Statement
+pub fn read_word(text: &[u8]) -> Option<Statement>
     ensures { result ≡ answer (word_form text.now) }
 {
     if is_word(text, b"CONTINUE") {
-        return Statement::Continue;
+        return Some(Statement::Continue);
     }
     if is_word(text, b"STOP") {
-        return Statement::Stop;
+        return Some(Statement::Stop);
     }
     if is_word(text, b"END") {
-        return Statement::End;
+        return Some(Statement::End);
     }
-    Statement::Bad
+    None
 }

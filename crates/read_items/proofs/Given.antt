@@ -2,15 +2,17 @@
 -- Assumes nothing.
 use mathlib.Core.Path.{◌≡◌, refl, sym, ap, ◌∙◌, subst}
 use mathlib.Core.List.{List, [], ◌∷◌, ◌++◌}
-use Prim.Native.Nat.{ℕ, ◌+◌, ◌*◌, ◌-◌, ◌≤◌}
+use Prim.Native.Nat.{ℕ, ◌+◌, ◌*◌, ◌≤◌}
 use native.Mathlib.Omega.{arith}
-use lib.ListN.{length, take, drop, length-drop}
-use lib.Seq.{take_all, take-take, take-append-le, length-take-le}
+use lib.ListN.{length, take}
+use lib.Seq.{take-take, take-append-le, length-take-le}
 use Rattle.rules_text.specs.Trees.{Expr, con, levels, cell, element}
 use Rattle.rules_text.specs.Trees as trees
-use Rattle.rules_text.specs.Tokens.{Found, found, bad, Reader, give, and_then, starts_digit, number}
+use Rattle.rules_text.specs.Tokens.{Found, found, bad, give, and_then, starts_digit, number}
 use Rattle.rules_text.specs.Grammar.{place, operand_of, operand}
+use Rattle.std.proofs.Common.{Option, Some, None}
 use Rattle.read_tokens.specs.declared.Name.{Name}
+use Rattle.read_tokens.specs.declared.Read.{Read}
 use Rattle.read_tokens.specs.declared.Sizes.{Sizes}
 use Rattle.read_tokens.specs.Words.{capped, name_words}
 use Rattle.read_tokens.specs.Reading.{constant_size}
@@ -22,8 +24,6 @@ use Rattle.read_elements.specs.declared.Element.{Element}
 use Rattle.read_elements.specs.declared.Target.{Target}
 use Rattle.read_elements.specs.declared.Target.TheVariants as target
 use Rattle.read_elements.specs.Values.{target_value, target_sizes, target_weight}
-use Rattle.read_items.specs.declared.Got.{Got}
-use Rattle.read_items.specs.declared.Got.TheVariants.{Read, Bad}
 use Rattle.read_items.specs.Items.{target_words, flat, expr_sizes}
 use Rattle.read_items.specs.Parsed.{Put, items, count, depth, answer, Parsed}
 
@@ -38,24 +38,29 @@ pub record Took (s a b : List ℕ) (n : ℕ) (o : Found Expr) (at m : ℕ) (z : 
   pub sizes_is : z ≡ expr_sizes tree
   pub low : levels tree ≤ at
 
-pub took : {s a b : List ℕ} {n : ℕ} {o : Found Expr} {r : Got} {at m : ℕ} {z : Sizes} → Parsed s a b n o r → r ≡ Read at m z → Took s a b n o at m z
+pub took : {s a b : List ℕ} {n : ℕ} {o : Found Expr} {r : Option (Read ℕ)} {x : Read ℕ} → Parsed s a b n o r → r ≡ Some x → Took s a b n o x.at x.value x.sizes
 unfolding answer items count depth
-took {s} {a} {b} {n} {o} {r} {at} {m} {z = d} h q = go o h
+took {s} {a} {b} {n} {o} {r} {x} h q = go o h
   where
-    go : (p : Found Expr) → Parsed s a b n p r → Took s a b n p at m d
+    go : (p : Found Expr) → Parsed s a b n p r → Took s a b n p x.at x.value x.sizes
     go (found e k) h =
-        let w : r ≡ Read k (n + length (flat e)) (expr_sizes e) = h.says in
-        let x : k ≡ at = cc in
-        let y : m ≡ n + length (flat e) = cc in
-        let z : d ≡ expr_sizes e = cc in
-        record { tree = e; is = ap (found e) x; top = y; table = rw y h.table; within = omega (arith, h.within); few = omega (arith, h.few); sizes_is = z; low = omega (arith, h.low) }
-    go bad h =
-        let w : r ≡ Bad = h.says in
-        let z : ◌≡◌ {A = ℕ} 0 1 = cc in
-        absurd (omega arith)
+        let same : x ≡ record { at = k; value = n + length (flat e); sizes = expr_sizes e } = let says = h.says in cc in
+        let place : k ≡ x.at = sym (ap (λ (y : Read ℕ). y.at) same) in
+        let top : x.value ≡ n + length (flat e) = ap (λ (y : Read ℕ). y.value) same in
+        record {
+          tree = e;
+          is = ap (found e) place;
+          top = top;
+          table = rw top h.table;
+          within = omega (arith, h.within);
+          few = omega (arith, h.few);
+          sizes_is = ap (λ (y : Read ℕ). y.sizes) same;
+          low = omega (arith, h.low);
+        }
+    go bad h = let says : r ≡ None = h.says in let z : ◌≡◌ {A = ℕ} 0 1 = cc in absurd (omega arith)
 
 -- it refused: so does the book
-pub refused : {s a b : List ℕ} {n : ℕ} {o : Found Expr} {r : Got} → Parsed s a b n o r → r ≡ Bad → o ≡ bad
+pub refused : {s a b : List ℕ} {n : ℕ} {o : Found Expr} {r : Option (Read ℕ)} → Parsed s a b n o r → r ≡ None → o ≡ bad
 unfolding answer
 refused {s} {a} {b} {n} {o} {r} h q = go o h.says
   where
@@ -64,16 +69,16 @@ refused {s} {a} {b} {n} {o} {r} h q = go o h.says
     go bad w = refl
 
 -- the words that were there stay
-pub front : {s a b : List ℕ} {n : ℕ} {o : Found Expr} {r : Got} → Parsed s a b n o r → n ≤ length a → take n b ≡ take n a
+pub front : {s a b : List ℕ} {n : ℕ} {o : Found Expr} {r : Option (Read ℕ)} → Parsed s a b n o r → n ≤ length a → take n b ≡ take n a
 front {s} {a} {b} {n} {o} {r} h l =
     sym (take-take n (n + length (items o)) b (omega arith))
     ∙ ap (take n) h.table
     ∙ take-append-le n (take n a) (items o) (omega (arith, length-take-le n a l))
     ∙ take-take n n a (omega arith)
 
-pub refuse : {s a b : List ℕ} {n : ℕ} {o : Found Expr} → o ≡ bad → take n b ≡ take n a → Parsed s a b n o Bad
+pub refuse : {s a b : List ℕ} {n : ℕ} {o : Found Expr} → o ≡ bad → take n b ≡ take n a → Parsed s a b n o None
 unfolding answer items count depth
-refuse {s} {a} {b} {n} {o} p q = subst (λ (x : Found Expr). Parsed s a b n x Bad) (sym p)
+refuse {s} {a} {b} {n} {o} p q = subst (λ (x : Found Expr). Parsed s a b n x None) (sym p)
     (record { says = refl; table = simp (add_zero', append_nil') q; within = omega arith; few = omega arith; low = omega arith })
   where
     add_zero' : (x : ℕ) → x + 0 ≡ x
@@ -83,23 +88,19 @@ refuse {s} {a} {b} {n} {o} p q = subst (λ (x : Found Expr). Parsed s a b n x Ba
     append_nil' [] = refl
     append_nil' (y ∷ x) = ap (λ (l : List ℕ). y ∷ l) (append_nil' x)
 
-pub accept : {s a b : List ℕ} {n : ℕ} {o : Found Expr} {at m : ℕ} {z : Sizes} → Took s a b n o at m z → Parsed s a b n o (Read at m z)
+pub accept : {s a b : List ℕ} {n : ℕ} {o : Found Expr} {at m : ℕ} {z : Sizes} → Took s a b n o at m z → Parsed s a b n o (Some (record { at = at; value = m; sizes = z }))
 unfolding answer items count depth
-accept {s} {a} {b} {n} {o} {at} {m} {z} h = subst (λ (x : Found Expr). Parsed s a b n x (Read at m z)) (sym h.is)
+accept {s} {a} {b} {n} {o} {at} {m} {z} h = subst (λ (x : Found Expr). Parsed s a b n x (Some (record { at = at; value = m; sizes = z }))) (sym h.is)
     (record { says = rw (← h.top, h.sizes_is); table = subst (λ (k : ℕ). take k b ≡ take n a ++ flat h.tree) h.top h.table; within = h.within; few = h.few; low = h.low })
 
--- a part of the text from a place to its end is what is left there
-pub part_all : (s : List ℕ) (k : ℕ) → take (length s - k) (drop k s) ≡ drop k s
-part_all s k = take_all (length s - k) (drop k s) (omega (arith, length-drop k s))
-
-pub parsed_as : {s a b : List ℕ} {n : ℕ} {o p : Found Expr} {r : Got} → p ≡ o → Parsed s a b n o r → Parsed s a b n p r
+pub parsed_as : {s a b : List ℕ} {n : ℕ} {o p : Found Expr} {r : Option (Read ℕ)} → p ≡ o → Parsed s a b n o r → Parsed s a b n p r
 parsed_as {s} {a} {b} {n} {o} {p} {r} e h = subst (λ (x : Found Expr). Parsed s a b n x r) (sym e) h
 
 -- ---- operands
 
 -- one tree of no levels
 leaf : {s a b : List ℕ} {n : ℕ} {o : Found Expr} {at m : ℕ} {z : Sizes} (e : Expr) (ws : List ℕ) → Upto s 0 o at e → Put a b n ws m → flat e ≡ ws
-    → levels e ≡ 0 → z ≡ expr_sizes e → length ws ≤ 5 * at → Parsed s a b n o (Read at m z)
+    → levels e ≡ 0 → z ≡ expr_sizes e → length ws ≤ 5 * at → Parsed s a b n o (Some (record { at = at; value = m; sizes = z }))
 leaf {s} {a} {b} {n} {o} {at} {m} {z} e ws u p fe le ze few =
     let same : u.count ≡ at = omega (arith, u.ends) in
     accept (record {
@@ -141,24 +142,20 @@ unfolding operand_of target_sizes expr_sizes
 operand_sizes (cell v) = refl
 operand_sizes (element v s) = refl
 
-abbrev placed : Reader Expr
-placed = and_then place (λ t. give (operand_of t))
-
-pub place_refused : {s a : List ℕ} {n : ℕ} → place s ≡ bad → Parsed s a a n (placed s) Bad
-place_refused {s} e = refuse (then_bad s 0 place _ e) refl
-
-pub place_read : {s a b : List ℕ} {n at m : ℕ} {t : Target} {z : Sizes} → TookPlace s at t z → Put a b n (target_words t) m → Parsed s a b n (placed s) (Read at m z)
-place_read {s} {a} {b} {n} {at} {m} {t} {z} k p =
-    leaf (operand_of k.tree) (target_words t)
-    (then_upto s 0 place _ k.upto (give_upto s at (operand_of k.tree) k.upto.within)) p
-    (operand_words k.tree ∙ ap target_words (sym k.value_is)) (operand_levels k.tree) (k.sizes_is ∙ operand_sizes k.tree) (place_room k)
-
-operand_place : (s : List ℕ) → number s ≡ bad → operand s ≡ placed s
+operand_place : (s : List ℕ) → number s ≡ bad → operand s ≡ and_then place (λ t. give (operand_of t)) s
 unfolding operand
 operand_place s e = choose_no s 0 starts_digit _ _ (number_digit s e)
 
-pub operand_other : {s a b : List ℕ} {n : ℕ} {r : Got} → number s ≡ bad → Parsed s a b n (placed s) r → Parsed s a b n (operand s) r
-operand_other {s} e h = parsed_as (operand_place s e) h
+pub place_refused : {s a : List ℕ} {n : ℕ} → number s ≡ bad → place s ≡ bad → Parsed s a a n (operand s) None
+place_refused {s} n e = refuse (operand_place s n ∙ then_bad s 0 place _ e) refl
+
+pub place_read : {s a b : List ℕ} {n at m : ℕ} {t : Target} {z : Sizes} → number s ≡ bad → TookPlace s at t z → Put a b n (target_words t) m
+    → Parsed s a b n (operand s) (Some (record { at = at; value = m; sizes = z }))
+place_read {s} {a} {b} {n} {at} {m} {t} {z} none_here k p =
+    parsed_as (operand_place s none_here)
+    (leaf (operand_of k.tree) (target_words t)
+    (then_upto s 0 place _ k.upto (give_upto s at (operand_of k.tree) k.upto.within)) p
+    (operand_words k.tree ∙ ap target_words (sym k.value_is)) (operand_levels k.tree) (k.sizes_is ∙ operand_sizes k.tree) (place_room k))
 
 abbrev TookNumber : List ℕ → ℕ → ℕ → Sizes → Type 0
 TookNumber s at w z = chains.Took capped constant_size reading.two s 0 (number s) at w z
@@ -167,7 +164,7 @@ pub number_room : {s : List ℕ} {at w : ℕ} {z : Sizes} → TookNumber s at w 
 unfolding reading.two
 number_room k = omega (arith, k.few)
 
-pub operand_number : {s a b : List ℕ} {n at m w : ℕ} {z : Sizes} → TookNumber s at w z → Put a b n (1 ∷ w ∷ []) m → Parsed s a b n (operand s) (Read at m z)
+pub operand_number : {s a b : List ℕ} {n at m w : ℕ} {z : Sizes} → TookNumber s at w z → Put a b n (1 ∷ w ∷ []) m → Parsed s a b n (operand s) (Some (record { at = at; value = m; sizes = z }))
 unfolding operand flat expr_sizes constant_size
 operand_number {s} {a} {b} {n} {at} {m} {w} {z} k p =
     leaf (con k.tree) (1 ∷ w ∷ [])

@@ -9,12 +9,12 @@ use Rattle.rules_text.specs.Tokens.{comma, Found, found, bad, Reader, give, ahea
 use Rattle.rules_text.proofs.Parse.{list_step, listed_step}
 use Rattle.rules_text.proofs.Found.{ahead_none}
 use Rattle.read_tokens.specs.declared.Sizes.{Sizes}
-use Rattle.read_tokens.specs.Reading.{end_of}
+use Rattle.read_tokens.specs.Reading.{end_of, answer}
 use Rattle.read_tokens.proofs.Tokens.{inside}
 use Rattle.read_tokens.proofs.Chains.{Upto, give_upto, byte_yes, byte_no, upto_as, then_upto, then_bad, Leads, then_leads, after_leads, leads_more, leads_as, leads_bad, leads_upto}
 use Rattle.read_items.specs.Parsed.{Put}
-use Rattle.read_lists.specs.declared.GotList.TheVariants.{Read, Bad}
-use Rattle.read_lists.specs.Lists.{list_words, answer, ReadsList}
+use Rattle.std.proofs.Common.{Some, None}
+use Rattle.read_lists.specs.Lists.{list_words, ReadsList}
 
 -- with these before it
 unfoldable pub those : {A : Type 0} → List A → Found (List A) → Found (List A)
@@ -113,13 +113,13 @@ module _ {A : Type 0} (r : Reader A) (words : List A → List ℕ) (sizes : List
         count_now : c ≡ length (g.acc ++ x ∷ [])
         count_now = let e = length-append g.acc (x ∷ []) in omega (arith, ce, g.count_is)
 
-        pub list_read : (get_or s next 0 ≡ comma → ⊥) → ReadsList words sizes s b' from (listed r (drop from s)) (Read next c y)
+        pub list_read : (get_or s next 0 ≡ comma → ⊥) → ReadsList words sizes s b' from (listed r (drop from s)) (Some (record { at = next; value = c; sizes = y }))
         unfolding answer list_words end_of
         list_read ne =
             let w = list_ends ne in
-            subst (λ (o : Found (List A)). ReadsList words sizes s b' from o (Read next c y)) (sym w.is)
+            subst (λ (o : Found (List A)). ReadsList words sizes s b' from o (Some (record { at = next; value = c; sizes = y }))) (sym w.is)
             (record {
-              says = ap (λ (k : ℕ). Read k c y) w.ends ∙ ap (λ (k : ℕ). Read (from + w.count) k y) count_now ∙ ap (Read (from + w.count) (length (g.acc ++ x ∷ []))) ze;
+              says = let ends = w.ends in let many = count_now in cc;
               table = ap (λ (k : ℕ). take k b') (sym size_is) ∙ table_is;
               within = omega (arith, w.ends, w.within);
             })
@@ -140,7 +140,7 @@ module _ {A : Type 0} (r : Reader A) (words : List A → List ℕ) (sizes : List
               kept = k ∙ g.kept;
             }
 
-  pub list_refused : {s b : List ℕ} {from : ℕ} → from ≤ length s → listed r (drop from s) ≡ bad → ReadsList words sizes s b from (listed r (drop from s)) Bad
+  pub list_refused : {s b : List ℕ} {from : ℕ} → from ≤ length s → listed r (drop from s) ≡ bad → ReadsList words sizes s b from (listed r (drop from s)) None
   unfolding answer list_words end_of
   list_refused {s} {b} {from} le e =
-      subst (λ (o : Found (List A)). ReadsList words sizes s b from o Bad) (sym e) (record { says = refl; table = refl; within = le })
+      subst (λ (o : Found (List A)). ReadsList words sizes s b from o None) (sym e) (record { says = refl; table = refl; within = le })

@@ -22,14 +22,14 @@ use Rattle.read_tokens.specs.Reading as reading
 use Rattle.read_tokens.proofs.Measured.{sizes_join}
 use Rattle.read_tokens.proofs.Tokens.{after_none, inside, word_none, word_fits}
 use Rattle.read_tokens.proofs.Chains.{Upto, give_upto, then_upto, then_bad, Took, Leads, then_leads, after_leads, word_leads, leads_more, leads_as, leads_bad, leads_upto, whole_some, whole_short, whole_bad}
+use Rattle.std.proofs.Common.{Option as Maybe, Some, None}
+use Rattle.read_tokens.specs.declared.Read.{Read}
 use Rattle.read_forms.specs.declared.Statement.{Statement}
 use Rattle.read_forms.specs.declared.Statement.TheVariants as statement
 use Rattle.read_forms.specs.Statements.{array_words, all_words, form_words, form_sizes, statement_of, Reads}
 use Rattle.read_forms.proofs.Forms.{here, reads_none, reads_some}
 use Rattle.read_lists.specs.declared.Array.{Array}
-use Rattle.read_lists.specs.declared.GotList.{GotList}
-use Rattle.read_lists.specs.declared.GotList.TheVariants.{Read, Bad}
-use Rattle.read_lists.specs.Lists.{array_value, array_sizes, seven_words, list_words, answer, ReadsList, numbers_words, numbers_sizes, arrays_sizes, choice_of, EndsComputed}
+use Rattle.read_lists.specs.Lists.{array_value, array_sizes, seven_words, list_words, ReadsList, numbers_words, numbers_sizes, arrays_sizes, choice_of, EndsComputed}
 
 append_none : {A : Type 0} (l : List A) → l ++ [] ≡ l
 append_none [] = refl
@@ -118,28 +118,29 @@ pub record TookList {A : Type 0} (words : List A → List ℕ) (sizes : List A �
   pub sizes_is : z ≡ sizes tree
   pub table : take (length (words tree)) b ≡ words tree
 
-module _ {A : Type 0} {words : List A → List ℕ} {sizes : List A → Sizes} {s b : List ℕ} {from : ℕ} {o : Found (List A)} {r : GotList} (h : ReadsList words sizes s b from o r) where
-  pub took_list : {at count : ℕ} {z : Sizes} → r ≡ Read at count z → TookList words sizes s b from o at count z
-  unfolding answer list_words end_of
-  took_list {at} {count} {z} q = go o refl h
+module _ {A : Type 0} {words : List A → List ℕ} {sizes : List A → Sizes} {s b : List ℕ} {from : ℕ} {o : Found (List A)} {r : Maybe (Read ℕ)} (h : ReadsList words sizes s b from o r) where
+  pub took_list : {x : Read ℕ} → r ≡ Some x → TookList words sizes s b from o x.at x.value x.sizes
+  unfolding reading.answer list_words end_of
+  took_list {x} q = go o refl h
     where
-      go : (p : Found (List A)) → o ≡ p → ReadsList words sizes s b from p r → TookList words sizes s b from o at count z
+      go : (p : Found (List A)) → o ≡ p → ReadsList words sizes s b from p r → TookList words sizes s b from o x.at x.value x.sizes
       go (found l k) e g =
-          let w : r ≡ Read (from + k) (length l) (sizes l) = g.says in
-          let x : at ≡ from + k = cc in
-          let y : count ≡ length l = cc in
-          let v : z ≡ sizes l = cc in
-          record { tree = l; upto = record { count = k; is = e; ends = x; within = omega (arith, g.within) }; count_is = y; sizes_is = v; table = g.table }
-      go bad e g =
-          let w : r ≡ Bad = g.says in
-          let c : ◌≡◌ {A = ℕ} 0 1 = cc in
-          absurd (omega arith)
+          let same : x ≡ record { at = from + k; value = length l; sizes = sizes l } = let says = g.says in cc in
+          let place : x.at ≡ from + k = ap (λ (y : Read ℕ). y.at) same in
+          record {
+            tree = l;
+            upto = record { count = k; is = e; ends = place; within = omega (arith, g.within) };
+            count_is = ap (λ (y : Read ℕ). y.value) same;
+            sizes_is = ap (λ (y : Read ℕ). y.sizes) same;
+            table = g.table;
+          }
+      go bad e g = let says : r ≡ None = g.says in let c : ◌≡◌ {A = ℕ} 0 1 = cc in absurd (omega arith)
 
-  pub refused_list : r ≡ Bad → o ≡ bad
-  unfolding answer
+  pub refused_list : r ≡ None → o ≡ bad
+  unfolding reading.answer
   refused_list q = go o refl h.says
     where
-      go : (p : Found (List A)) → o ≡ p → r ≡ answer sizes from p → o ≡ bad
+      go : (p : Found (List A)) → o ≡ p → r ≡ reading.answer length sizes from p → o ≡ bad
       go (found l k) e w = let c : ◌≡◌ {A = ℕ} 0 1 = cc in absurd (omega arith)
       go bad e w = e
 
@@ -161,35 +162,29 @@ unfolding right_exits
 right_exits_lem ns g h = ap (λ (b : Bool). b && leb (length ns) 10) (le-leb 2 (length ns) g) ∙ le-leb (length ns) 10 h
 
 module _ (s : List ℕ) (from exits : ℕ) where
-  pub choice_open : (get_or s from 0 ≡ right_paren → ⊥) → EndsComputed s from exits statement.Bad
+  pub choice_open : (get_or s from 0 ≡ right_paren → ⊥) → EndsComputed s from exits None
   unfolding choice_of
   choice_open ne ns b ee te = reads_none (whole_bad (length s) (leads_bad (here from _) (after_none right_paren (omega arith) s from _ ne)))
 
   module _ (c : get_or s from 0 ≡ right_paren) where
-    pub choice_inside : from + 1 ≤ length s
-    choice_inside = let i = inside right_paren (omega arith) s from c in omega arith
-
-    pub choice_no_comma : (get_or s (from + 1) 0 ≡ comma → ⊥) → EndsComputed s from exits statement.Bad
+    pub choice_no_comma : (get_or s (from + 1) 0 ≡ comma → ⊥) → EndsComputed s from exits None
     unfolding choice_of
     choice_no_comma ne ns b ee te =
         reads_none (whole_bad (length s) (leads_bad (leads_more (here from _) (after_leads s from right_paren _ (omega arith) c)) (after_none comma (omega arith) s (from + 1) _ ne)))
 
     module _ (m : get_or s (from + 1) 0 ≡ comma) where
-      pub choice_named : from + 1 + 1 ≤ length s
-      choice_named = let i = inside comma (omega arith) s (from + 1) m in omega arith
-
       choice_lead : (ns : List Digits) → Leads 0 (ahead from (choice_of ns (drop from s))) (from + 1 + 1) (and_then name (λ v. give_if (right_exits ns) (computed ns v)) (drop (from + 1 + 1) s))
       unfolding choice_of
       choice_lead ns = leads_more (leads_more (here from _) (after_leads s from right_paren _ (omega arith) c)) (after_leads s (from + 1) comma _ (omega arith) m)
 
-      pub choice_no_name : name (drop (from + 1 + 1) s) ≡ bad → EndsComputed s from exits statement.Bad
+      pub choice_no_name : name (drop (from + 1 + 1) s) ≡ bad → EndsComputed s from exits None
       choice_no_name e ns b ee te = reads_none (whole_bad (length s) (leads_bad (choice_lead ns) (then_bad s (from + 1 + 1) name _ e)))
 
       module _ {at : ℕ} {w : code.Name} {z : Sizes} (t : TookName s (from + 1 + 1) at w z) where
         choice_at : (ns : List Digits) → Leads 0 (ahead from (choice_of ns (drop from s))) at (give_if (right_exits ns) (computed ns t.tree) (drop at s))
         choice_at ns = leads_more (choice_lead ns) (then_leads s (from + 1 + 1) name _ t.upto)
 
-        wrong : (ns : List Digits) (b : List ℕ) → right_exits ns ≡ false → Reads b (all_of (length s) (ahead from (choice_of ns (drop from s)))) statement.Bad
+        wrong : (ns : List Digits) (b : List ℕ) → right_exits ns ≡ false → Reads b (all_of (length s) (ahead from (choice_of ns (drop from s)))) None
         unfolding give_if
         wrong ns b e =
             reads_none (whole_bad (length s) (leads_bad (choice_at ns) (ap (λ (q : Bool). give_if q (computed ns t.tree) (drop at s)) e)))
@@ -200,20 +195,20 @@ module _ (s : List ℕ) (from exits : ℕ) where
             leads_upto (leads_as (choice_at ns) (ap (λ (q : Bool). give_if q (computed ns t.tree) (drop at s)) e))
             (record { count = 0; is = refl; ends = omega arith; within = t.upto.within })
 
-        pub choice_more : (at ≡ length s → ⊥) → EndsComputed s from exits statement.Bad
+        pub choice_more : (at ≡ length s → ⊥) → EndsComputed s from exits None
         choice_more n ns b ee te = go (right_exits ns) refl
           where
-            go : (q : Bool) → right_exits ns ≡ q → Reads b (all_of (length s) (ahead from (choice_of ns (drop from s)))) statement.Bad
+            go : (q : Bool) → right_exits ns ≡ q → Reads b (all_of (length s) (ahead from (choice_of ns (drop from s)))) None
             go true e = reads_none (whole_short (right ns e) n)
             go false e = wrong ns b e
 
-        pub choice_few : exits < 2 → EndsComputed s from exits statement.Bad
+        pub choice_few : exits < 2 → EndsComputed s from exits None
         choice_few l ns b ee te = wrong ns b (few_exits ns (subst (λ (x : ℕ). x < 2) ee l))
 
-        pub choice_many : 2 ≤ exits → 10 < exits → EndsComputed s from exits statement.Bad
+        pub choice_many : 2 ≤ exits → 10 < exits → EndsComputed s from exits None
         choice_many g l ns b ee te = wrong ns b (many_exits ns (subst (λ (x : ℕ). 2 ≤ x) ee g) (subst (λ (x : ℕ). 10 < x) ee l))
 
-        pub choice_read : at ≡ length s → 2 ≤ exits → exits ≤ 10 → EndsComputed s from exits (statement.Computed (record { exits = exits; name = w; sizes = z }))
+        pub choice_read : at ≡ length s → 2 ≤ exits → exits ≤ 10 → EndsComputed s from exits (Some (statement.Computed (record { exits = exits; name = w; sizes = z })))
         unfolding statement_of form_words form_sizes form_names form_constants form_levels name_size numbers_words
         choice_read q g l ns b ee te =
             reads_some (computed ns t.tree) (whole_some (right ns (right_exits_lem ns (subst (λ (x : ℕ). 2 ≤ x) ee g) (subst (λ (x : ℕ). x ≤ 10) ee l))) q)
@@ -222,12 +217,12 @@ module _ (s : List ℕ) (from exits : ℕ) where
             ∙ ap (λ (x : Sizes). statement.Computed (record { exits = length ns; name = name_of t.tree; sizes = x })) t.sizes_is)
             te
 
-pub computed_no_word : {b : List ℕ} (s : List ℕ) → starts_word word_go_to s ≡ false → Reads b (read_computed s) statement.Bad
+pub computed_no_word : {b : List ℕ} (s : List ℕ) → starts_word word_go_to s ≡ false → Reads b (read_computed s) None
 unfolding read_computed whole computed_go_to
 computed_no_word s e = reads_none (whole_bad (length s) (word_none word_go_to _ s e))
 
 module _ (s : List ℕ) (w : starts_word word_go_to s ≡ true) where
-  pub computed_not_opened : {b : List ℕ} → (get_or s 4 0 ≡ left_paren → ⊥) → Reads b (read_computed s) statement.Bad
+  pub computed_not_opened : {b : List ℕ} → (get_or s 4 0 ≡ left_paren → ⊥) → Reads b (read_computed s) None
   unfolding read_computed whole computed_go_to
   computed_not_opened n = reads_none (whole_bad (length s) (leads_bad (word_leads word_go_to _ s w) (after_none left_paren (omega arith) s 4 _ n)))
 
@@ -239,11 +234,11 @@ module _ (s : List ℕ) (w : starts_word word_go_to s ≡ true) where
     unfolding computed_go_to choice_of
     computed_lead = leads_more (word_leads word_go_to _ s w) (after_leads s 4 left_paren _ (omega arith) o)
 
-    pub computed_no_list : {b : List ℕ} → listed number (drop 5 s) ≡ bad → Reads b (read_computed s) statement.Bad
+    pub computed_no_list : {b : List ℕ} → listed number (drop 5 s) ≡ bad → Reads b (read_computed s) None
     unfolding read_computed whole
     computed_no_list e = reads_none (whole_bad (length s) (leads_bad computed_lead (then_bad s 5 (listed number) _ e)))
 
-    pub computed_read : {b : List ℕ} {at count : ℕ} {z : Sizes} {r : Statement} → TookList numbers_words numbers_sizes s b 5 (listed number (drop 5 s)) at count z
+    pub computed_read : {b : List ℕ} {at count : ℕ} {z : Sizes} {r : Maybe Statement} → TookList numbers_words numbers_sizes s b 5 (listed number (drop 5 s)) at count z
         → EndsComputed s at count r → Reads b (read_computed s) r
     unfolding read_computed whole
     computed_read {b} {at} {count} {z} {r} t h =
@@ -254,7 +249,7 @@ module _ (s : List ℕ) (w : starts_word word_go_to s ≡ true) where
 
 -- ---- DIMENSION
 
-pub dimension_no_word : {b : List ℕ} (s : List ℕ) → starts_word word_dimension s ≡ false → Reads b (read_dimension s) statement.Bad
+pub dimension_no_word : {b : List ℕ} (s : List ℕ) → starts_word word_dimension s ≡ false → Reads b (read_dimension s) None
 unfolding read_dimension whole dimensions
 dimension_no_word s e = reads_none (whole_bad (length s) (word_none word_dimension _ s e))
 
@@ -266,7 +261,7 @@ module _ (s : List ℕ) (w : starts_word word_dimension s ≡ true) where
   unfolding dimensions
   dimension_lead = word_leads word_dimension _ s w
 
-  pub dimension_no_list : {b : List ℕ} → listed array_shape (drop 9 s) ≡ bad → Reads b (read_dimension s) statement.Bad
+  pub dimension_no_list : {b : List ℕ} → listed array_shape (drop 9 s) ≡ bad → Reads b (read_dimension s) None
   unfolding read_dimension whole
   dimension_no_list e = reads_none (whole_bad (length s) (leads_bad dimension_lead (then_bad s 9 (listed array_shape) _ e)))
 
@@ -274,11 +269,11 @@ module _ (s : List ℕ) (w : starts_word word_dimension s ≡ true) where
     dimension_upto : Upto s 0 (dimensions s) at (dimension t.tree)
     dimension_upto = leads_upto dimension_lead (then_upto s 9 (listed array_shape) _ t.upto (give_upto s at (dimension t.tree) t.upto.within))
 
-    pub dimension_more : (at ≡ length s → ⊥) → Reads b (read_dimension s) statement.Bad
+    pub dimension_more : (at ≡ length s → ⊥) → Reads b (read_dimension s) None
     unfolding read_dimension whole
     dimension_more n = reads_none (whole_short dimension_upto n)
 
-    pub dimension_read : at ≡ length s → Reads b (read_dimension s) (statement.Dimension (record { arrays = count; sizes = z }))
+    pub dimension_read : at ≡ length s → Reads b (read_dimension s) (Some (statement.Dimension (record { arrays = count; sizes = z })))
     unfolding read_dimension whole statement_of form_words form_sizes form_names form_constants form_levels arrays_sizes
     dimension_read q =
         reads_some (dimension t.tree) (whole_some dimension_upto q)

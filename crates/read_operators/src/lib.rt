@@ -9,38 +9,33 @@ ghost use Rattle.read_operators.specs.Signs.{Signed, op_number, sign_len};
 pub fn sign_len(c: u8) -> usize
     ensures { result ≡ sign_len c }
 {
-    if c == b'+' {
-        return 1;
+    match c {
+        b'+' | b'-' => 1,
+        _ => 0,
     }
-    if c == b'-' {
-        return 1;
-    }
-    0
 }
 
-// The item of the operation between terms that a byte is, or 0.
-pub fn sum_op(c: u8) -> u64
+// The item of the operation between terms that a byte is.
+#[tactic(auto, unfolding(crate::specs::Signs::op_number, rules_text::specs::Grammar::sum_op))]
+pub fn sum_op(c: u8) -> Option<u64>
     ensures { result ≡ op_number (sum_op c) }
 {
-    if c == b'+' {
-        return 6;
+    match c {
+        b'+' => Some(6),
+        b'-' => Some(7),
+        _ => None,
     }
-    if c == b'-' {
-        return 7;
-    }
-    0
 }
 
-pub fn product_op(c: u8) -> u64
+#[tactic(auto, unfolding(crate::specs::Signs::op_number, rules_text::specs::Grammar::product_op))]
+pub fn product_op(c: u8) -> Option<u64>
     ensures { result ≡ op_number (product_op c) }
 {
-    if c == b'*' {
-        return 8;
+    match c {
+        b'*' => Some(8),
+        b'/' => Some(9),
+        _ => None,
     }
-    if c == b'/' {
-        return 9;
-    }
-    0
 }
 
 // Puts NEG after the first term where the sign is minus, and returns how many words there are then.

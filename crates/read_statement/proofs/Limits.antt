@@ -2,7 +2,7 @@
 -- Assumes nothing.
 use mathlib.Core.Path.{◌≡◌, refl, sym, ap, ◌∙◌}
 use mathlib.Core.List.{List, [], ◌∷◌}
-use mathlib.Core.Bool.{Bool, true, false, ◌&&◌, cond}
+use mathlib.Core.Bool.{Bool, true, false, ◌&&◌, not}
 use Prim.Native.Nat.{ℕ, max}
 use native.Mathlib.Omega.{arith}
 use lib.Dec.{leb}
@@ -13,7 +13,7 @@ use Rattle.rules_shared.specs.House.{House}
 use Rattle.rules_shared.specs.Lists.{all}
 use Rattle.rules_text.specs.Trees.{Name, Form, form_names, form_constants}
 use Rattle.rules_deck.specs.Judge.{starts_integer, right11, right12, right14}
-use Rattle.read_tokens.specs.Sizes.{largest, other_letter, sizes_of}
+use Rattle.read_tokens.specs.Sizes.{largest, sizes_of}
 use Rattle.read_forms.specs.Statements.{form_sizes}
 
 both_le : (x y k : ℕ) → leb (max x y) k ≡ leb x k && leb y k
@@ -42,14 +42,6 @@ pub sizes_14 : (f : Form) → right14 f ≡ leb (form_sizes f).levels limits.par
 unfolding right14 form_sizes sizes_of
 sizes_14 f = refl
 
-integer_letter : (v : Name) → starts_integer v ≡ leb (other_letter v) 0
-unfolding other_letter
-integer_letter v = go (starts_integer v)
-  where
-    go : (b : Bool) → b ≡ leb (cond b 0 1) 0
-    go true = refl
-    go false = refl
-
 swap : (a b c d : Bool) → (a && b) && (c && d) ≡ (a && c) && (b && d)
 swap true true true d = refl
 swap true true false d = refl
@@ -57,17 +49,20 @@ swap true false true d = refl
 swap true false false d = refl
 swap false b c d = refl
 
-both_all : (n : ℕ) (l : List Name) → all (λ v. leb (length v) n && starts_integer v) l ≡ all (λ v. leb (length v) n) l && all (λ v. leb (other_letter v) 0) l
+both_all : (n : ℕ) (l : List Name) → all (λ v. leb (length v) n && starts_integer v) l ≡ all (λ v. leb (length v) n) l && all starts_integer l
 both_all n [] = refl
 both_all n (v ∷ l) =
     ap (λ (b : Bool). (leb (length v) n && starts_integer v) && b) (both_all n l)
-    ∙ ap (λ (b : Bool). (leb (length v) n && b) && (all (λ w. leb (length w) n) l && all (λ w. leb (other_letter w) 0) l)) (integer_letter v)
-    ∙ swap (leb (length v) n) (leb (other_letter v) 0) (all (λ w. leb (length w) n) l) (all (λ w. leb (other_letter w) 0) l)
+    ∙ swap (leb (length v) n) (starts_integer v) (all (λ w. leb (length w) n) l) (all starts_integer l)
+
+twice : (b : Bool) → b ≡ not (not b)
+twice true = refl
+twice false = refl
 
 -- 11
-pub sizes_11 : (house : House) (f : Form) → right11 house f ≡ leb (form_sizes f).name house.name_length && leb (form_sizes f).other 0
+pub sizes_11 : (house : House) (f : Form) → right11 house f ≡ leb (form_sizes f).name house.name_length && not (form_sizes f).other
 unfolding right11 form_sizes sizes_of
 sizes_11 house f =
     both_all house.name_length (form_names f)
-    ∙ ap (λ (b : Bool). b && all (λ v. leb (other_letter v) 0) (form_names f)) (largest_le length house.name_length (form_names f))
-    ∙ ap (λ (b : Bool). leb (largest length (form_names f)) house.name_length && b) (largest_le other_letter 0 (form_names f))
+    ∙ ap (λ (b : Bool). b && all starts_integer (form_names f)) (largest_le length house.name_length (form_names f))
+    ∙ ap (λ (b : Bool). leb (largest length (form_names f)) house.name_length && b) (twice (all starts_integer (form_names f)))

@@ -9,56 +9,41 @@ use native.Mathlib.Omega.{arith}
 use lib.ListN.{length, take}
 use Rattle.rules_shared.specs.Lists.{each_more}
 use Rattle.rules_shared.proofs.EachLaws.{each_one}
-use Rattle.rules_text.specs.Trees.{Form, assign, go_to, computed, ifs, loop, continue, stop, end, dimension}
+use Rattle.rules_text.specs.Trees.{Form, continue, stop, end}
 use Rattle.rules_text.specs.Tokens.{comma, equals, word_continue, word_stop, word_end, Reader, give, after_word, whole}
 use Rattle.rules_text.specs.Grammar.{plain_go_to, do_loop, read_assignment, read_go_to, read_computed, read_if, read_do, read_continue, read_stop, read_end, read_dimension, present, readings, first_of, form_of}
 use Rattle.rules_text.proofs.Readers.{Any, Good, good_then, good_give, good_after, good_word, good_choose, good_any, good_number, good_name}
 use Rattle.rules_text.proofs.ReadForms.{whole_good, good_parameter}
 use Rattle.rules_text.proofs.OneForm.{form_is}
+use Rattle.std.proofs.Common.{Option as Maybe, Some, None}
 use Rattle.read_forms.specs.declared.Statement.{Statement}
-use Rattle.read_forms.specs.Statements.{form_words, statement_of, answer, words, Reads, only_word, word_form}
+use Rattle.read_forms.specs.Statements.{form_words, answer, words, Reads, only_word, word_form}
 use Rattle.read_forms.proofs.Forms.{only_is}
-use Rattle.read_statement.specs.Which.{is_form}
 
--- ---- an answer is a form or not
+-- ---- an answer, of the form that was tried or not
 
-clash : true ≡ false → ⊥
-clash e = let z : ◌≡◌ {A = ℕ} 0 1 = cc in omega arith
-
-form_true : (f : Form) → is_form (statement_of f) ≡ true
-unfolding is_form statement_of
-form_true (assign t e) = refl
-form_true (go_to n) = refl
-form_true (computed ns v) = refl
-form_true (ifs e a b c) = refl
-form_true (loop n v p q r) = refl
-form_true continue = refl
-form_true stop = refl
-form_true end = refl
-form_true (dimension l) = refl
-
-pub settled : {b : List ℕ} {o p : Option Form} {r : Statement} → ((f : Form) → o ≡ some f → p ≡ some f) → Reads b o r → is_form r ≡ true → Reads b p r
-unfolding answer is_form
-settled {b} {o} {p} {r} law h t = go o refl h
+pub settled : {b : List ℕ} {o p : Option Form} {r : Maybe Statement} {x : Statement} → ((f : Form) → o ≡ some f → p ≡ some f) → Reads b o r → r ≡ Some x → Reads b p (Some x)
+unfolding answer
+settled {b} {o} {p} {r} {x} law h t = subst (λ (y : Maybe Statement). Reads b p y) t (go o refl h)
   where
-    go : (x : Option Form) → o ≡ x → Reads b x r → Reads b p r
-    go none e g = absurd (clash (sym t ∙ ap is_form g.says))
+    go : (y : Option Form) → o ≡ y → Reads b y r → Reads b p r
+    go none e g = let says : r ≡ None = g.says in let z : ◌≡◌ {A = ℕ} 0 1 = cc in absurd (omega arith)
     go (some f) e g = subst (λ (y : Option Form). Reads b y r) (sym (law f e)) g
 
-pub not_this : {o : Option Form} {r : Statement} → r ≡ answer o → is_form r ≡ false → o ≡ none
+pub not_this : {o : Option Form} {r : Maybe Statement} → r ≡ answer o → r ≡ None → o ≡ none
 unfolding answer
 not_this {o} {r} h t = go o refl h
   where
     go : (x : Option Form) → o ≡ x → r ≡ answer x → o ≡ none
     go none e g = e
-    go (some f) e g = absurd (clash (sym (form_true f) ∙ ap is_form (sym g) ∙ t))
+    go (some f) e g = let z : ◌≡◌ {A = ℕ} 0 1 = cc in absurd (omega arith)
 
-pub reads_as : {b : List ℕ} {o p : Option Form} {r : Statement} → p ≡ o → Reads b o r → Reads b p r
+pub reads_as : {b : List ℕ} {o p : Option Form} {r : Maybe Statement} → p ≡ o → Reads b o r → Reads b p r
 reads_as {b} {o} {p} {r} e h = subst (λ (x : Option Form). Reads b x r) (sym e) h
 
 -- ---- the forms that leave no words
 
-pub with_words : {b : List ℕ} {o : Option Form} {r : Statement} → words o ≡ [] → r ≡ answer o → Reads b o r
+pub with_words : {b : List ℕ} {o : Option Form} {r : Maybe Statement} → words o ≡ [] → r ≡ answer o → Reads b o r
 with_words {b} {o} {r} e q = record { says = q; table = ap (λ (l : List ℕ). take (length l) b) e ∙ sym e }
 
 abbrev Wordless : Form → Type 0

@@ -1,8 +1,7 @@
 -- For callers: a deck that `judge` counts is accepted, and each statement taken leaves the others, so that from card 0 on all of them are taken in order.
 -- Assumes nothing.
-use Prim.Native.Nat.{ℕ, suc, ◌+◌, ◌-◌, ◌≤◌, ◌<◌}
+use Prim.Native.Nat.{ℕ, suc, ◌+◌, ◌≤◌, ◌<◌}
 use mathlib.Core.Path.{◌≡◌, refl, sym, ap, ◌∙◌, subst}
-use mathlib.Core.Bool.{Bool, true, false, cond}
 use mathlib.Core.List.{List, [], ◌∷◌, ◌++◌}
 use native.Mathlib.Omega.{arith}
 use native.Mathlib.Numerals.{add-one}
@@ -16,8 +15,9 @@ use Rattle.rules_text.proofs.CardsLaws.{RightStatement}
 use Rattle.rules_text.proofs.CardsGroups.{statements_grouped}
 use Rattle.read_cards.specs.declared.Number.{Number}
 use Rattle.read_texts.specs.declared.Taken.{Taken}
-use Rattle.read_texts.specs.declared.Taken.TheVariants.{Statement, End}
-use Rattle.read_texts.specs.Taking.{Accepted, over, begins, skipped, passed, punched_raw, punched_text, first_of, first_content, Takes, Written}
+use Rattle.std.specs.Prelude.{Option, Some, None}
+use Rattle.read_texts.specs.Taking.{Accepted, over, skipped, passed, punched_raw, punched_text, first_of, first_content, Takes, Put}
+use Rattle.read_texts.proofs.TakeLaws.{skipped_within}
 use Rattle.read_texts.proofs.TextLaws.{over_none, over_stands}
 use Rattle.read_texts.proofs.StatementLaws.{group_first, group_skip, skip_stops, each_from, all_right}
 
@@ -28,14 +28,6 @@ pub from_start : (deck : List ℕ) (a : Accepted deck) → a.all ≡ grouped (dr
 from_start deck a = statements_grouped (house1401 a.digits) deck a.all a.is
 
 -- ---- what `statement` leaves
-
-skipped_within : (cards : List (List ℕ)) → skipped cards ≤ length cards
-skipped_within [] = omega arith
-skipped_within (card ∷ cards) = go (begins card) (skipped_within cards)
-  where
-    go : (b : Bool) → skipped cards ≤ length cards → cond b 0 (suc (skipped cards)) ≤ suc (length cards)
-    go true h = omega arith
-    go false h = omega arith
 
 -- of the cards to come: none starts a statement, or one does, and then those that are passed leave the others
 data Held (cards : List (List ℕ)) : Type 0 where
@@ -72,28 +64,29 @@ module _ (content : Punched → List ℕ) where
     pub passes : card + passed (drop card (cards_of deck)) ≡ next
     pub within : next ≤ length (cards_of deck)
 
-  going : {deck : List ℕ} {card : ℕ} {table table' : List ℕ} {r : Taken} {number : Number} {n next : ℕ} → ((k : ℕ) (p : Punched) → RightStatement (house1401 k) p → length (content p) ≤ 660)
-      → Accepted deck → Takes content deck card table table' r → r ≡ Statement number n next → Going deck card table table' number n next
-  going {deck} {card} {table} {table'} {r} {number} {n} {next} room a t f = go (held (drop card cards))
+  going : {deck : List ℕ} {card : ℕ} {table table' : List ℕ} {r : Option Taken} {t : Taken} → ((k : ℕ) (p : Punched) → RightStatement (house1401 k) p → length (content p) ≤ 660)
+      → Accepted deck → Takes content deck card table table' r → r ≡ Some t → Going deck card table table' t.number t.length t.next
+  going {deck} {card} {table} {table'} {r} {t} room a s f = go (held (drop card cards))
     where
       cards : List (List ℕ)
       cards = cards_of deck
 
-      go : Held (drop card cards) → Going deck card table table' number n next
+      go : Held (drop card cards) → Going deck card table table' t.number t.length t.next
       go (none e) =
-          let z : Statement number n next ≡ End = sym f ∙ t.says ∙ ap (λ (ps : List Punched). first_of content ps (card + passed (drop card cards))) e in
+          let z : Some t ≡ None = sym f ∙ s.says ∙ ap (λ (ps : List Punched). first_of content ps (card + passed (drop card cards))) e in
           let y : ◌≡◌ {A = ℕ} 0 1 = cc in
           absurd (omega arith)
       go (one p e l w) =
-          let s : Statement number n next ≡ Statement (record { 0 = p.number }) (length (content p)) (card + passed (drop card cards)) = sym f ∙ t.says ∙ ap (λ (ps : List Punched). first_of content ps (card + passed (drop card cards))) e in
-          let m : n ≡ length (content p) = cc in
-          let k : card + passed (drop card cards) ≡ next = cc in
+          let z : Some t ≡ Some (record { number = record { 0 = p.number }; length = length (content p); next = card + passed (drop card cards) }) = sym f ∙ s.says ∙ ap (λ (ps : List Punched). first_of content ps (card + passed (drop card cards))) e in
+          let u : t ≡ record { number = record { 0 = p.number }; length = length (content p); next = card + passed (drop card cards) } = cc in
+          let m = ap (λ (x : Taken). x.length) u in
+          let k = sym (ap (λ (x : Taken). x.next) u) in
           let fine = room a.digits p (each_head (subst (Each (RightStatement (house1401 a.digits))) e (each_from card cards (all_right deck a)))) in
-          let o : table' ≡ over 0 (content p) table = t.put ∙ ap (λ (ps : List Punched). over 0 (first_content content ps) table) e in
+          let o : table' ≡ over 0 (content p) table = s.put ∙ ap (λ (ps : List Punched). over 0 (first_content content ps) table) e in
           record {
             taken = p;
             others = e ∙ ap (λ (l : List (List ℕ)). p ∷ grouped l) (drop-drop (passed (drop card cards)) card cards ∙ ap (λ (i : ℕ). drop i cards) k);
-            number_is = cc;
+            number_is = sym (ap (λ (x : Taken). x.number.0) u);
             length_is = m;
             short = omega (arith, fine);
             put = o;
@@ -105,61 +98,55 @@ module _ (content : Punched → List ℕ) where
             within = omega (arith, length-drop card cards);
           }
 
-  none_taken : {deck : List ℕ} {card : ℕ} {table table' : List ℕ} {r : Taken} → Takes content deck card table table' r → r ≡ End → (grouped (drop card (cards_of deck)) ≡ []) × (table' ≡ table)
+  none_taken : {deck : List ℕ} {card : ℕ} {table table' : List ℕ} {r : Option Taken} → Takes content deck card table table' r → r ≡ None → (grouped (drop card (cards_of deck)) ≡ []) × (table' ≡ table)
   unfolding over
   none_taken {deck} {card} {table} {table'} t f = go (grouped (drop card (cards_of deck))) (sym f ∙ t.says) t.put
     where
-      go : (ps : List Punched) → End ≡ first_of content ps (card + passed (drop card (cards_of deck))) → table' ≡ over 0 (first_content content ps) table → (ps ≡ []) × (table' ≡ table)
+      go : (ps : List Punched) → None ≡ first_of content ps (card + passed (drop card (cards_of deck))) → table' ≡ over 0 (first_content content ps) table → (ps ≡ []) × (table' ≡ table)
       go [] e o = (refl, o)
       go (p ∷ ps) e o = let z : ◌≡◌ {A = ℕ} 0 1 = cc in absurd (omega arith)
 
 abbrev pub Onward : List ℕ → ℕ → List ℕ → List ℕ → Number → ℕ → ℕ → Type 0
 Onward = Going punched_text
 
-pub onward : {deck : List ℕ} {card : ℕ} {text text' : List ℕ} {r : Taken} {number : Number} {n next : ℕ} → Accepted deck → Takes punched_text deck card text text' r
-    → r ≡ Statement number n next → Onward deck card text text' number n next
-onward a t f = going punched_text (λ k p r. r.text_short) a t f
+pub onward : {deck : List ℕ} {card : ℕ} {text text' : List ℕ} {r : Option Taken} {t : Taken} → Accepted deck → Takes punched_text deck card text text' r
+    → r ≡ Some t → Onward deck card text text' t.number t.length t.next
+onward a s f = going punched_text (λ k p r. r.text_short) a s f
 
-pub ended : {deck : List ℕ} {card : ℕ} {text text' : List ℕ} {r : Taken} → Takes punched_text deck card text text' r → r ≡ End → (grouped (drop card (cards_of deck)) ≡ []) × (text' ≡ text)
+pub ended : {deck : List ℕ} {card : ℕ} {text text' : List ℕ} {r : Option Taken} → Takes punched_text deck card text text' r → r ≡ None → (grouped (drop card (cards_of deck)) ≡ []) × (text' ≡ text)
 ended t f = none_taken punched_text t f
 
 -- ---- from what is punched to its text
 
-said : (a : Number) (b m n k l : ℕ) → a.0 ≡ b → m ≡ n → k ≡ l → Statement a m k ≡ Statement (record { 0 = b }) n l
-said a b m n k l e f g = λ i. Statement (record { 0 = e i }) (f i) (g i)
-
-module _ {deck : List ℕ} {card : ℕ} {raw raw' : List ℕ} {r : Taken} (t : Takes punched_raw deck card raw raw' r) where
-  pub text_ended : (text : List ℕ) → r ≡ End → Takes punched_text deck card text text End
+module _ {deck : List ℕ} {card : ℕ} {raw raw' : List ℕ} {r : Option Taken} (s : Takes punched_raw deck card raw raw' r) where
+  pub text_ended : (text : List ℕ) → r ≡ None → Takes punched_text deck card text text None
   text_ended text f =
-      let e = (none_taken punched_raw t f).0 in
+      let e = (none_taken punched_raw s f).0 in
       record {
         says = sym (ap (λ (ps : List Punched). first_of punched_text ps (card + passed (drop card (cards_of deck)))) e);
         put = sym (ap (λ (ps : List Punched). over 0 (first_content punched_text ps) text) e ∙ over_none 0 text);
       }
 
-  module _ {number : Number} {n next : ℕ} (a : Accepted deck) (f : r ≡ Statement number n next) where
-    pub raw_going : Going punched_raw deck card raw raw' number n next
-    raw_going = going punched_raw (λ k p q. q.raw_short) a t f
+  module _ {t : Taken} (a : Accepted deck) (f : r ≡ Some t) where
+    pub raw_going : Going punched_raw deck card raw raw' t.number t.length t.next
+    raw_going = going punched_raw (λ k p q. q.raw_short) a s f
 
     -- the table stays as long as it is
     pub raw_long : length raw ≡ 660 → length raw' ≡ 660
     unfolding over
     raw_long full = ap (length {A = ℕ}) raw_going.put ∙ length-sets raw 0 raw_going.taken.raw ∙ full
 
-    pub raw_short : length (take (n - 0) raw') ≤ 660
-    raw_short = omega (arith, length-take (n - 0) raw', raw_going.short)
+    pub raw_short : length (take t.length raw') ≤ 660
+    raw_short = omega (arith, length-take t.length raw', raw_going.short)
 
-    pub text_taken : {text text' : List ℕ} {m : ℕ} → length raw ≡ 660 → Written (take (n - 0) raw') text text' m → Takes punched_text deck card text text' (Statement number m next)
+    pub text_taken : {text text' : List ℕ} {m : ℕ} → length raw ≡ 660 → Put (text_of (take t.length raw')) text text' m → Takes punched_text deck card text text' (Some (record { number = t.number; length = m; next = t.next }))
     text_taken {text} {text'} {m} full w =
         let g = raw_going in
-        let all : n - 0 ≡ n = omega arith in
-        let same : take (n - 0) raw' ≡ g.taken.raw = ap (λ (k : ℕ). take k raw') all ∙ g.stands full in
-        let next_is = g.passes in
-        let content = ap text_of same in
-        let count : m ≡ length (text_of g.taken.raw) = w.count ∙ ap length content in
-        let first : grouped (drop card (cards_of deck)) ≡ g.taken ∷ grouped (drop next (cards_of deck)) = g.others in
+        let same : text_of (take t.length raw') ≡ text_of g.taken.raw = ap text_of (g.stands full) in
+        let first : grouped (drop card (cards_of deck)) ≡ g.taken ∷ grouped (drop t.next (cards_of deck)) = g.others in
         record {
-          says = said number g.taken.number m (length (text_of g.taken.raw)) next (card + passed (drop card (cards_of deck))) (sym g.number_is) count (sym next_is)
+          says =
+              (λ i. Some (record { number = record { 0 = sym g.number_is i }; length = (w.count ∙ ap length same) i; next = sym g.passes i }))
               ∙ sym (ap (λ (ps : List Punched). first_of punched_text ps (card + passed (drop card (cards_of deck)))) first);
-          put = w.put ∙ ap (λ (x : List ℕ). over 0 x text) content ∙ sym (ap (λ (ps : List Punched). over 0 (first_content punched_text ps) text) first);
+          put = w.put ∙ ap (λ (x : List ℕ). over 0 x text) same ∙ sym (ap (λ (ps : List Punched). over 0 (first_content punched_text ps) text) first);
         }

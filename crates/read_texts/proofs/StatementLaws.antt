@@ -1,12 +1,12 @@
 -- The laws of one statement taken from a deck that is not refused.
 -- Assumes nothing.
-use Prim.Native.Nat.{ℕ, zero, suc, ◌+◌, ◌/◌, ◌≤◌}
+use Prim.Native.Nat.{ℕ, zero, suc, ◌+◌, ◌-◌, ◌≤◌}
 use mathlib.Core.Path.{◌≡◌, refl, sym, ap, ◌∙◌, subst}
 use mathlib.Core.Bool.{Bool, true, false, cond}
 use mathlib.Core.List.{List, [], ◌∷◌, ◌++◌}
 use native.Mathlib.Omega.{arith}
 use lib.Dec.{leb, eqb}
-use lib.ListN.{length, drop, length-append}
+use lib.ListN.{length, take, drop, length-drop}
 use lib.Seq.{drop-nil, drop-drop}
 use borrow.Author.Tests.{eqb-true}
 use Rattle.rules_shared.specs.Limits.{limits}
@@ -16,14 +16,13 @@ use Rattle.rules_shared.proofs.EachLaws.{each_head, each_tail}
 use Rattle.rules_text.specs.Cards.{cards_of, text_columns, comment, first_card, Punched, number_of, right_number, Reading, nothing_read, wrong_card, after_card, Carded, cards_refused, statements, card_by_card, right_digits, right_length, counted, carded, following, grouped}
 use Rattle.rules_text.proofs.CardsLaws.{RightStatement, Stands, as_comment, as_first, as_continuation, stands, statements_right}
 use Rattle.rules_text.proofs.CardsGroups.{statements_grouped}
-use Rattle.read_texts.specs.declared.Reached.{Reached}
-use Rattle.read_texts.specs.declared.Taken.TheVariants.{Statement, End}
+use Rattle.std.specs.Prelude.{Some, None}
 use Rattle.read_cards.specs.declared.Number.{Number}
-use Rattle.read_cards.specs.Columns.{CardAt, punched_of}
-use Rattle.read_texts.specs.Taking.{Accepted, over, begins, skipped, passed, punched_raw, first_of, first_content, Takes, Follows}
-use Rattle.read_cards.proofs.DeckLaws.{cards_end}
-use Rattle.read_texts.proofs.TextLaws.{over_none, over_append}
-use Rattle.read_cards.specs.declared.Columns.TheVariants as columns
+use Rattle.read_cards.specs.Columns.{punched_of}
+use Rattle.read_texts.specs.Taking.{Accepted, over, begins, skipped, joined, passed, punched_raw, first_of, first_content, Takes, Put}
+use Rattle.read_texts.proofs.TakeLaws.{skipped_within}
+use Rattle.std.proofs.lemmas.List.{take_all}
+use Rattle.read_texts.proofs.TextLaws.{over_none}
 
 -- ---- cards that start no statement change no statement after them
 
@@ -122,86 +121,112 @@ all_right deck a = subst (Each (RightStatement (house1401 a.digits))) (statement
 
 -- ---- the statement taken
 
--- the card that starts it, and what is known of it
-pub record First (deck : List ℕ) (card first : ℕ) (here : List ℕ) : Type 0 where
-  pub group : grouped (drop card (cards_of deck)) ≡ record { number = number_of here; raw = text_columns here ++ following (drop (first + 1) (cards_of deck)) } ∷ grouped (drop (first + 1) (cards_of deck))
-  pub right : right_number here ≡ true
-  pub fits : length (text_columns here) + length (following (drop (first + 1) (cards_of deck))) ≤ 660
-  pub next : card + passed (drop card (cards_of deck)) ≡ first + 1 + skipped (drop (first + 1) (cards_of deck))
+-- what the cards before the next that starts a statement add to it
+joined_following : (cards : List (List ℕ)) → joined (take (skipped cards) cards) ≡ following cards
+unfolding begins
+joined_following [] = refl
+joined_following (card ∷ cards) = go (comment card) refl (first_card card) (joined_following cards)
+  where
+    go : (c : Bool) → comment card ≡ c → (f : Bool) → joined (take (skipped cards) cards) ≡ following cards
+        → joined (take (cond (cond c false f) 0 (suc (skipped cards))) (card ∷ cards)) ≡ cond c (following cards) (cond f [] (text_columns card ++ following cards))
+    go true c f e = simp c e
+    go false c true e = refl
+    go false c false e = simp c (ap (λ (l : List ℕ). text_columns card ++ l) e)
 
-module _ (deck : List ℕ) (card first : ℕ) (f : first ≡ card + skipped (drop card (cards_of deck))) where
-  abbrev cards : List (List ℕ)
-  cards = cards_of deck
+joined_first : (first : List ℕ) (more : List (List ℕ)) → begins first ≡ true → joined (take (suc (skipped more)) (first ∷ more)) ≡ text_columns first ++ following more
+unfolding begins
+joined_first first more b = go (comment first) b ∙ ap (λ (l : List ℕ). text_columns first ++ l) (joined_following more)
+  where
+    go : (c : Bool) → cond c false (first_card first) ≡ true → cond c (joined (take (skipped more) more)) (text_columns first ++ joined (take (skipped more) more)) ≡ text_columns first ++ joined (take (skipped more) more)
+    go true h = cc
+    go false h = refl
 
-  from_first : drop (skipped (drop card cards)) (drop card cards) ≡ drop first cards
-  from_first = drop-drop (skipped (drop card cards)) card cards ∙ ap (λ (i : ℕ). drop i cards) (sym f)
+none_long : (cards : List (List ℕ)) → length cards ≡ 0 → cards ≡ []
+none_long [] z = refl
+none_long (card ∷ cards) z = absurd (omega arith)
 
-  after_first : drop (suc (skipped (drop card cards))) (drop card cards) ≡ drop (first + 1) cards
-  after_first =
-      let e : card + suc (skipped (drop card cards)) ≡ first + 1 = omega arith in
-      drop-drop (suc (skipped (drop card cards))) card cards ∙ ap (λ (i : ℕ). drop i cards) e
+-- the card that starts it, those after it, and what is known of them
+pub record First (cards : List (List ℕ)) (start : ℕ) (first : List ℕ) (more : List (List ℕ)) : Type 0 where
+  pub place : start ≡ skipped cards
+  pub stands : drop start cards ≡ first ∷ more
+  pub group : grouped cards ≡ record { number = number_of first; raw = text_columns first ++ following more } ∷ grouped more
+  pub starts : begins first ≡ true
+  pub right : right_number first ≡ true
+  pub short : length (text_columns first ++ following more) ≤ 660
 
-  pub takes_end : (raw : List ℕ) → length deck / 80 ≤ first → Takes punched_raw deck card raw raw End
-  takes_end raw h =
-      let g : grouped (drop card cards) ≡ [] = group_skip (drop card cards) ∙ ap grouped (from_first ∙ cards_end deck first h) in
+rest_all : (n : ℕ) (cards : List (List ℕ)) → take (length cards - n) (drop n cards) ≡ drop n cards
+rest_all n cards = take_all (length cards - n) (drop n cards) (omega (arith, length-drop n cards))
+
+-- the cards from one on
+pub rest_is : {all rest : List (List ℕ)} (deck : List ℕ) (card : ℕ) → rest ≡ take (length all - card) (drop card all) → all ≡ cards_of deck → rest ≡ drop card (cards_of deck)
+rest_is {all} {rest} deck card r a = r ∙ rest_all card all ∙ ap (drop card) a
+
+module _ (deck : List ℕ) (card : ℕ) {cards : List (List ℕ)} (e : cards ≡ drop card (cards_of deck)) where
+  pub none : (raw : List ℕ) → grouped cards ≡ [] → Takes punched_raw deck card raw raw None
+  none raw g =
+      let h : grouped (drop card (cards_of deck)) ≡ [] = ap grouped (sym e) ∙ g in
       record {
-        says = sym (ap (λ (ps : List Punched). first_of punched_raw ps (card + passed (drop card cards))) g);
-        put = sym (ap (λ (ps : List Punched). over 0 (first_content punched_raw ps) raw) g ∙ over_none 0 raw);
+        says = sym (ap (λ (ps : List Punched). first_of punched_raw ps (card + passed (drop card (cards_of deck)))) h);
+        put = sym (ap (λ (ps : List Punched). over 0 (first_content punched_raw ps) raw) h ∙ over_none 0 raw);
       }
 
-  module _ (acc : Accepted deck) (here : List ℕ) (a : CardAt deck first here) where
-    starts_here : begins here ≡ true
-    starts_here = skip_stops (drop card cards) here (drop (first + 1) cards) (from_first ∙ a.here)
+  pub takes_none : (raw : List ℕ) (start : ℕ) → start ≡ skipped cards → length (take (length cards - start) (drop start cards)) ≡ 0 → Takes punched_raw deck card raw raw None
+  takes_none raw start s z =
+      none raw (group_skip cards ∙ ap grouped (ap (λ (n : ℕ). drop n cards) (sym s) ∙ sym (rest_all start cards) ∙ none_long _ z))
 
-    group_here : grouped (drop card cards) ≡ record { number = number_of here; raw = text_columns here ++ following (drop (first + 1) cards) } ∷ grouped (drop (first + 1) cards)
-    group_here = group_skip (drop card cards) ∙ ap grouped (from_first ∙ a.here) ∙ group_first here (drop (first + 1) cards) starts_here
+  pub first_is : Accepted deck → (start : ℕ) (first : List ℕ) (more : List (List ℕ)) → start ≡ skipped cards → take (length cards - start) (drop start cards) ≡ first ∷ more → First cards start first more
+  first_is acc start first more s t =
+      let a : drop start cards ≡ first ∷ more = sym (rest_all start cards) ∙ t in
+      let d : drop (skipped cards) cards ≡ first ∷ more = ap (λ (n : ℕ). drop n cards) (sym s) ∙ a in
+      let b : begins first ≡ true = skip_stops cards first more d in
+      let g : grouped cards ≡ record { number = number_of first; raw = text_columns first ++ following more } ∷ grouped more = group_skip cards ∙ ap grouped d ∙ group_first first more b in
+      let r : RightStatement (house1401 acc.digits) (record { number = number_of first; raw = text_columns first ++ following more }) = each_head (subst (Each (RightStatement (house1401 acc.digits))) (ap grouped (sym e) ∙ g) (each_from card (cards_of deck) (all_right deck acc))) in
+      let w : drop (card + start) (cards_of deck) ≡ first ∷ more = sym (drop-drop start card (cards_of deck)) ∙ ap (drop start) (sym e) ∙ a in
+      record {
+        place = s;
+        stands = a;
+        group = g;
+        starts = b;
+        right = right_number_lem first (each_stands (house1401 acc.digits) 1 nothing_read (cards_of deck) acc.all (by_cards deck acc) (card + start) first more w) b;
+        short = r.raw_short;
+      }
 
-    right_here : RightStatement (house1401 acc.digits) (record { number = number_of here; raw = text_columns here ++ following (drop (first + 1) cards) })
-    right_here = each_head (subst (Each (RightStatement (house1401 acc.digits))) group_here (each_from card cards (all_right deck acc)))
-
-    pub first_is : First deck card first here
-    unfolding passed
-    first_is =
-        let s = ap skipped after_first in
-        let l = length-append (text_columns here) (following (drop (first + 1) cards)) in
-        record {
-          group = group_here;
-          right = right_number_lem here (each_stands (house1401 acc.digits) 1 nothing_read cards acc.all (by_cards deck acc) first here (drop (first + 1) cards) a.here) starts_here;
-          fits = omega (arith, right_here.raw_short);
-          next = omega arith;
-        }
-
-module _ {deck : List ℕ} {card first : ℕ} {here : List ℕ} (f : First deck card first here) where
-  pub never_wrong : punched_of here ≡ columns.Wrong → ⊥
+module _ {cards : List (List ℕ)} {start : ℕ} {first : List ℕ} {more : List (List ℕ)} (f : First cards start first more) where
+  pub never_wrong : punched_of first ≡ None → ⊥
   unfolding punched_of
-  never_wrong e =
-      let w : columns.Punched (record { 0 = number_of here }) ≡ columns.Wrong = simp f.right at e in
+  never_wrong n =
+      let w : Some (record { 0 = number_of first }) ≡ None = simp f.right at n in
       let z : ◌≡◌ {A = ℕ} 0 1 = cc in
       omega arith
 
-  number_is : (n : Number) → punched_of here ≡ columns.Punched n → record { 0 = number_of here } ≡ n
+  number_is : (n : Number) → punched_of first ≡ Some n → record { 0 = number_of first } ≡ n
   unfolding punched_of
-  number_is n e = let w : columns.Punched (record { 0 = number_of here }) ≡ columns.Punched n = simp f.right at e in cc
+  number_is n h = let w : Some (record { 0 = number_of first }) ≡ Some n = simp f.right at h in cc
 
-  pub takes_statement : (n : Number) (raw raw₁ raw₂ : List ℕ) (at : ℕ) (r : Reached) → punched_of here ≡ columns.Punched n
-      → (at ≡ 0 + length (text_columns here)) × (raw₁ ≡ over 0 (text_columns here) raw)
-      → Follows (drop (first + 1) (cards_of deck)) (first + 1) raw₁ raw₂ at r → Takes punched_raw deck card raw raw₂ (Statement n r.length r.next)
-  takes_statement n raw raw₁ raw₂ at r e p q =
-      let own = text_columns here in
-      let more = following (drop (first + 1) (cards_of deck)) in
-      let l = length-append own more in
-      let rl = ap (λ (x : Reached). x.length) q.says in
-      let rn = ap (λ (x : Reached). x.next) q.says in
-      let m : r.length ≡ length (text_columns here ++ following (drop (first + 1) (cards_of deck))) = omega (arith, p.0) in
-      let k : r.next ≡ card + passed (drop card (cards_of deck)) = omega (arith, f.next) in
+  pub within : (k : ℕ) → k ≡ skipped more → start + 1 + k ≤ length cards
+  within k h =
+      let z = ap (length {A = List ℕ}) f.stands in
+      omega (arith, length-drop start cards, skipped_within more)
+
+  pub columns_are : (k : ℕ) → k ≡ skipped more → joined (take (start + 1 + k - start) (drop start cards)) ≡ text_columns first ++ following more
+  columns_are k h =
+      let m : start + 1 + k - start ≡ suc (skipped more) = omega arith in
+      ap joined (ap (λ (n : ℕ). take n (drop start cards)) m ∙ ap (take (suc (skipped more))) f.stands) ∙ joined_first first more f.starts
+
+  pub takes_some : (deck : List ℕ) (card : ℕ) {number : Number} {raw raw' : List ℕ} (n k : ℕ) → cards ≡ drop card (cards_of deck) → punched_of first ≡ Some number → k ≡ skipped more
+      → Put (joined (take (start + 1 + k - start) (drop start cards))) raw raw' n → Takes punched_raw deck card raw raw' (Some (record { number = number; length = n; next = card + (start + 1 + k) }))
+  unfolding passed
+  takes_some deck card {number} {raw} {raw'} n k e h q p =
+      let v : suc (skipped cards) ≡ start + 1 = omega (arith, f.place) in
+      let d : drop (suc (skipped cards)) cards ≡ more = ap (λ (n : ℕ). drop n cards) v ∙ sym (drop-drop 1 start cards) ∙ ap (drop 1) f.stands in
+      let l = ap skipped d in
+      let p₀ = f.place in
+      let m : card + (start + 1 + k) ≡ card + passed cards = omega arith in
+      let t = columns_are k q in
+      let g : grouped (drop card (cards_of deck)) ≡ record { number = number_of first; raw = text_columns first ++ following more } ∷ grouped more = ap grouped (sym e) ∙ f.group in
       record {
         says =
-            ap (λ (x : Number). Statement x r.length r.next) (sym (number_is n e))
-            ∙ ap (λ (x : ℕ). Statement (record { 0 = number_of here }) x r.next) m
-            ∙ ap (λ (x : ℕ). Statement (record { 0 = number_of here }) (length (text_columns here ++ following (drop (first + 1) (cards_of deck)))) x) k
-            ∙ sym (ap (λ (ps : List Punched). first_of punched_raw ps (card + passed (drop card (cards_of deck)))) f.group);
-        put =
-            q.put ∙ ap (λ (x : ℕ). over x more raw₁) p.0 ∙ ap (λ (x : List ℕ). over (0 + length own) more x) p.1
-            ∙ sym (over_append 0 own more raw)
-            ∙ sym (ap (λ (ps : List Punched). over 0 (first_content punched_raw ps) raw) f.group);
+            (λ i. Some (record { number = sym (number_is number h) i; length = (p.count ∙ ap length t) i; next = (m ∙ ap (λ (l : List (List ℕ)). card + passed l) e) i }))
+            ∙ sym (ap (λ (ps : List Punched). first_of punched_raw ps (card + passed (drop card (cards_of deck)))) g);
+        put = p.put ∙ ap (λ (l : List ℕ). over 0 l raw) t ∙ sym (ap (λ (ps : List Punched). over 0 (first_content punched_raw ps) raw) g);
       }

@@ -1,17 +1,19 @@
 -- The laws of putting a card's columns and a statement's text, byte after byte.
 -- Assumes nothing.
-use Prim.Native.Nat.{ℕ, suc, ◌+◌, ◌≤◌, ◌<◌}
+use Prim.Native.Nat.{ℕ, suc, ◌+◌, ◌-◌, ◌≤◌, ◌<◌}
 use mathlib.Core.Path.{◌≡◌, refl, sym, ap, ◌∙◌}
+use mathlib.Core.Bool.{true, false}
 use mathlib.Core.List.{List, [], ◌∷◌, ◌++◌}
 use native.Mathlib.Omega.{arith}
 use native.Mathlib.Numerals.{add-one}
-use lib.ListN.{length, get_or, set, take, drop, drop_of_length-le}
-use lib.Seq.{sets, sets-eq, take_at, drop-cons}
+use Rattle.std.proofs.Common.{append_assoc}
+use borrow.Rule.Slice.PartMut.{put_mid}
+use lib.ListN.{length, get_or, set, take, drop, length-append, length-drop, drop_of_length-le}
+use lib.Seq.{sets, sets-eq, take_at, drop-cons, drop-drop, length-sets, length-take-le}
 use borrow.Author.Tests.{ne_eqb}
-use Rattle.rules_text.specs.Cards.{text_columns, read_as, text_of}
+use Rattle.rules_text.specs.Cards.{comment, text_columns, read_as, text_of}
 use Rattle.rules_text.proofs.CardsLaws.{text_length_lem}
-use Rattle.read_texts.specs.Taking.{over, Written}
-use Rattle.read_cards.proofs.CardLaws.{column, columns_end, text_from}
+use Rattle.read_texts.specs.Taking.{over, joined, Put}
 
 -- ---- a list put over another
 
@@ -41,6 +43,18 @@ over_stands xs o h =
     let r : 0 + length xs ≤ length o = omega arith in
     ap (take (length xs)) (sets-eq xs o 0 r) ∙ take_at xs (drop (0 + length xs) o) (length xs) refl
 
+-- Where there is room, what is copied is stored.
+pub over_copied : (n k : ℕ) (xs raw : List ℕ) → length xs ≡ k → n + k ≤ length raw → put_mid n (n + k - n) raw xs ≡ over n xs raw
+unfolding over
+over_copied n k xs raw e h =
+    let m : n + k - n ≡ length xs = omega arith in
+    let r : n + length xs ≤ length raw = omega arith in
+    ap (λ (j : ℕ). put_mid n j raw xs) m ∙ ap (λ (l : List ℕ). take n raw ++ (xs ++ l)) (drop-drop (length xs) n raw) ∙ sym (append_assoc (take n raw) xs _) ∙ sym (sets-eq xs raw n r)
+
+over_long : (n : ℕ) (xs o : List ℕ) → length (over n xs o) ≡ length o
+unfolding over
+over_long n xs o = length-sets o n xs
+
 -- ---- a text
 
 pub text_none : text_of [] ≡ []
@@ -61,66 +75,74 @@ as_star c e = sym (simp e)
 pub as_itself : (c : ℕ) → (c ≡ 36 → ⊥) → c ≡ read_as c
 as_itself c n = sym (simp (ne_eqb c 36 n))
 
--- ---- a card's columns 7-72
+-- ---- columns 7-72 of cards
 
--- the columns before i are put, the rest is still to come from n on
-pub record Putting (card : List ℕ) (at : ℕ) (before : List ℕ) (raw : List ℕ) (n i : ℕ) : Type 0 where
-  pub low : 6 ≤ i
-  pub high : i ≤ 72
-  pub same : over at (text_columns card) before ≡ over n (drop i (take 72 card)) raw
-  pub count : at + length (text_columns card) ≡ n + length (drop i (take 72 card))
+-- the cards before i are put, the rest is still to come from n on
+pub record Putting (cards : List (List ℕ)) (before raw : List ℕ) (n i : ℕ) : Type 0 where
+  pub same : over 0 (joined cards) before ≡ over n (joined (drop i cards)) raw
+  pub count : length (joined cards) ≡ n + length (joined (drop i cards))
 
-module _ (card : List ℕ) (l : length card ≡ 80) (at : ℕ) (before : List ℕ) where
-  pub putting_start : Putting card at before before at 6
-  putting_start =
-      let e = text_from card l in
-      record {
-        low = omega arith;
-        high = omega arith;
-        same = ap (λ (s : List ℕ). over at s before) e;
-        count = ap (λ (s : List ℕ). at + length s) e;
-      }
+pub putting_end : (cards : List (List ℕ)) (before raw : List ℕ) (n i : ℕ) → Putting cards before raw n i → length cards ≤ i → Put (joined cards) before raw n
+putting_end cards before raw n i p h =
+    let e : joined (drop i cards) ≡ [] = ap joined (drop_of_length-le cards h) in
+    let z = ap (length {A = ℕ}) e in
+    record { count = omega (arith, p.count); put = sym (p.same ∙ ap (λ (s : List ℕ). over n s raw) e ∙ over_none n raw) }
 
-  module _ (raw : List ℕ) (n i : ℕ) (p : Putting card at before raw n i) where
-    pub putting_end : 72 ≤ i → (n ≡ at + length (text_columns card)) × (raw ≡ over at (text_columns card) before)
-    putting_end h =
-        let e = columns_end card 72 i h in
-        let z = ap (length {A = ℕ}) e in
-        (omega (arith, p.count), sym (p.same ∙ ap (λ (s : List ℕ). over n s raw) e ∙ over_none n raw))
+module _ (cards : List (List ℕ)) (before raw : List ℕ) (n i : ℕ) (p : Putting cards before raw n i) (h : i < length cards) where
+  abbrev card : List ℕ
+  card = get_or cards i []
 
-    module _ (h : i < 72) where
-      here : drop i (take 72 card) ≡ get_or card i 0 ∷ drop (i + 1) (take 72 card)
-      here = column card 72 i (omega arith) h
+  abbrev others : List (List ℕ)
+  others = drop (i + 1) cards
 
-      pub putting_room : at + length (text_columns card) ≤ 660 → n < 660
-      putting_room m =
-          let z = ap (length {A = ℕ}) here in
-          omega (arith, p.count)
+  at_card : drop i cards ≡ card ∷ others
+  at_card = drop-cons cards i [] h ∙ ap (λ (k : ℕ). card ∷ drop k cards) (sym (add-one i))
 
-      pub putting_on : Putting card at before (set raw n (get_or card i 0)) (n + 1) (i + 1)
-      putting_on =
-          let z = ap (length {A = ℕ}) here in
-          record {
-            low = omega (arith, p.low);
-            high = omega arith;
-            same = p.same ∙ ap (λ (s : List ℕ). over n s raw) here ∙ over_more n (get_or card i 0) (drop (i + 1) (take 72 card)) raw;
-            count = omega (arith, p.count);
-          }
+  pub putting_past : comment card ≡ true → Putting cards before raw n (i + 1)
+  putting_past c =
+      let e : joined (drop i cards) ≡ joined others = ap joined at_card ∙ simp c in
+      let z = ap (length {A = ℕ}) e in
+      record { same = p.same ∙ ap (λ (s : List ℕ). over n s raw) e; count = omega (arith, p.count) }
+
+  module _ (c : comment card ≡ false) (l : length card ≡ 80) where
+    joined_text : joined (drop i cards) ≡ text_columns card ++ joined others
+    joined_text = ap joined at_card ∙ simp c
+
+    columns : length (text_columns card) ≡ 66
+    columns = length-take-le 66 (drop 6 card) (omega (arith, length-drop 6 card))
+
+    pub putting_room : length (joined cards) ≤ 660 → n + 66 ≤ 660
+    putting_room m =
+        let z = ap (length {A = ℕ}) joined_text ∙ length-append (text_columns card) (joined others) in
+        omega (arith, p.count, columns)
+
+    pub putting_on : length before ≡ 660 → length (joined cards) ≤ 660 → Putting cards before (put_mid n (n + 66 - n) raw (text_columns card)) (n + 66) (i + 1)
+    putting_on w r =
+        let o : length raw ≡ 660 = sym (over_long n (joined (drop i cards)) raw) ∙ sym (ap length p.same) ∙ over_long 0 (joined cards) before ∙ w in
+        let b = putting_room r in
+        let t = over_copied n 66 (text_columns card) raw columns (omega arith) in
+        let z = ap (length {A = ℕ}) joined_text ∙ length-append (text_columns card) (joined others) in
+        let m : n + length (text_columns card) ≡ n + 66 = omega (arith, columns) in
+        record {
+          same =
+              p.same ∙ ap (λ (s : List ℕ). over n s raw) joined_text ∙ over_append n (text_columns card) (joined others) raw
+              ∙ ap (λ (k : ℕ). over k (joined others) (over n (text_columns card) raw)) m ∙ ap (over (n + 66) (joined others)) (sym t);
+          count = omega (arith, p.count, columns);
+        }
 
 -- ---- the text of what is punched
 
 -- what is before i is written, the rest is still to come from n on
 pub record Writing (raw before text : List ℕ) (n i : ℕ) : Type 0 where
-  pub high : i ≤ length raw
   pub same : over 0 (text_of raw) before ≡ over n (text_of (drop i raw)) text
   pub count : length (text_of raw) ≡ n + length (text_of (drop i raw))
 
 module _ (raw before : List ℕ) where
   pub writing_start : Writing raw before before 0 0
-  writing_start = record { high = omega arith; same = refl; count = omega arith }
+  writing_start = record { same = refl; count = omega arith }
 
   module _ (text : List ℕ) (n i : ℕ) (p : Writing raw before text n i) where
-    pub writing_end : length raw ≤ i → Written raw before text n
+    pub writing_end : length raw ≤ i → Put (text_of raw) before text n
     writing_end h =
         let e : text_of (drop i raw) ≡ [] = ap text_of (drop_of_length-le raw h) ∙ text_none in
         let z = ap (length {A = ℕ}) e in
@@ -149,7 +171,6 @@ module _ (raw before : List ℕ) where
           let e : text_of (drop i raw) ≡ text_of rest = ap text_of at_byte ∙ text_blank c rest b in
           let z = ap (length {A = ℕ}) e in
           record {
-            high = omega arith;
             same = p.same ∙ ap (λ (s : List ℕ). over n s text) e ∙ (cc);
             count = omega (arith, p.count);
           }
@@ -159,7 +180,6 @@ module _ (raw before : List ℕ) where
           let e = solid s in
           let z = ap (length {A = ℕ}) e in
           record {
-            high = omega arith;
             same = p.same ∙ ap (λ (s : List ℕ). over n s text) e ∙ over_more n (read_as c) (text_of rest) text ∙ (cc);
             count = omega (arith, p.count);
           }

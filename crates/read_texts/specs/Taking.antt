@@ -1,12 +1,10 @@
 -- What taking a deck's next statement gives: the first of the statements that the cards still to come hold, and where the next one starts.
 -- Assumes nothing.
-use Rattle.std.specs.Prelude.{ℕ, suc, ◌+◌, ◌≡◌, Bool, false, cond, List, [], ◌∷◌, length, drop}
+use Rattle.std.specs.Prelude.{ℕ, suc, ◌+◌, ◌≡◌, Bool, false, cond, List, [], ◌∷◌, ◌++◌, length, drop, Option, Some, None}
 use Rattle.std.proofs.lemmas.List.Edits.{sets}
 use Rattle.rules_shared.specs.House.{house1401}
-use Rattle.rules_text.specs.Cards.{cards_of, text_columns, comment, first_card, text_of, Punched, statements, carded, following, grouped}
-use Rattle.read_texts.specs.declared.Reached.{Reached}
+use Rattle.rules_text.specs.Cards.{cards_of, text_columns, comment, first_card, text_of, Punched, statements, carded, grouped}
 use Rattle.read_texts.specs.declared.Taken.{Taken}
-use Rattle.read_texts.specs.declared.Taken.TheVariants.{Statement, End}
 
 -- a deck that is not refused
 pub record Accepted (deck : List ℕ) : Type 0 where
@@ -27,9 +25,10 @@ abbrev pub skipped : List (List ℕ) → ℕ
 skipped [] = 0
 skipped (card ∷ cards) = cond (begins card) 0 (suc (skipped cards))
 
--- what a card that starts no statement adds to what is punched
-unfoldable pub added : List ℕ → List ℕ
-added card = cond (comment card) [] (text_columns card)
+-- columns 7-72 of the cards that are no comments
+abbrev pub joined : List (List ℕ) → List ℕ
+joined [] = []
+joined (card ∷ cards) = cond (comment card) (joined cards) (text_columns card ++ joined cards)
 
 -- how many cards stand before the second that starts a statement
 unfoldable pub passed : List (List ℕ) → ℕ
@@ -42,25 +41,20 @@ punched_raw p = p.raw
 abbrev pub punched_text : Punched → List ℕ
 punched_text p = text_of p.raw
 
-abbrev pub first_of : (Punched → List ℕ) → List Punched → ℕ → Taken
-first_of content [] next = End
-first_of content (p ∷ ps) next = Statement (record { 0 = p.number }) (length (content p)) next
+abbrev pub first_of : (Punched → List ℕ) → List Punched → ℕ → Option Taken
+first_of content [] next = None
+first_of content (p ∷ ps) next = Some (record { number = record { 0 = p.number }; length = length (content p); next = next })
 
 abbrev pub first_content : (Punched → List ℕ) → List Punched → List ℕ
 first_content content [] = []
 first_content content (p ∷ ps) = content p
 
 -- the statement taken at a card, and the table before and after; bytes past the statement's stay
-pub record Takes (content : Punched → List ℕ) (deck : List ℕ) (card : ℕ) (table table' : List ℕ) (r : Taken) : Type 0 where
+pub record Takes (content : Punched → List ℕ) (deck : List ℕ) (card : ℕ) (table table' : List ℕ) (r : Option Taken) : Type 0 where
   pub says : r ≡ first_of content (grouped (drop card (cards_of deck))) (card + passed (drop card (cards_of deck)))
   pub put : table' ≡ over 0 (first_content content (grouped (drop card (cards_of deck)))) table
 
--- a text written at the start of a table
-pub record Written (raw text text' : List ℕ) (n : ℕ) : Type 0 where
-  pub count : n ≡ length (text_of raw)
-  pub put : text' ≡ over 0 (text_of raw) text
-
--- what the continuations of a statement give: its length and the next card that starts one
-pub record Follows (cards : List (List ℕ)) (card : ℕ) (raw raw' : List ℕ) (at : ℕ) (r : Reached) : Type 0 where
-  pub says : r ≡ record { length = at + length (following cards); next = card + skipped cards }
-  pub put : raw' ≡ over at (following cards) raw
+-- a text put at the start of a table
+pub record Put (text table table' : List ℕ) (n : ℕ) : Type 0 where
+  pub count : n ≡ length text
+  pub put : table' ≡ over 0 text table

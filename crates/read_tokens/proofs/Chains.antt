@@ -2,7 +2,7 @@
 -- Assumes nothing.
 use mathlib.Core.Path.{◌≡◌, refl, sym, ap, ◌∙◌, subst}
 use mathlib.Core.List.{List}
-use mathlib.Core.Bool.{Bool, true, false, cond}
+use mathlib.Core.Bool.{Bool, true, false, not, cond}
 use mathlib.Core.Option.{none, some}
 use Prim.Native.Nat.{ℕ, zero, suc, ◌+◌, ◌*◌, ◌≤◌, ◌<◌}
 use native.Mathlib.Omega.{arith}
@@ -12,11 +12,11 @@ use borrow.Author.Tests.{eq-eqb, ne_eqb}
 use Rattle.rules_text.specs.Tokens.{Found, found, bad, Reader, give, ahead, follow, and_then, after, after_word, all_of, choose, starts, digit_run, name_run, number, name}
 use Rattle.read_tokens.specs.declared.Sizes.{Sizes}
 use Rattle.read_tokens.specs.declared.Name as code
-use Rattle.read_tokens.specs.declared.Token.TheVariants.{Read, Bad}
-use Rattle.read_tokens.specs.declared.GotName.TheVariants as gotName
+use Rattle.read_tokens.specs.declared.Read.{Read}
+use Rattle.std.proofs.Common.{Option as Maybe, Some, None}
+use Rattle.rules_deck.specs.Judge.{starts_integer}
 use Rattle.rules_text.proofs.Found.{ahead_ahead}
 use Rattle.read_tokens.specs.Words.{capped, name_of, starts_word}
-use Rattle.read_tokens.specs.Sizes.{constant_sizes, name_sizes}
 use Rattle.read_tokens.specs.Reading.{end_of, weight_of, answer, Reads, constant_size, name_size, two, five, ReadsNumber, ReadsName}
 use Rattle.read_tokens.proofs.Measured.{sizes_constant, sizes_name}
 use Rattle.read_tokens.proofs.Tokens.{number_none, number_some, name_none, name_some, digits_le, name_le, part_length, part_first, starts_is, after_some, inside, word_some}
@@ -93,13 +93,6 @@ module _ {A B : Type 0} (s : List ℕ) (from : ℕ) (r : Reader A) (h : A → Re
 
 -- ---- an answer, taken apart and made
 
--- the two answers are told apart, and an answer's parts are its own
-pub record Shape {W R : Type 0} (read : ℕ → W → Sizes → R) (none : R) : Type 0 where
-  pub place : {at at' : ℕ} {v v' : W} {z z' : Sizes} → read at v z ≡ read at' v' z' → at ≡ at'
-  pub value : {at at' : ℕ} {v v' : W} {z z' : Sizes} → read at v z ≡ read at' v' z' → v ≡ v'
-  pub sizes : {at at' : ℕ} {v v' : W} {z z' : Sizes} → read at v z ≡ read at' v' z' → z ≡ z'
-  pub apart : {at : ℕ} {v : W} {z : Sizes} → none ≡ read at v z → ⊥
-
 pub record Took {A W : Type 0} (value : A → W) (sizes : A → Sizes) (weight : A → ℕ) (s : List ℕ) (from : ℕ) (o : Found A) (at : ℕ) (v : W) (z : Sizes) : Type 0 where
   pub tree : A
   pub upto : Upto s from o at tree
@@ -107,79 +100,61 @@ pub record Took {A W : Type 0} (value : A → W) (sizes : A → Sizes) (weight :
   pub sizes_is : z ≡ sizes tree
   pub few : weight tree + 5 * from ≤ 5 * at
 
-module _ {A W R : Type 0} {read : ℕ → W → Sizes → R} {none : R} {value : A → W} {sizes : A → Sizes} {weight : A → ℕ} {s : List ℕ} {from : ℕ} {o : Found A} {r : R} where
-  pub took : {at : ℕ} {v : W} {z : Sizes} → Shape read none → Reads read none value sizes weight s from o r → r ≡ read at v z
-      → Took value sizes weight s from o at v z
+module _ {A T : Type 0} {value : A → T} {sizes : A → Sizes} {weight : A → ℕ} {s : List ℕ} {from : ℕ} {o : Found A} {r : Maybe (Read T)} where
+  pub took : {x : Read T} → Reads value sizes weight s from o r → r ≡ Some x → Took value sizes weight s from o x.at x.value x.sizes
   unfolding answer end_of weight_of
-  took {at} {v} {z} sh h q = go o refl h
+  took {x} h q = go o refl h
     where
-      go : (p : Found A) → o ≡ p → Reads read none value sizes weight s from p r → Took value sizes weight s from o at v z
+      go : (p : Found A) → o ≡ p → Reads value sizes weight s from p r → Took value sizes weight s from o x.at x.value x.sizes
       go (found a k) e g =
-          let same : read at v z ≡ read (from + k) (value a) (sizes a) = sym q ∙ g.says in
-          let place : at ≡ from + k = sh.place same in
+          let same : x ≡ record { at = from + k; value = value a; sizes = sizes a } = let says = g.says in cc in
+          let place : x.at ≡ from + k = ap (λ (y : Read T). y.at) same in
           record {
             tree = a;
             upto = record { count = k; is = e; ends = place; within = omega (arith, g.within) };
-            value_is = sh.value same;
-            sizes_is = sh.sizes same;
+            value_is = ap (λ (y : Read T). y.value) same;
+            sizes_is = ap (λ (y : Read T). y.sizes) same;
             few = omega (arith, g.few);
           }
-      go bad e g = absurd (sh.apart (sym g.says ∙ q))
+      go bad e g = let says : r ≡ None = g.says in let z : ◌≡◌ {A = ℕ} 0 1 = cc in absurd (omega arith)
 
-  pub refused : Shape read none → Reads read none value sizes weight s from o r → r ≡ none → o ≡ bad
+  pub refused : Reads value sizes weight s from o r → r ≡ None → o ≡ bad
   unfolding answer
-  refused sh h q = go o refl h.says
+  refused h q = go o refl h.says
     where
-      go : (p : Found A) → o ≡ p → r ≡ answer read none value sizes from p → o ≡ bad
-      go (found a k) e g = absurd (sh.apart (sym q ∙ g))
+      go : (p : Found A) → o ≡ p → r ≡ answer value sizes from p → o ≡ bad
+      go (found a k) e g = let z : ◌≡◌ {A = ℕ} 0 1 = cc in absurd (omega arith)
       go bad e g = e
 
-  pub accept : {at : ℕ} {v : W} {z : Sizes} {a : A} → Upto s from o at a → v ≡ value a → z ≡ sizes a → weight a + 5 * from ≤ 5 * at → r ≡ read at v z
-      → Reads read none value sizes weight s from o r
+  pub accept : {at : ℕ} {v : T} {z : Sizes} {a : A} → Upto s from o at a → v ≡ value a → z ≡ sizes a → weight a + 5 * from ≤ 5 * at
+      → r ≡ Some (record { at = at; value = v; sizes = z }) → Reads value sizes weight s from o r
   unfolding answer end_of weight_of
   accept {at} {v} {z} {a} u ve ze fe q =
-      subst (λ (p : Found A). Reads read none value sizes weight s from p r) (sym u.is)
-      (record {
-        says = q ∙ ap (λ (x : ℕ). read x v z) u.ends ∙ ap (λ (x : W). read (from + u.count) x z) ve ∙ ap (λ (x : Sizes). read (from + u.count) (value a) x) ze;
-        within = omega (arith, u.ends, u.within);
-        few = omega (arith, u.ends);
-      })
+      let place = u.ends in
+      subst (λ (p : Found A). Reads value sizes weight s from p r) (sym u.is)
+      (record { says = cc; within = omega (arith, u.ends, u.within); few = omega (arith, u.ends) })
 
-  pub refuse : o ≡ bad → from ≤ length s → r ≡ none → Reads read none value sizes weight s from o r
+  pub refuse : o ≡ bad → from ≤ length s → r ≡ None → Reads value sizes weight s from o r
   unfolding answer end_of weight_of
   refuse e l q =
-      subst (λ (p : Found A). Reads read none value sizes weight s from p r) (sym e)
+      subst (λ (p : Found A). Reads value sizes weight s from p r) (sym e)
       (record { says = q; within = l; few = omega arith })
 
 -- ---- tokens
 
-pub token_shape : Shape Read Bad
-token_shape =
-    record {
-      place = λ e. cc;
-      value = λ e. cc;
-      sizes = λ e. cc;
-      apart = λ e. let z : ◌≡◌ {A = ℕ} 0 1 = cc in omega arith;
-    }
-
-pub name_shape : Shape gotName.Read gotName.Bad
-name_shape =
-    record {
-      place = λ e. cc;
-      value = λ e. cc;
-      sizes = λ e. cc;
-      apart = λ e. let z : ◌≡◌ {A = ℕ} 0 1 = cc in omega arith;
-    }
-
 module _ (s : List ℕ) (from k : ℕ) (le : from ≤ length s) where
-  pub number_refused : k ≡ digit_run (drop from s) → k ≡ 0 → ReadsNumber s from (number (drop from s)) Bad
+  pub number_refused : k ≡ digit_run (drop from s) → k ≡ 0 → ReadsNumber s from (number (drop from s)) None
   number_refused e z = refuse (number_none (drop from s) (sym e ∙ z)) le refl
 
-  pub name_refused : k ≡ name_run (drop from s) → k ≡ 0 → ReadsName s from (name (drop from s)) gotName.Bad
+  pub name_refused : k ≡ name_run (drop from s) → k ≡ 0 → ReadsName s from (name (drop from s)) None
   name_refused e z = refuse (name_none (drop from s) (sym e ∙ z)) le refl
 
-  pub fits : k ≤ length (drop from s) → from + k ≤ length s
-  fits h = omega (arith, length-drop from s)
+  -- a run of bytes ends in the text
+  pub number_fits : k ≡ digit_run (drop from s) → from + k ≤ length s
+  number_fits e = omega (arith, digits_le (drop from s), length-drop from s)
+
+  pub name_fits : k ≡ name_run (drop from s) → from + k ≤ length s
+  name_fits e = omega (arith, name_le (drop from s), length-drop from s)
 
   positive : (k ≡ 0 → ⊥) → 1 ≤ k
   positive h = go k h
@@ -188,60 +163,63 @@ module _ (s : List ℕ) (from k : ℕ) (le : from ≤ length s) where
       go zero h = absurd (h refl)
       go (suc k) h = omega arith
 
-  pub number_accepted : {w : ℕ} {z : Sizes} → k ≡ digit_run (drop from s) → (k ≡ 0 → ⊥) → w ≡ capped (take k (drop from s)) → z ≡ constant_sizes k
-      → ReadsNumber s from (number (drop from s)) (Read (from + k) w z)
+  pub number_accepted : {w : ℕ} {z : Sizes} → k ≡ digit_run (drop from s) → (k ≡ 0 → ⊥) → w ≡ capped (take k (drop from s))
+      → z ≡ record { name = 0; other = false; constant = k; levels = 0 } → ReadsNumber s from (number (drop from s)) (Some (record { at = from + k; value = w; sizes = z }))
   unfolding two constant_size
   number_accepted {w} {z} e n we ze =
-      let l : k ≤ length (drop from s) = subst (λ (x : ℕ). x ≤ length (drop from s)) (sym e) (digits_le (drop from s)) in
+      let f = number_fits e in
       let is : number (drop from s) ≡ found (take k (drop from s)) k = subst (λ (x : ℕ). number (drop from s) ≡ found (take x (drop from s)) x) (sym e) (number_some (drop from s) (λ q. n (e ∙ q))) in
       let one = positive n in
-      accept (record { count = k; is = is; ends = refl; within = fits l }) we
-      (ze ∙ sym (sizes_constant (take k (drop from s)) ∙ ap constant_sizes (part_length s from k l))) (omega arith) refl
+      accept (record { count = k; is = is; ends = refl; within = f }) we
+      (ze ∙ sym (sizes_constant (take k (drop from s)) ∙ ap (λ (x : ℕ). record { name = 0; other = false; constant = x; levels = 0 }) (part_length s from k (omega (arith, length-drop from s)))))
+      (omega arith) refl
 
-  pub name_accepted : {w : code.Name} {c : ℕ} {z : Sizes} → k ≡ name_run (drop from s) → (k ≡ 0 → ⊥) → w ≡ name_of (take k (drop from s)) → c ≡ get_or s from 0 → z ≡ name_sizes c k
-      → ReadsName s from (name (drop from s)) (gotName.Read (from + k) w z)
+  pub name_accepted : {w : code.Name} {z : Sizes} → k ≡ name_run (drop from s) → (k ≡ 0 → ⊥) → w ≡ name_of (take k (drop from s))
+      → z ≡ record { name = k; other = not (starts_integer (drop from s)); constant = 0; levels = 0 }
+      → ReadsName s from (name (drop from s)) (Some (record { at = from + k; value = w; sizes = z }))
   unfolding five name_size
-  name_accepted {w} {c} {z} e n we ce ze =
-      let l : k ≤ length (drop from s) = subst (λ (x : ℕ). x ≤ length (drop from s)) (sym e) (name_le (drop from s)) in
+  name_accepted {w} {z} e n we ze =
+      let f = name_fits e in
       let is : name (drop from s) ≡ found (take k (drop from s)) k = subst (λ (x : ℕ). name (drop from s) ≡ found (take x (drop from s)) x) (sym e) (name_some (drop from s) (λ q. n (e ∙ q))) in
       let one = positive n in
-      accept (record { count = k; is = is; ends = refl; within = fits l }) we
-      (ze ∙ ap (λ (x : ℕ). name_sizes x k) (ce ∙ sym (part_first s from k n)) ∙ sym (sizes_name (take k (drop from s)) ∙ ap (name_sizes (get_or (take k (drop from s)) 0 0)) (part_length s from k l)))
+      accept (record { count = k; is = is; ends = refl; within = f }) we
+      (ze ∙ sym (sizes_name (take k (drop from s)) ∙ ap (λ (x : ℕ). record { name = x; other = not (starts_integer (take k (drop from s))); constant = 0; levels = 0 }) (part_length s from k (omega (arith, length-drop from s)))
+      ∙ ap (λ (b : Bool). record { name = k; other = not b; constant = 0; levels = 0 }) (part_first (drop from s) k n)))
       (omega arith) refl
 
 -- ---- an answer from a later place, told from an earlier one
 
-module _ {A W R : Type 0} {read : ℕ → W → Sizes → R} {none : R} {value : A → W} {sizes : A → Sizes} {weight : A → ℕ} {r : R} where
-  further : (s : List ℕ) (from at k : ℕ) (o p : Found A) → p ≡ ahead k o → at ≡ from + k → from ≤ length s → Reads read none value sizes weight s at o r
-      → Reads read none value sizes weight s from p r
+module _ {A T : Type 0} {value : A → T} {sizes : A → Sizes} {weight : A → ℕ} {r : Maybe (Read T)} where
+  further : (s : List ℕ) (from at k : ℕ) (o p : Found A) → p ≡ ahead k o → at ≡ from + k → from ≤ length s → Reads value sizes weight s at o r
+      → Reads value sizes weight s from p r
   unfolding answer end_of weight_of ahead
   further s from at k o p e a l h =
-      subst (λ (x : Found A). Reads read none value sizes weight s from x r) (sym e) (go o h)
+      subst (λ (x : Found A). Reads value sizes weight s from x r) (sym e) (go o h)
     where
-      go : (o : Found A) → Reads read none value sizes weight s at o r → Reads read none value sizes weight s from (ahead k o) r
+      go : (o : Found A) → Reads value sizes weight s at o r → Reads value sizes weight s from (ahead k o) r
       go (found b j) g =
           let place : at + j ≡ from + (k + j) = omega arith in
           record {
-            says = g.says ∙ ap (λ (x : ℕ). read x (value b) (sizes b)) place;
+            says = g.says ∙ ap (λ (x : ℕ). Some (record { at = x; value = value b; sizes = sizes b })) place;
             within = omega (arith, g.within);
             few = omega (arith, g.few);
           }
       go bad g = record { says = g.says; within = l; few = omega arith }
 
   pub then_reads : {B : Type 0} {at : ℕ} {a : B} (s : List ℕ) (from : ℕ) (q : Reader B) (h : B → Reader A) → from ≤ length s
-      → Upto s from (q (drop from s)) at a → Reads read none value sizes weight s at (h a (drop at s)) r
-      → Reads read none value sizes weight s from (and_then q h (drop from s)) r
+      → Upto s from (q (drop from s)) at a → Reads value sizes weight s at (h a (drop at s)) r
+      → Reads value sizes weight s from (and_then q h (drop from s)) r
   then_reads {B} {at} {a} s from q h l u g = further s from at u.count (h a (drop at s)) (and_then q h (drop from s)) (then_is s from q h u) u.ends l g
 
   pub after_reads : (s : List ℕ) (from c : ℕ) (q : Reader A) → 0 < c → get_or s from 0 ≡ c
-      → Reads read none value sizes weight s (from + 1) (q (drop (from + 1) s)) r
-      → Reads read none value sizes weight s from (after c q (drop from s)) r
+      → Reads value sizes weight s (from + 1) (q (drop (from + 1) s)) r
+      → Reads value sizes weight s from (after c q (drop from s)) r
   after_reads s from c q p e g =
       let l = inside c p s from e in
       further s from (from + 1) 1 (q (drop (from + 1) s)) (after c q (drop from s)) (after_some c p s from q e) refl (omega arith) g
 
-  pub reads_as : {s : List ℕ} {from : ℕ} {o p : Found A} → p ≡ o → Reads read none value sizes weight s from o r → Reads read none value sizes weight s from p r
-  reads_as {s} {from} {o} {p} e g = subst (λ (x : Found A). Reads read none value sizes weight s from x r) (sym e) g
+  pub reads_as : {s : List ℕ} {from : ℕ} {o p : Found A} → p ≡ o → Reads value sizes weight s from o r → Reads value sizes weight s from p r
+  reads_as {s} {from} {o} {p} e g = subst (λ (x : Found A). Reads value sizes weight s from x r) (sym e) g
 
 -- ---- the way to a later place, where o' is what is read there
 

@@ -1,17 +1,19 @@
 -- What the book's readers find, told by the runs and bytes that the code reads.
 -- Assumes nothing.
-use mathlib.Core.Path.{◌≡◌, refl, sym, ap, ◌∙◌}
+use mathlib.Core.Path.{◌≡◌, refl, sym, ap, ap₂, ◌∙◌}
 use mathlib.Core.List.{List, [], ◌∷◌}
 use mathlib.Core.Bool.{Bool, true, false, ◌&&◌, cond}
-use Prim.Native.Nat.{ℕ, zero, suc, ◌+◌, ◌≤◌, ◌<◌}
+use Prim.Native.Nat.{ℕ, zero, suc, ◌+◌, ◌-◌, ◌≤◌, ◌<◌}
 use native.Mathlib.Omega.{arith}
 use native.Mathlib.Numerals.{add-one}
-use lib.Dec.{eqb, ltb}
-use lib.ListN.{length, take, drop, get_or, drop_of_length-le, get_or-eq_default}
-use lib.Seq.{drop-cons, get_or-take, get_or-drop, length-take-le}
-use borrow.Author.Tests.{eq-eqb, ne_eqb, ltb-true, ltb-false}
+use lib.Dec.{eqb, ltb, leb}
+use lib.ListN.{length, take, drop, get_or, length-drop, drop_of_length-le, get_or-eq_default}
+use lib.Seq.{drop-cons, take_all, length-take-le}
+use borrow.Author.Tests.{eq-eqb, ne_eqb, eqb-true, eqb-false, ltb-true, ltb-false}
+use Rattle.std.specs.List.{starts_with}
 use Rattle.rules_object.specs.Check.{is_letter, is_digit}
 use Rattle.rules_text.specs.Tokens.{is_letter_or_digit, Found, found, bad, Reader, ahead, after, after_word, starts, starts_digit, run, digit_run, name_run, taken, number, name}
+use Rattle.rules_deck.specs.Judge.{starts_integer}
 use Rattle.rules_text.proofs.Readers.{run_le}
 use Rattle.rules_text.proofs.Found.{ahead_none, ahead_ahead}
 use Rattle.read_tokens.specs.Words.{starts_word}
@@ -75,14 +77,20 @@ a_digit_lem (c ∷ s) h = go (is_digit c) h
 pub part_length : (s : List ℕ) (a k : ℕ) → k ≤ length (drop a s) → length (take k (drop a s)) ≡ k
 part_length s a k h = length-take-le k (drop a s) h
 
-pub part_first : (s : List ℕ) (a k : ℕ) → (k ≡ 0 → ⊥) → get_or (take k (drop a s)) 0 0 ≡ get_or s a 0
-part_first s a k h =
-    let zero_add : a + 0 ≡ a = omega arith in
-    get_or-take k (drop a s) 0 0 (some k h) ∙ get_or-drop a s 0 0 ∙ ap (λ (x : ℕ). get_or s x 0) zero_add
-  where
-    some : (k : ℕ) → (k ≡ 0 → ⊥) → 0 < k
-    some zero h = absurd (h refl)
-    some (suc k) h = omega arith
+pub part_first : (s : List ℕ) (k : ℕ) → (k ≡ 0 → ⊥) → starts_integer (take k s) ≡ starts_integer s
+part_first s zero h = absurd (h refl)
+part_first [] (suc k) h = refl
+part_first (c ∷ s) (suc k) h = refl
+
+pub integer_byte : (s : List ℕ) (a : ℕ) → starts_integer (drop a s) ≡ leb 73 (get_or s a 0) && leb (get_or s a 0) 78
+integer_byte [] zero = refl
+integer_byte [] (suc a) = refl
+integer_byte (c ∷ s) zero = refl
+integer_byte (c ∷ s) (suc a) = integer_byte s a
+
+-- a part of the text from a place to its end is what is left there
+pub part_all : (s : List ℕ) (k : ℕ) → take (length s - k) (drop k s) ≡ drop k s
+part_all s k = take_all (length s - k) (drop k s) (omega (arith, length-drop k s))
 
 -- ---- bytes
 
@@ -127,6 +135,19 @@ module _ (c : ℕ) (some : 0 < c) (s : List ℕ) (a : ℕ) where
           absurd (omega arith)
 
 -- ---- words
+
+same_byte : (a b : ℕ) → eqb a b ≡ eqb b a
+same_byte a b = go (eqb b a) refl
+  where
+    go : (x : Bool) → eqb b a ≡ x → eqb a b ≡ x
+    go true e = eq-eqb a b (sym (eqb-true b a e))
+    go false e = ne_eqb a b (λ q. eqb-false b a e (sym q))
+
+pub starts_is_word : (w s : List ℕ) → starts_with eqb s w ≡ starts_word w s
+unfolding starts_word
+starts_is_word [] s = refl
+starts_is_word (c ∷ w) [] = refl
+starts_is_word (c ∷ w) (x ∷ s) = ap₂ (λ (a b : Bool). a && b) (same_byte c x) (starts_is_word w s)
 
 pub word_is : {A : Type 0} (w : List ℕ) (r : Reader A) (s : List ℕ) → after_word w r s ≡ cond (starts_word w s) (ahead (length w) (r (drop (length w) s))) bad
 unfolding after_word starts_word after ahead

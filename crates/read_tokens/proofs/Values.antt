@@ -48,11 +48,6 @@ cap_more ds v i w h e =
     ap (λ (y : ℕ). min y most) (value_more ds v i h) ∙ same_cap (v * 10 + (get_or ds i 0 - 48)) (drop (i + 1) ds)
     ∙ ap (λ (y : ℕ). min (value_from y (drop (i + 1) ds)) most) (sym e)
 
-pub cap_end : (ds : List ℕ) (v i : ℕ) → length ds ≤ i → v ≤ most → min (value_from v (drop i ds)) most ≡ v
-cap_end ds v i h l =
-    let e : value_from v (drop i ds) ≡ v = ap (value_from v) (drop_of_length-le ds h) in
-    omega arith
-
 -- ---- the eight bytes
 
 pub filled_length : (v : List ℕ) → length (filled 8 v) ≡ 8
@@ -84,12 +79,6 @@ pub grown : (w c i : ℕ) → w < 256 ^ i → c < 256 → w * 256 + c < 256 ^ (i
 grown w c i h l =
     let e : 256 ^ (i + 1) ≡ 256 ^ i * 256 = ap (λ (k : ℕ). 256 ^ k) (add-one i) ∙ pow-suc 256 i in
     omega arith
-
--- inside a list the default does not matter
-pub other_default : (l : List ℕ) (i d e : ℕ) → i < length l → get_or l i d ≡ get_or l i e
-other_default [] i d e h = absurd (omega arith)
-other_default (c ∷ l) zero d e h = refl
-other_default (c ∷ l) (suc i) d e h = other_default l i d e (omega arith)
 
 -- ---- a name's words
 

@@ -1,29 +1,18 @@
 -- What the code's parts of reading a field answer.
 -- Assumes nothing.
-use Rattle.std.specs.Prelude.{ℕ, ◌≤◌, ◌<◌, ◌≡◌, false, cond, List, ltb, length, drop, get_or, ℤ, pos, neg_ℤ}
-use Rattle.std.proofs.Math.Option.{Option, none, some}
-use Rattle.rules_formats.specs.Fields.{is_blank, number}
-use Rattle.run_fields.specs.declared.Field.{Field}
-use Rattle.run_fields.specs.declared.Field.TheVariants.{Number, Nothing}
+use Rattle.std.specs.Prelude.{ℕ, cond, ltb, ℤ, pos, Option, Some, None}
+use Rattle.std.proofs.Math.Option as book
 
--- a magnitude below the ceiling, or the ceiling
-abbrev pub capped : ℕ → Option ℕ → ℕ
-capped ceiling none = ceiling
-capped ceiling (some n) = cond (ltb n ceiling) n ceiling
+-- a magnitude below the ceiling
+abbrev pub below : ℕ → book.Option ℕ → Option ℕ
+below ceiling book.none = None
+below ceiling (book.some n) = cond (ltb n ceiling) (Some n) None
 
--- what such a magnitude stands for, after no sign or a plus and after a minus
-abbrev pub positive : ℕ → ℕ → Option ℤ
-positive ceiling m = cond (ltb m ceiling) (some (pos m)) none
+abbrev pub whole : Option ℕ → Option ℤ
+whole None = None
+whole (Some n) = Some (pos n)
 
-abbrev pub negative : ℕ → ℕ → Option ℤ
-negative ceiling m = cond (ltb m ceiling) (some (neg_ℤ (pos m))) none
-
-unfoldable pub read_of : Option ℤ → Field
-read_of none = Nothing
-read_of (some v) = Number v
-
--- blanks stand before a column, and it is not blank or the end
-pub record First (s : List ℕ) (r : ℕ) : Type 0 where
-  pub within : r ≤ length s
-  pub same : number s ≡ number (drop r s)
-  pub stops : r < length s → is_blank (get_or s r 0) ≡ false
+-- as code says it
+unfoldable pub read_of : book.Option ℤ → Option ℤ
+read_of book.none = None
+read_of (book.some v) = Some v

@@ -1,11 +1,12 @@
 // A FORMAT's words, one after the other. Nothing is tested here that the check of an object has settled.
 #![tactic(auto)]
 
-ghost use Rattle.object_contents.specs.Layout.{object_at, Placed};
+ghost use Rattle.object_contents.specs.Book.{book_of};
 ghost use Rattle.run_formats.specs.Scan.{Scanning, Says};
 
-use object_contents::Layout;
+use object_contents::Object;
 
+// A word's top byte. Each stands once, at its arm of the match that makes the enum: an enum of the numbers besides would be no plainer.
 const NUMBER: u32 = 1;
 
 const SKIP: u32 = 2;
@@ -30,25 +31,17 @@ pub enum Word {
     End(usize),
 }
 
-pub fn word_at(o: &[u8], e: Layout, word: usize) -> Word
-    requires placed { Placed e o.now }
-    requires scanning { Scanning (object_at e o.now).formats word }
-    ensures { Says (object_at e o.now).formats word result }
+pub fn word_at(o: &Object, word: usize) -> Word
+    requires { Scanning (book_of o.now).formats word }
+    ensures { Says (book_of o.now).formats word result }
 {
-    let w = object_words::load(o, e.formats + 4 * word);
-    let kind = object_words::operation(w);
-    let n = object_words::index(object_words::operand(w));
-    if kind == END {
-        return Word::End(n);
+    let w = object_words::load(o.bytes, o.layout.formats + 4 * word);
+    let n = object_words::operand(w) as usize;
+    match object_words::operation(w) {
+        NUMBER => Word::Of(Field::Number(n)),
+        SKIP => Word::Of(Field::Skip(n)),
+        TEXT => Word::Of(Field::Text(n as u8)),
+        END => Word::End(n),
+        _ => Word::Of(Field::Slash),
     }
-    if kind == NUMBER {
-        return Word::Of(Field::Number(n));
-    }
-    if kind == SKIP {
-        return Word::Of(Field::Skip(n));
-    }
-    if kind == TEXT {
-        return Word::Of(Field::Text(n as u8));
-    }
-    Word::Of(Field::Slash)
 }

@@ -2,14 +2,16 @@
 -- Assumes nothing.
 use mathlib.Core.Path.{◌≡◌, refl, sym, ap, ◌∙◌}
 use mathlib.Core.Bool.{Bool, true, false, ◌&&◌}
-use mathlib.Core.List.{List}
+use mathlib.Core.List.{List, [], ◌∷◌}
+use Rattle.std.specs.List.{list_all}
+use Rattle.std.specs.Prelude.{Result, Ok, Err, IsErr, IsErrAnd}
+use Rattle.refusals.specs.declared.Reason.{Reason}
 use mathlib.Core.Option.{Option, none, some}
-use Prim.Native.Nat.{ℕ, zero, suc, ◌+◌, ◌-◌, ◌≤◌, ◌<◌, min}
-use native.Mathlib.Numerals.{add-one}
+use Prim.Native.Nat.{ℕ, zero, suc, ◌-◌, ◌≤◌, ◌<◌, min}
 use native.Mathlib.Omega.{arith}
 use lib.Dec.{ltb, leb}
-use lib.ListN.{length, get_or, take, drop, set, replicate, length-set, length-take, length-replicate, get_or-replicate, get_or-eq_default}
-use lib.Seq.{drop-cons, get_or-take, get_or-set_same, get_or-set_other, ext_get_or}
+use lib.ListN.{length, get_or, take, replicate, length-take, length-replicate, get_or-replicate, get_or-eq_default}
+use lib.Seq.{get_or-take, ext_get_or}
 use lib.IntN.{ℤ, pos}
 use borrow.Author.Tests.{lt-ltb, le-ltb, le-leb, lt-leb, eq-eqb, ne_eqb}
 use Rattle.number.specs.Number.{Rule, fits}
@@ -23,45 +25,17 @@ use Rattle.rules_object.proofs.Passed.{some_none, or_none}
 use Rattle.object_contents.specs.declared.Layout.{Layout}
 use Rattle.object_contents.specs.Layout.{object_at}
 use Rattle.object_contents.proofs.Entries.{code_length}
-use Rattle.run_lent.specs.Lending.{lent, numbered, refused_store, Cleared}
+use Rattle.run_lent.specs.Lending.{lent, refused_store, Cleared}
 
--- ---- the first n numbers fit, from i on
+-- ---- numbers that fit
 
-pub fit_none : (test : ℤ → Bool) (l : List ℤ) (n : ℕ) → all test (take n l) ≡ all test (take (n - 0) (drop 0 l))
-fit_none test l n = let z : n - 0 ≡ n = omega arith in rw z
-
-pub fit_one : (test : ℤ → Bool) (l : List ℤ) (n i : ℕ) → i < n → n ≤ length l
-    → all test (take (n - i) (drop i l)) ≡ (test (get_or l i (pos 0)) && all test (take (n - (i + 1)) (drop (i + 1) l)))
-fit_one test l n i h k =
-    let m : n - i ≡ suc (n - (i + 1)) = omega arith in
-    rw (m, drop-cons l i (pos 0) (omega arith), add-one i)
-
-pub fit_all : (test : ℤ → Bool) (l : List ℤ) (n i : ℕ) → n ≤ i → all test (take (n - i) (drop i l)) ≡ true
-fit_all test l n i h = let m : n - i ≡ 0 = omega arith in rw m
-
--- what is known at i
-abbrev pub Fitting : List ℤ → ℕ → Rule → ℕ → Type 0
-Fitting l n k i = all (fits k) (take n l) ≡ all (fits k) (take (n - i) (drop i l))
-
-pub fitting_none : (l : List ℤ) (n : ℕ) (k : Rule) → Fitting l n k 0
-fitting_none l n k = fit_none (fits k) l n
-
-module _ (l : List ℤ) (n : ℕ) (k : Rule) (i : ℕ) (h : i < n) (room : n ≤ length l) (f : Fitting l n k i) (b : Bool) (told : b ≡ fits k (get_or l i (pos 0))) where
-  fitting_one : {t : Bool} → b ≡ t → all (fits k) (take n l) ≡ (t && all (fits k) (take (n - (i + 1)) (drop (i + 1) l)))
-  fitting_one q = f ∙ fit_one (fits k) l n i h room ∙ ap (λ (c : Bool). c && all (fits k) (take (n - (i + 1)) (drop (i + 1) l))) (sym told ∙ q)
-
-  pub fitting_more : b ≡ true → Fitting l n k (i + 1)
-  fitting_more q = fitting_one q
-
-  pub not_fitting : b ≡ false → false ≡ all (fits k) (take n l)
-  not_fitting q = sym (fitting_one q)
-
-pub all_fitting : (l : List ℤ) (n : ℕ) (k : Rule) (i : ℕ) → n ≤ i → Fitting l n k i → true ≡ all (fits k) (take n l)
-all_fitting l n k i h f = sym (f ∙ fit_all (fits k) l n i h)
+all_same : {A : Type 0} (test : A → Bool) (l : List A) → list_all test l ≡ all test l
+all_same test [] = refl
+all_same test (a ∷ l) = ap (λ b. test a && b) (all_same test l)
 
 -- by another name of the rule
-pub fit_same : (l : List ℤ) {k k' : Rule} {b : Bool} → b ≡ all (fits k) l → k ≡ k' → b ≡ all (fits k') l
-fit_same l e q = e ∙ ap (λ k. all (fits k) l) q
+pub fit_same : (l : List ℤ) {k k' : Rule} {b : Bool} → b ≡ list_all (fits k) l → k ≡ k' → b ≡ all (fits k') l
+fit_same l e q = e ∙ ap (λ k. list_all (fits k) l) q ∙ all_same _ l
 
 -- ---- 50 and 51
 
@@ -70,7 +44,7 @@ unfolding object_at
 cells_are e s = refl
 
 module _ (e : Layout) (s : List ℕ) (store : List ℤ) where
-  pub store_short : length store < e.cells → numbered 50 ≡ refused_store (object_at e s) store
+  pub store_short : length store < e.cells → some (refusal 50 0 0) ≡ refused_store (object_at e s) store
   unfolding refused_store right50
   store_short h = rw (cells_are e s, lt-leb e.cells (length store) h)
 
@@ -119,60 +93,27 @@ module _ (e : Layout) (s table : List ℕ) (i h m : ℕ) (places : List ℤ) whe
 
 -- ---- 50 to 52 together
 
+pub passed_on : (r : Result Unit Reason) (x : Reason) → IsErr r → IsErrAnd r (λ y. y ≡ x) → r ≡ Err x
+passed_on (Ok u) x e f = absurd cc
+passed_on (Err y) x e f = ap Err f
+
 module _ (o : Object) (table : List ℕ) (store : List ℤ) (l : Lent) where
-  pub first_store : (n : ℕ) → numbered n ≡ refused_store o store → (n ≡ 0 → ⊥) → numbered n ≡ refused50to52 o table store l
+  pub first_store : (r : Refusal) → some r ≡ refused_store o store → some r ≡ refused50to52 o table store l
   unfolding refused_store
-  first_store zero q z = absurd (z refl)
-  first_store (suc n) q z = by (unless (right50 o store) 50) (unless (right51 o store) 51) q
+  first_store r q = by (unless (right50 o store) 50) (unless (right51 o store) 51) q
     where
-      by : (a b : Option Refusal) → some (refusal (suc n) 0 0) ≡ or_else a b → some (refusal (suc n) 0 0) ≡ or_else a (or_else b (unless (right52 o table l) 52))
+      by : (a b : Option Refusal) → some r ≡ or_else a b → some r ≡ or_else a (or_else b (unless (right52 o table l) 52))
       by none none q = absurd (some_none q)
       by none (some r) q = q
       by (some r) b q = q
 
-  pub then_state : (n : ℕ) → numbered n ≡ refused_store o store → n ≡ 0 → refused50to52 o table store l ≡ unless (right52 o table l) 52
+  pub then_state : none ≡ refused_store o store → refused50to52 o table store l ≡ unless (right52 o table l) 52
   unfolding refused_store
-  then_state n q z =
-      let e : or_else (unless (right50 o store) 50) (unless (right51 o store) 51) ≡ none = sym q ∙ ap numbered z in
-      let f = or_none (unless (right50 o store) 50) _ e in
+  then_state q =
+      let f = or_none (unless (right50 o store) 50) _ (sym q) in
       rw (f.0, f.1)
 
 -- ---- places made 0
-
-pub record Clearing (a b : List ℤ) (h i : ℕ) : Type 0 where
-  pub from : h ≤ i
-  pub most : i ≤ 40
-  pub long : length b ≡ length a
-  pub below : (j : ℕ) → j < h → cell b j ≡ cell a j
-  pub zeros : (j : ℕ) → h ≤ j → j < i → cell b j ≡ pos 0
-
-pub clearing_none : (a : List ℤ) (h i : ℕ) → h ≤ 40 → i ≡ h → Clearing a a h i
-clearing_none a h i l q = record { from = omega arith; most = omega arith; long = refl; below = λ j k. refl; zeros = λ j k m. absurd (omega arith) }
-
--- a place that is not there reads 0 as well
-set_zero : (b : List ℤ) (i : ℕ) → cell (set b i (pos 0)) i ≡ pos 0
-set_zero b i = by (length b - i) refl
-  where
-    by : (d : ℕ) → d ≡ length b - i → cell (set b i (pos 0)) i ≡ pos 0
-    by zero q = get_or-eq_default (set b i (pos 0)) (pos 0) {n = i} (omega (arith, length-set b i (pos 0)))
-    by (suc d) q = get_or-set_same b i (pos 0) (pos 0) (omega arith)
-
-pub clearing_more : (a b : List ℤ) (h i : ℕ) → i < 40 → Clearing a b h i → Clearing a (set b i (pos 0)) h (i + 1)
-clearing_more a b h i l c =
-    record {
-      from = omega (arith, c.from);
-      most = omega arith;
-      long = length-set b i (pos 0) ∙ c.long;
-      below = λ j k. get_or-set_other b i j (pos 0) (pos 0) (λ q. absurd (omega (arith, c.from, q))) ∙ c.below j k;
-      zeros = λ j k m. by (i - j) j k m refl;
-    }
-  where
-    by : (d j : ℕ) → h ≤ j → j < i + 1 → d ≡ i - j → cell (set b i (pos 0)) j ≡ pos 0
-    by zero j k m q = let e : j ≡ i = omega arith in ap (cell (set b i (pos 0))) e ∙ set_zero b i
-    by (suc d) j k m q = get_or-set_other b i j (pos 0) (pos 0) (λ e. absurd (omega (arith, q, e))) ∙ c.zeros j k (omega arith)
-
-pub cleared : (a b : List ℤ) (h i : ℕ) → 40 ≤ i → Clearing a b h i → Cleared a b h
-cleared a b h i l c = record { long = c.long; below = c.below; zeros = λ j k m. c.zeros j k (omega arith) }
 
 pub cleared_above : (a b : List ℤ) (h : ℕ) → length a ≡ 40 → Cleared a b h → (i : ℕ) → h ≤ i → cell b i ≡ pos 0
 cleared_above a b h forty c i k = by (40 - i) refl

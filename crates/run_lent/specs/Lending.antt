@@ -1,7 +1,9 @@
 -- What is lent for a run, and what its tests and its clearing do, in the book's words.
 -- Assumes nothing.
-use Rattle.std.specs.Prelude.{◌≡◌, List, ℕ, zero, suc, ◌≤◌, ◌<◌, length, ℤ, pos}
+use Rattle.std.specs.Prelude.{◌≡◌, List, ℕ, ◌≤◌, ◌<◌, length, ℤ, pos, Result, Ok, Err}
 use Rattle.std.proofs.Math.Option.{Option, none, some}
+use Rattle.refusals.specs.declared.Reason.{Reason}
+use Rattle.refusals.specs.Numbers.{number_of}
 use Rattle.rules_object.specs.Object.{Object}
 use Rattle.rules_object.specs.Machine.{cell}
 use Rattle.rules_shared.specs.Refusals.{Refusal, refusal, or_else, unless}
@@ -10,10 +12,10 @@ use Rattle.rules_object.specs.Calls.{Lent, right50, right51}
 abbrev pub lent : ℕ → ℕ → ℕ → List ℤ → Lent
 lent i h m places = record { index = i; height = h; mark = m; places = places }
 
--- a number as a refusal without place, 0 as none
-abbrev pub numbered : ℕ → Option Refusal
-numbered zero = none
-numbered (suc n) = some (refusal (suc n) 0 0)
+-- refused for a reason, without a place
+abbrev pub refused_by : Result Unit Reason → Option Refusal
+refused_by (Ok u) = none
+refused_by (Err r) = some (refusal (number_of r) 0 0)
 
 -- 50 and 51
 unfoldable pub refused_store : Object → List ℤ → Option Refusal

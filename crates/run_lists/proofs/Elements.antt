@@ -20,13 +20,20 @@ use Rattle.rules_object.specs.Bytes.{signed_of}
 use Rattle.rules_object.proofs.Passed.{both}
 use Rattle.object_words.specs.Word.{word_at}
 use Rattle.object_contents.specs.declared.Layout.{Layout}
+use Rattle.object_contents.specs.declared.placed.Object.{Object}
 use Rattle.object_contents.specs.Layout.{element_at, object_at}
 use Rattle.object_contents.proofs.Entries.{element_at_lem, element_inside}
 use Rattle.run_subscripts.specs.Elements.{Cell, SubscriptIn, ElementIn}
 use Rattle.run_subscripts.proofs.Laws.{place_below}
 use Rattle.run_lists.specs.Cursors.{Stored}
 
-module _ (e : Layout) (s : List ℕ) (so : List ℤ) (h : Stored e s so) where
+module _ (o : Object) (so : List ℤ) (h : Stored o so) where
+  abbrev e : Layout
+  e = o.layout
+
+  abbrev s : List ℕ
+  s = o.bytes.now
+
   small_here : (z : ℤ) → fits (rule_of (object_at e s)) z ≡ true → nat_abs z < 2 ^ 31
   small_here z t = fits_below (rule_of (object_at e s)) h.narrow z (fits_yes (rule_of (object_at e s)) z t)
 
@@ -51,12 +58,11 @@ module _ (e : Layout) (s : List ℕ) (so : List ℤ) (h : Stored e s so) where
     pub element_in_lem : ElementIn s at so
     unfolding right_element element_at object_at
     element_in_lem =
-        let o = object_at e s in
         let m₁ = both (leb 1 (word_at s (at + 4))) _ right_at_lem in
         let m₂ = both (leb 1 (word_at s (at + 8))) _ m₁.1 in
         let m₃ = both (leb (word_at s at + word_at s (at + 4) * word_at s (at + 8)) e.cells) _ m₂.1 in
-        let m₄ = both (right_subscript o (element_at s at).first) _ m₃.1 in
-        let whole = element_inside e s h.placed x l in
+        let m₄ = both (right_subscript (object_at e s) (element_at s at).first) _ m₃.1 in
+        let whole = element_inside e s o.placed x l in
         record {
           whole = whole;
           first = part (at + 12) (at + 16) (at + 20) (omega arith) (omega arith) (omega arith) m₄.0;

@@ -1,3 +1,2 @@
 pub mod Elements
 pub mod Lists
-pub mod Troubles

@@ -21,6 +21,8 @@ use Rattle.rules_object.specs.Machine.{Spot, a_cell, an_element, cell_spots, spo
 use Rattle.rules_object.proofs.Passed.{both}
 use Rattle.object_words.specs.Word.{word_at}
 use Rattle.object_contents.specs.declared.Layout.{Layout}
+use Rattle.object_contents.specs.declared.placed.Object.{Object as Opened}
+use Rattle.object_contents.specs.Book.{book_of}
 use Rattle.object_contents.specs.Layout.{element_at, item_at, transfer_at, object_at}
 use Rattle.object_contents.proofs.Entries.{element_length, element_at_lem, item_length_lem, item_at_lem, transfer_at_lem}
 use Rattle.run_subscripts.specs.Elements.{ElementIn}
@@ -28,7 +30,7 @@ use Rattle.run_formats.specs.Scan.{Scanning}
 use Rattle.run_formats.proofs.StartLaws.{starts}
 use Rattle.run_lists.specs.declared.Cursor.{Cursor}
 use Rattle.run_lists.specs.declared.Start.{Start}
-use Rattle.run_lists.specs.Cursors.{start_of, Stored, items_left, left_of, Reached, Begins, Found, Astray, Some, Left}
+use Rattle.run_lists.specs.Cursors.{start_of, Stored, items_left, left_of, Reached, Begins, Found, Astray, SomeLeft, Left}
 use Rattle.run_lists.proofs.Elements.{element_in_lem, element_cell_lem}
 
 -- ---- cells
@@ -165,13 +167,13 @@ abbrev pub no_item : ListItem
 no_item = record { first = 0; count = 0 }
 
 module _ (o : Object) (c : Cursor) (r : Reached o c) where
-  pub left_in_span : 0 < c.cells → Some o c
+  pub left_in_span : 0 < c.cells → SomeLeft o c
   left_in_span h = let f = in_span o [] c r h in record { spot = f.spot; more = _; is = f.is }
 
-  pub left_in_items : c.cells ≡ 0 → (c.items ≡ 0 → ⊥) → Some o c
+  pub left_in_items : c.cells ≡ 0 → (c.items ≡ 0 → ⊥) → SomeLeft o c
   left_in_items e f = by (here o [] c r e f no_item).count refl
     where
-      by : (n : ℕ) → (here o [] c r e f no_item).count ≡ n → Some o c
+      by : (n : ℕ) → (here o [] c r e f no_item).count ≡ n → SomeLeft o c
       by zero q = record { spot = _; more = _; is = one_spot o [] c r e f no_item (here o [] c r e f no_item).first (here o [] c r e f no_item).count refl q }
       by (suc n) q = let g = new_span o [] c r e f no_item (here o [] c r e f no_item).first (here o [] c r e f no_item).count refl (omega arith) in record { spot = g.spot; more = _; is = g.is }
 
@@ -198,29 +200,29 @@ module _ (e : Layout) (s : List ℕ) where
   pub items_inside : (c : Cursor) → Reached (object_at e s) c → (c.items ≡ 0 → ⊥) → c.item < e.item_count
   items_inside c r f = omega (arith, r.items, item_length_lem e s)
 
-  module _ (so : List ℤ) (h : Stored e s so) (c : Cursor) (r : Reached (object_at e s) c) (z : c.cells ≡ 0) (f : c.items ≡ 0 → ⊥) (a n : ℕ)
-      (is : get_or (object_at e s).items c.item no_item ≡ record { first = a; count = n }) (empty : n ≡ 0) where
-    pub entry_below : a < e.element_count
-    entry_below = omega (arith, an_entry (object_at e s) so c r z f no_item a n is empty, element_length e s)
+module _ (b : Opened) (so : List ℤ) (h : Stored b so) (c : Cursor) (r : Reached (book_of b) c) (z : c.cells ≡ 0) (f : c.items ≡ 0 → ⊥) (a n : ℕ)
+    (is : get_or (book_of b).items c.item no_item ≡ record { first = a; count = n }) (empty : n ≡ 0) where
+  pub entry_below : a < b.layout.element_count
+  entry_below = omega (arith, an_entry (book_of b) so c r z f no_item a n is empty, element_length b.layout b.bytes.now)
 
-    entry_right_lem : right_element (object_at e s) (get_or (object_at e s).elements a no_element) ≡ true
-    entry_right_lem = right_entry (object_at e s) so c r z f no_item a n is empty
+  entry_right_lem : right_element (book_of b) (get_or (book_of b).elements a no_element) ≡ true
+  entry_right_lem = right_entry (book_of b) so c r z f no_item a n is empty
 
-    pub entry_in : ElementIn s (e.elements + 36 * a) so
-    entry_in = element_in_lem e s so h a entry_below entry_right_lem
+  pub entry_in : ElementIn b.bytes.now (b.layout.elements + 36 * a) so
+  entry_in = element_in_lem b so h a entry_below entry_right_lem
 
-    place_is : place_of so (operations.element_at (object_at e s) a) ≡ place_of so (element_at s (e.elements + 36 * a))
-    place_is = ap (place_of so) (element_at_lem e s a no_element entry_below)
+  place_is : place_of so (operations.element_at (book_of b) a) ≡ place_of so (element_at b.bytes.now (b.layout.elements + 36 * a))
+  place_is = ap (place_of so) (element_at_lem b.layout b.bytes.now a no_element entry_below)
 
-    pub found_nowhere : place_of so (element_at s (e.elements + 36 * a)) ≡ none → Astray (object_at e s) so c
-    found_nowhere q = astray (object_at e s) so c r z f no_item a n is empty (place_is ∙ q)
+  pub found_nowhere : place_of so (element_at b.bytes.now (b.layout.elements + 36 * a)) ≡ none → Astray (book_of b) so c
+  found_nowhere q = astray (book_of b) so c r z f no_item a n is empty (place_is ∙ q)
 
-    pub found_at : (p b : ℕ) → b ≡ word_at s (e.elements + 36 * a) → place_of so (element_at s (e.elements + 36 * a)) ≡ some p
-        → Found (object_at e s) so c (b + p) (record { cell = 0; cells = 0; item = c.item + 1; items = c.items - 1 })
-    unfolding element_at object_at
-    found_at p b q w =
-        an_element_lem (object_at e s) so c r z f no_item a n is empty p b (q ∙ sym (ap (λ (x : Element). x.base) (element_at_lem e s a no_element entry_below))) (place_is ∙ w)
-        (omega (arith, element_cell_lem e s so h a entry_below entry_right_lem p (sym w)))
+  pub found_at : (p w : ℕ) → w ≡ word_at b.bytes.now (b.layout.elements + 36 * a) → place_of so (element_at b.bytes.now (b.layout.elements + 36 * a)) ≡ some p
+      → Found (book_of b) so c (w + p) (record { cell = 0; cells = 0; item = c.item + 1; items = c.items - 1 })
+  unfolding element_at object_at
+  found_at p w q k =
+      an_element_lem (book_of b) so c r z f no_item a n is empty p w (q ∙ sym (ap (λ (x : Element). x.base) (element_at_lem b.layout b.bytes.now a no_element entry_below))) (place_is ∙ k)
+      (omega (arith, element_cell_lem b so h a entry_below entry_right_lem p (sym k)))
 
 -- ---- the whole list
 

@@ -1,15 +1,21 @@
--- The trouble that stops a statement as the number of a halt.
+-- The trouble that stops a statement, as a halt.
 -- Assumes nothing.
-use Rattle.std.specs.Prelude.{◌≡◌, ℕ}
+use Rattle.std.specs.Prelude.{◌≡◌, Result, Ok, Err}
 use Rattle.rules_formats.specs.Walk.{Trouble, trouble_number, Outcome, fine, trouble}
+use Rattle.object_opcodes.specs.declared.Halt.{Halt}
+use Rattle.object_opcodes.specs.Halts.{number_of}
 
--- 0 where all went well
-abbrev pub halt_of : {A : Type 0} → Outcome A → ℕ
-halt_of (fine a) = 0
-halt_of (trouble t) = trouble_number t
-
--- stopped by a trouble of this number
-pub record Stopped {A : Type 0} (outcome : Outcome A) (number : ℕ) : Type 0 where
+-- stopped by a trouble of this halt's number
+pub record Stopped {A : Type 0} (outcome : Outcome A) (h : Halt) : Type 0 where
   pub why : Trouble
   pub is : outcome ≡ trouble why
-  pub numbered : number ≡ trouble_number why
+  pub numbered : number_of h ≡ trouble_number why
+
+pub record Fine {A : Type 0} (outcome : Outcome A) : Type 0 where
+  pub value : A
+  pub is : outcome ≡ fine value
+
+-- whether all goes well
+abbrev pub Tried : {A B : Type 0} → Outcome A → Result B Halt → Type 0
+Tried outcome (Ok b) = Fine outcome
+Tried outcome (Err h) = Stopped outcome h

@@ -2,15 +2,17 @@
 #![tactic(auto)]
 
 ghost use Rattle.std.specs.Prelude.{◌≡◌, true, ◌<◌};
-ghost use Rattle.rules_object.specs.Object.{Object};
+ghost use Rattle.rules_object.specs.Object as book;
 ghost use Rattle.rules_object.specs.Operations.{transfer_right};
-ghost use Rattle.object_contents.specs.Layout.{object_at, Placed};
+ghost use Rattle.object_contents.specs.Book.{book_of};
 ghost use Rattle.run_lists.specs.Cursors.{Stored, Reached, Begins, Comes, Left};
 
-use object_contents::Layout;
-use run_subscripts::Place;
+use object_contents::Object;
+use object_opcodes::Halt;
+use object_words::load;
 
-// What is left of a list: so many cells from one on, then so many items from one on.
+// What is left of a list: so many cells from one on, then so many items from one on. That it is reached stands in the contracts: as a fact of
+// its own it would put the object into each cursor.
 #[derive(Clone, Copy)]
 pub struct Cursor {
     pub cell: usize,
@@ -19,115 +21,81 @@ pub struct Cursor {
     pub items: usize,
 }
 
-// The cell of the next number, with what is left after it; or a wrong subscript; or no number is left.
-#[derive(Drop)]
-pub enum Next {
-    Cell(usize, Cursor),
-    Wrong,
-    Nothing,
-}
-
-// How a field leaves its record: at a column, with what is left of the list; at the record's end; at the statement's end; or stopped by a halt.
+// How a field leaves its record: at a column, with what is left of the list; at the record's end; or at the statement's end.
 #[derive(Drop)]
 pub enum Step {
     On(usize, Cursor),
     RecordEnds,
     StatementEnds,
-    Stops(u32),
 }
 
-// How a record leaves its statement: with more to come from a word on, and what is left of the list; as the last; or stopped by a halt.
-#[derive(Drop)]
-pub enum Record {
-    More(usize, Cursor),
-    Last,
-    Stops(u32),
-}
-
-// Where a statement begins: its FORMAT's first word, and its list.
-#[derive(Drop)]
+// Where a record begins: a word of its FORMAT, and what is left of its list. That the word is a FORMAT's stands in the contracts: it can be so
+// in more than one way, which no ghost field may.
+#[derive(Clone, Copy)]
 pub struct Start {
     pub word: usize,
     pub list: Cursor,
 }
 
-pub fn start_of(o: &[u8], e: Layout, x: usize) -> Start
-    requires placed { Placed e o.now }
-    requires x_bound { x < e.transfer_count }
-    requires x_value { transfer_right (object_at e o.now) x ≡ true }
-    ensures { Begins (object_at e o.now) x result }
+// Where the statement of a transfer begins.
+pub fn start_of(o: &Object, x: usize) -> Start
+    requires x_bound { x < o.now.layout.transfer_count }
+    requires x_value { transfer_right (book_of o.now) x ≡ true }
+    ensures { Begins (book_of o.now) x result }
 {
-    let b = e.transfers + 12 * x;
-    let word = object_words::index(object_words::load(o, b));
-    let item = object_words::index(object_words::load(o, b + 4));
-    let items = object_words::index(object_words::load(o, b + 8));
+    let b = o.layout.transfers + 12 * x;
     Start {
-        word: word,
+        word: load(o.bytes, b) as usize,
         list: Cursor {
             cell: 0,
             cells: 0,
-            item: item,
-            items: items,
+            item: load(o.bytes, b + 4) as usize,
+            items: load(o.bytes, b + 8) as usize,
         },
     }
 }
 
 pub fn any_left(c: Cursor) -> bool
-    ensures { (o : Object) → Reached o c → Left o c result }
+    ensures { (o : book.Object) → Reached o c → Left o c result }
 {
-    if c.cells > 0 {
-        return true;
-    }
-    c.items > 0
+    c.cells > 0 || c.items > 0
 }
 
-pub fn next_number(o: &[u8], e: Layout, store: &[i64], c: Cursor) -> Next
-    requires stored { Stored e o.now store.now }
-    requires reached { Reached (object_at e o.now) c }
-    ensures { Comes (object_at e o.now) store.now c result }
+// The cell of the next number, with what is left after it; none where no number is left.
+pub fn next_number(o: &Object, store: &[i64], c: Cursor) -> Result<Option<(usize, Cursor)>, Halt>
+    requires stored { Stored o.now store.now }
+    requires reached { Reached (book_of o.now) c }
+    ensures { Comes (book_of o.now) store.now c result }
 {
     if c.cells > 0 {
-        return Next::Cell(
-            c.cell,
-            Cursor {
-                cell: c.cell + 1,
-                cells: c.cells - 1,
-                item: c.item,
-                items: c.items,
-            },
-        );
+        let rest = Cursor {
+            cell: c.cell + 1,
+            cells: c.cells - 1,
+            ..c
+        };
+        return Ok(Some((c.cell, rest)));
     }
     if c.items == 0 {
-        return Next::Nothing;
+        return Ok(None);
     }
-    let item = c.item + 1;
-    let items = c.items - 1;
-    let b = e.items + 8 * c.item;
-    let first = object_words::index(object_words::load(o, b));
-    let count = object_words::index(object_words::load(o, b + 4));
-    if count > 0 {
-        return Next::Cell(
-            first,
-            Cursor {
-                cell: first + 1,
-                cells: count - 1,
-                item: item,
-                items: items,
-            },
-        );
-    }
-    let entry = e.elements + 36 * first;
-    let Place::At(n) = run_subscripts::element_place(o, entry, store) else {
-        return Next::Wrong;
+    let b = o.layout.items + 8 * c.item;
+    let first = load(o.bytes, b) as usize;
+    let count = load(o.bytes, b + 4) as usize;
+    let rest = Cursor {
+        cell: 0,
+        cells: 0,
+        item: c.item + 1,
+        items: c.items - 1,
     };
-    let base = object_words::index(object_words::load(o, entry));
-    Next::Cell(
-        base + n,
-        Cursor {
-            cell: 0,
-            cells: 0,
-            item: item,
-            items: items,
-        },
-    )
+    if count > 0 {
+        let rest = Cursor {
+            cell: first + 1,
+            cells: count - 1,
+            ..rest
+        };
+        return Ok(Some((first, rest)));
+    }
+    let entry = o.layout.elements + 36 * first;
+    let n = run_subscripts::element_place(o.bytes, entry, store).ok_or(Halt::BadSubscript)?;
+    Ok(Some((load(o.bytes, entry) as usize + n, rest)))
 }

@@ -11,11 +11,11 @@ use lib.ListN.{length, set, take, length-set}
 use lib.Seq.{get_or-set_other}
 use lib.IntN.{ℤ, pos, negsuc, nat_abs, neg_ℤ, sub_ℕ, ◌+ℤ◌}
 use lib.Signed.{le_z}
-use Rattle.number.specs.Number.{Rule, Op, add, sub, mul, div, Result, value, trouble, apply}
+use Rattle.number.specs.Number.{Rule, Op, add, sub, mul, div, Result, value, by_zero, trouble, apply}
 use Rattle.number.proofs.Laws.{ResultFits, apply_fits, neg_fits}
 use Rattle.rules_shared.specs.Runs.{go, halt}
 use Rattle.rules_formats.specs.Walk.{Devices}
-use Rattle.rules_object.specs.Halts.{Halt, at_stop, at_end, bad_subscript, bad_exit, bad_parameter, halt_number, Out}
+use Rattle.rules_object.specs.Halts.{Halt, at_stop, at_end, divide_by_zero, bad_subscript, bad_exit, bad_parameter, halt_number, Out}
 use Rattle.rules_shared.specs.Choose as choose
 use Rattle.rules_shared.specs.Choose.{sign3, exit, positive, all_positive, again, over, turn, marked}
 use Rattle.rules_object.specs.Object.{Element, Loop}
@@ -24,11 +24,14 @@ use Rattle.rules_object.specs.Machine.{State, cell, top, under, place_of, act}
 use Rattle.rules_object.proofs.States.{state}
 use Rattle.rules_object.specs.Machine as book
 use Rattle.rules_object.specs.Calls.{taken}
+use Rattle.object_opcodes.specs.declared.Halt as opcodes
+use Rattle.object_opcodes.specs.declared.Halt.TheVariants.{Stop, End, DivideByZero, BadSubscript, BadExit, BadParameter}
+use Rattle.object_opcodes.specs.Halts.{number_of}
 use Rattle.run_registers.specs.declared.Regs.{Regs}
 use Rattle.run_registers.specs.declared.Turn.{Turn}
 use Rattle.run_registers.specs.declared.Turn.TheVariants.{Next, Halt as Halts, Transfer}
 use Rattle.run_registers.specs.Registers.{regs, state_of}
-use Rattle.run_arithmetic.specs.Performed.{After, next, stopped, pushed, popped, joined, loaded, put, branched, begun, turned, ended, performed}
+use Rattle.run_arithmetic.specs.Performed.{After, next, stopped, pushed, popped, joined, loaded, put, branched, begun, turned, ended, end_of, performed}
 use Rattle.run_subscripts.proofs.Laws.{place_below}
 use Rattle.run_machine.specs.Running.{IsTransfer, a_read, a_print}
 use Rattle.run_machine.proofs.Places.{tops, tops_is, tops_other, tops_push, under_tops, top_tops, zero_set, small_set}
@@ -48,7 +51,7 @@ abbrev pub Did : Type 0 → ℕ → ℕ → List ℤ → List ℤ → State → 
 Did X cells p st so t (Next q) st' so' (go u) = (Sound cells p q.height st' so' × (length so' ≡ length so)) × (state_of q st' so' t.devices ≡ u)
 Did X cells p st so t (Next q) st' so' (halt h u) = ⊥
 Did X cells p st so t (Halts n) st' so' (go u) = ⊥
-Did X cells p st so t (Halts n) st' so' (halt h u) = ((st' ≡ st) × (so' ≡ so)) × ((n ≡ halt_number h) × (u ≡ t))
+Did X cells p st so t (Halts n) st' so' (halt h u) = ((st' ≡ st) × (so' ≡ so)) × ((number_of n ≡ halt_number h) × (u ≡ t))
 Did X cells p st so t Transfer st' so' b = X × ((st' ≡ st) × (so' ≡ so))
 
 abbrev pub DidAll : Type 0 → ℕ → ℕ → List ℤ → List ℤ → State → After → Out State → Type 0
@@ -156,7 +159,7 @@ module _ (k : Rule) (cells i h m : ℕ) (st so : List ℤ) (devices : Devices) (
         z,
   )
 
-  off : (n : ℕ) (x : Halt) → n ≡ halt_number x → Does (stopped n st so) (halt x t)
+  off : (n : opcodes.Halt) (x : Halt) → number_of n ≡ halt_number x → Does (stopped n st so) (halt x t)
   off n x e = ((refl, refl), (e, refl))
 
   one_more : i + 1 ≡ suc i
@@ -233,7 +236,8 @@ module _ (k : Rule) (cells i h m : ℕ) (st so : List ℤ) (devices : Devices) (
   -- ---- two become one
 
   joins_does : 1 < h → (q : Result) → ResultFits k q → Does (joined q r st so) (book.operated q t (under (under S)))
-  joins_does l (trouble w) f = off (halt_number (book.halt_for w)) (book.halt_for w) refl
+  unfolding halt_number
+  joins_does l (trouble by_zero) f = off DivideByZero divide_by_zero refl
   joins_does l (value v lost) f =
       on (i + 1) (h - 1) (marked m lost i) (set (set st (h - 2) v) (h - 1) (pos 0)) so
       (record {
@@ -269,22 +273,22 @@ module _ (k : Rule) (cells i h m : ℕ) (st so : List ℤ) (devices : Devices) (
 
   loads_does : h < 40 → (e : Element) → e.base + e.rows * e.columns ≤ cells → (q : Option ℕ) → ((n : ℕ) → q ≡ some n → n < e.rows * e.columns) → Does (loaded q e.base r st so) (book.element_loaded q e t)
   unfolding halt_number
-  loads_does l e g none f = off 4 bad_subscript refl
+  loads_does l e g none f = off BadSubscript bad_subscript refl
   loads_does l e g (some n) f = pushes_does l (cell so (e.base + n)) (cell so (e.base + n)) (s.store (e.base + n) (omega (arith, f n refl))) refl
 
   puts_does : 0 < h → (e : Element) (q : Option ℕ) → Does (put q e.base r st so) (book.element_stored q e t)
   unfolding halt_number
-  puts_does l e none = off 4 bad_subscript refl
+  puts_does l e none = off BadSubscript bad_subscript refl
   puts_does l e (some n) = pops_does (set so (e.base + n) (cell st (h - 1))) _ (set_stored so kept (e.base + n) (cell st (h - 1)) (s.stack (h - 1))) (ap (set so (e.base + n)) (top₁ l)) (i + 1) (suc i) one_more
 
   leaves_does : (q : Option ℕ) → Does (branched q r st so) (book.branched q t)
   unfolding halt_number
-  leaves_does none = off 5 bad_exit refl
+  leaves_does none = off BadExit bad_exit refl
   leaves_does (some a) = pops_does so so kept refl a a refl
 
   begins_does : 2 < h → (q : Bool) (d : Loop) → Does (begun q d r st so) (book.begun q d (cell st (h - 3)) (cell st (h - 2)) (cell st (h - 1)) t)
   unfolding halt_number
-  begins_does l false d = off 6 bad_parameter refl
+  begins_does l false d = off BadParameter bad_parameter refl
   begins_does l true d =
       let c₁ = set so d.variable (cell st (h - 3)) in
       let c₂ = set c₁ d.limit (cell st (h - 2)) in
@@ -316,17 +320,17 @@ module _ (k : Rule) (cells i h m : ℕ) (st so : List ℤ) (devices : Devices) (
 
   ends_does : (q : Bool) (d : Loop) → positive (cell so d.step) ≡ q → (d.variable < cells) × ((d.limit < cells) × (d.step < cells)) → Does (ended q d r st so) (book.ended q d t)
   unfolding halt_number
-  ends_does false d e g = off 6 bad_parameter refl
+  ends_does false d e g = off BadParameter bad_parameter refl
   ends_does true d e g =
       let v = cell so d.variable in
       let l = cell so d.limit in
       let w = cell so d.step in
       turns_does (turn v l w) d (turn_within p v l w e (s.store d.variable g.0) (s.store d.limit g.1.0) (s.store d.step g.1.1))
 
-  halts_does : (x : ℕ) → x ≤ 1 → Does (stopped x st so) (halt (book.halts x) t)
+  halts_does : (x : ℕ) → x ≤ 1 → Does (stopped (end_of x) st so) (halt (book.halts x) t)
   unfolding halt_number
-  halts_does zero l = off 0 at_stop refl
-  halts_does (suc zero) l = off 1 at_end refl
+  halts_does zero l = off Stop at_stop refl
+  halts_does (suc zero) l = off End at_end refl
   halts_does (suc (suc x)) l = absurd (omega arith)
 
   pub does_tops : (n : Instr) → (IsTransfer n → X) → Good cells p n → pops n ≤ h → h - pops n + pushes n ≤ 40 → Does (performed k n r st so) (act k n t)

@@ -7,7 +7,6 @@ use Prim.Native.Nat.{ℕ, zero, suc, ◌+◌, ◌-◌, ◌≤◌, ◌<◌}
 use native.Mathlib.Omega.{arith}
 use lib.ListN.{length}
 use lib.IntN.{ℤ}
-use Rattle.number.specs.declared.Rule.{Rule}
 use Rattle.rules_shared.specs.Runs.{go, halt, then, run, steps_from, steps}
 use Rattle.rules_formats.specs.Walk.{Trays, Devices, devices_of}
 use Rattle.rules_object.specs.Halts.{halt_number, Out}
@@ -16,8 +15,8 @@ use Rattle.rules_object.specs.Operations.{operation_of, instruction}
 use Rattle.rules_object.specs.Machine.{State, going_to, next, with_store, with_devices, halt_in, step, bench_step}
 use Rattle.rules_object.specs.Calls.{taken, ran, halted, run_from}
 use Rattle.rules_object.specs.Safe.{Faultless}
-use Rattle.object_contents.specs.declared.Layout.{Layout}
-use Rattle.object_contents.specs.Layout.{object_at}
+use Rattle.object_contents.specs.declared.placed.Object.{Object as Lent}
+use Rattle.object_contents.specs.Book.{book_of}
 use Rattle.object_contents.proofs.Entries.{code_length}
 use Rattle.run_registers.specs.declared.Regs.{Regs}
 use Rattle.run_registers.specs.Registers.{onward, state_of}
@@ -26,8 +25,12 @@ use Rattle.run_registers.proofs.DeviceLaws.{devices_begin, counted_begin, counte
 use Rattle.run_operations.specs.Ready.{Held}
 use Rattle.run_guards.specs.Guarding.{word_of, guard_of}
 use Rattle.run_guards.proofs.Guards.{word_in_table}
-use Rattle.run_transfers.specs.declared.Transferred.{Transferred}
-use Rattle.run_transfers.specs.Transfers.{Ready, Moved, Transfers}
+use Rattle.std.specs.Prelude.{Result, Ok, Err}
+use Rattle.object_opcodes.specs.declared.Halt as opcodes
+use Rattle.object_opcodes.specs.declared.Halt.TheVariants.{Allowance}
+use Rattle.object_opcodes.specs.Halts.{number_of}
+use Rattle.run_transfers.specs.declared.Trays as counts
+use Rattle.run_transfers.specs.Transfers.{Ready, Moved, after, Transfers}
 use Rattle.run_machine.specs.declared.Ran.{Ran}
 use Rattle.run_machine.specs.Running.{answer, Rights, IsTransfer}
 use Rattle.run_machine.proofs.Places.{given_back}
@@ -38,17 +41,17 @@ use Rattle.run_machine.proofs.Stepping.{rights_on, bench_step_lem}
 use Rattle.run_machine.proofs.Transferring.{transfer_number, transfer_keeps, moved_on, moved_not}
 
 -- one run's answer, as the code has it
-abbrev pub ran_as : ℕ → ℕ → Regs → ℕ → ℕ → Ran
-ran_as h n r taken written = record { halt = h; steps = n; regs = r; taken = taken; written = written }
+abbrev pub ran_as : opcodes.Halt → ℕ → Regs → ℕ → ℕ → Ran
+ran_as h n r taken written = record { halt = h; steps = n; regs = r; trays = record { taken = taken; written = written } }
 
-module _ (e : Layout) (s : List ℕ) (k : Rule) where
+module _ (ob : Lent) where
   abbrev o : Object
-  o = object_at e s
+  o = book_of ob
 
-  module _ (r : Regs) (st so : List ℤ) (held : Held e s k r st so) where
+  module _ (r : Regs) (st so : List ℤ) (held : Held ob r st so) where
     -- the book's answer, where the run is at such a state
-    pub answer_is : (trays : Trays) (taken : ℕ) (lines : List ℕ) (written : ℕ) → Counted trays taken lines written → (h n : ℕ)
-        → answer o (ran_as h n r taken written) st so lines ≡ halted h n o trays (state_of r st so (devices_in trays.cards taken lines written))
+    pub answer_is : (trays : Trays) (taken : ℕ) (lines : List ℕ) (written : ℕ) → Counted trays taken lines written → (h : opcodes.Halt) (n : ℕ)
+        → answer o (ran_as h n r taken written) st so lines ≡ halted (number_of h) n o trays (state_of r st so (devices_in trays.cards taken lines written))
     unfolding taken
     answer_is trays taken lines written c h n =
         let v = devices_in trays.cards taken lines written in
@@ -56,24 +59,24 @@ module _ (e : Layout) (s : List ℕ) (k : Rule) where
         let e₂ = sym (cards_taken trays taken lines written c) in
         let e₃ = sym (lines_written trays taken lines written c) in
         let e₄ = sym (lines_after_lem trays taken lines written c) in
-        let z : answer o (ran_as h n r taken written) st so lines ≡ halted h n o trays (state_of r st so v) = cc in
+        let z : answer o (ran_as h n r taken written) st so lines ≡ halted (number_of h) n o trays (state_of r st so v) = cc in
         z
 
 -- ---- the loop's invariant
 
-pub record Going (guarded : Bool) (e : Layout) (s : List ℕ) (k : Rule) (allowance : ℕ) (start : Regs) (st₀ so₀ : List ℤ) (trays : Trays)
+pub record Going (guarded : Bool) (ob : Lent) (allowance : ℕ) (start : Regs) (st₀ so₀ : List ℤ) (trays : Trays)
     (r : Regs) (st so : List ℤ) (taken : ℕ) (lines : List ℕ) (written : ℕ) (i : ℕ) : Type 0 where
   pub most : i ≤ allowance
-  pub held : Held e s k r st so
+  pub held : Held ob r st so
   pub counted : Counted trays taken lines written
-  pub rights : guarded ≡ false → Rights (object_at e s) (state_of r st so (devices_in trays.cards taken lines written))
+  pub rights : guarded ≡ false → Rights (book_of ob) (state_of r st so (devices_in trays.cards taken lines written))
   pub long : length so ≡ length so₀
-  pub left : run (bench_step (object_at e s)) allowance (state_of start st₀ so₀ (devices_of trays)) ≡ run (bench_step (object_at e s)) (allowance - i) (state_of r st so (devices_in trays.cards taken lines written))
-  pub count : steps (bench_step (object_at e s)) allowance (state_of start st₀ so₀ (devices_of trays)) ≡ i + steps (bench_step (object_at e s)) (allowance - i) (state_of r st so (devices_in trays.cards taken lines written))
+  pub left : run (bench_step (book_of ob)) allowance (state_of start st₀ so₀ (devices_of trays)) ≡ run (bench_step (book_of ob)) (allowance - i) (state_of r st so (devices_in trays.cards taken lines written))
+  pub count : steps (bench_step (book_of ob)) allowance (state_of start st₀ so₀ (devices_of trays)) ≡ i + steps (bench_step (book_of ob)) (allowance - i) (state_of r st so (devices_in trays.cards taken lines written))
 
-module _ (guarded : Bool) (e : Layout) (s : List ℕ) (k : Rule) (allowance : ℕ) (start : Regs) (st₀ so₀ : List ℤ) (trays : Trays) where
+module _ (guarded : Bool) (ob : Lent) (allowance : ℕ) (start : Regs) (st₀ so₀ : List ℤ) (trays : Trays) where
   abbrev O : Object
-  O = object_at e s
+  O = book_of ob
 
   abbrev F : State → Out State
   F = bench_step O
@@ -81,7 +84,7 @@ module _ (guarded : Bool) (e : Layout) (s : List ℕ) (k : Rule) (allowance : �
   abbrev t₀ : State
   t₀ = state_of start st₀ so₀ (devices_of trays)
 
-  pub begins : Held e s k start st₀ so₀ → (guarded ≡ false → Faultless O t₀) → Going guarded e s k allowance start st₀ so₀ trays start st₀ so₀ 0 trays.lines 0 0
+  pub begins : Held ob start st₀ so₀ → (guarded ≡ false → Faultless O t₀) → Going guarded ob allowance start st₀ so₀ trays start st₀ so₀ 0 trays.lines 0 0
   begins h w =
       let v : devices_of trays ≡ devices_in trays.cards 0 trays.lines 0 = sym (devices_begin trays) in
       let n : allowance ≡ allowance - 0 = omega arith in
@@ -96,7 +99,7 @@ module _ (guarded : Bool) (e : Layout) (s : List ℕ) (k : Rule) (allowance : �
         count = m ∙ ap₂ (λ k d. 0 + steps F k (state_of start st₀ so₀ d)) n v;
       }
 
-  module _ (r : Regs) (st so : List ℤ) (taken : ℕ) (lines : List ℕ) (written : ℕ) (i : ℕ) (g : Going guarded e s k allowance start st₀ so₀ trays r st so taken lines written i) where
+  module _ (r : Regs) (st so : List ℤ) (taken : ℕ) (lines : List ℕ) (written : ℕ) (i : ℕ) (g : Going guarded ob allowance start st₀ so₀ trays r st so taken lines written i) where
     abbrev v : Devices
     v = devices_in trays.cards taken lines written
 
@@ -108,11 +111,11 @@ module _ (guarded : Bool) (e : Layout) (s : List ℕ) (k : Rule) (allowance : �
     counted_now = record { cards = g.counted.cards; room = g.counted.room; long = refl; rest = refl }
 
     -- the allowance is used
-    pub used : allowance ≤ i → answer O (ran_as 2 i r taken written) st so lines ≡ run_from O trays F allowance t₀
+    pub used : allowance ≤ i → answer O (ran_as Allowance i r taken written) st so lines ≡ run_from O trays F allowance t₀
     used l =
         let n : allowance - i ≡ 0 = omega arith in
         let m : i ≡ i + steps F 0 u = omega arith in
-        answer_is e s k r st so g.held trays taken lines written g.counted 2 i
+        answer_is ob r st so g.held trays taken lines written g.counted Allowance i
         ∙ ap₂ (λ k b. ran O trays k b) (m ∙ ap (λ k. i + steps F k u) (sym n) ∙ sym g.count) (ap (λ k. run F k u) (sym n) ∙ sym g.left)
 
     module _ (l : i < allowance) where
@@ -120,24 +123,24 @@ module _ (guarded : Bool) (e : Layout) (s : List ℕ) (k : Rule) (allowance : �
       one = omega arith
 
       -- one step halts the run; cards and lines are as they were
-      pub ends : (x : _) (n : ℕ) → F u ≡ halt x u → n ≡ halt_number x → (taken' : ℕ) (lines' : List ℕ) (written' : ℕ) → Counted trays taken' lines' written' → devices_in trays.cards taken' lines' written' ≡ v
+      pub ends : (x : _) (n : opcodes.Halt) → F u ≡ halt x u → number_of n ≡ halt_number x → (taken' : ℕ) (lines' : List ℕ) (written' : ℕ) → Counted trays taken' lines' written' → devices_in trays.cards taken' lines' written' ≡ v
           → answer O (ran_as n (i + 1) r taken' written') st so lines' ≡ run_from O trays F allowance t₀
       ends x n b q taken' lines' written' c w =
           let d : i + 1 ≡ i + suc zero = omega arith in
           let count : i + 1 ≡ steps F allowance t₀ = d ∙ ap (λ y. i + suc (steps_from y (λ v. steps F (allowance - (i + 1)) v))) (sym b) ∙ ap (λ k. i + steps F k u) one ∙ sym g.count in
           let left : halt x u ≡ run F allowance t₀ = ap (λ y. then y (λ v. run F (allowance - (i + 1)) v)) (sym b) ∙ ap (λ k. run F k u) one ∙ sym g.left in
-          answer_is e s k r st so g.held trays taken' lines' written' c n (i + 1)
+          answer_is ob r st so g.held trays taken' lines' written' c n (i + 1)
           ∙ ap₂ (λ k d. halted k (i + 1) O trays (state_of r st so d)) q w
           ∙ ap₂ (λ k b. ran O trays k b) count left
 
-      module _ (z : guard_of O r.index r.height ≡ 0) (is : IsTransfer (instruction O r.index)) where
+      module _ (z : guard_of O r.index r.height ≡ Ok tt) (is : IsTransfer (instruction O r.index)) where
         -- one step more
-        goes_to_lem : (q : Regs) (st' so' : List ℤ) (taken' : ℕ) (lines' : List ℕ) (written' : ℕ) → Held e s k q st' so' → length so' ≡ length so → Counted trays taken' lines' written'
+        goes_to_lem : (q : Regs) (st' so' : List ℤ) (taken' : ℕ) (lines' : List ℕ) (written' : ℕ) → Held ob q st' so' → length so' ≡ length so → Counted trays taken' lines' written'
             → step O u ≡ go (state_of q st' so' (devices_in trays.cards taken' lines' written'))
-            → Going guarded e s k allowance start st₀ so₀ trays q st' so' taken' lines' written' (i + 1)
+            → Going guarded ob allowance start st₀ so₀ trays q st' so' taken' lines' written' (i + 1)
         goes_to_lem q st' so' taken' lines' written' h n c x =
             let w = state_of q st' so' (devices_in trays.cards taken' lines' written') in
-            let y : F u ≡ go w = bench_step_lem e s k r st so v g.held z ∙ x in
+            let y : F u ≡ go w = bench_step_lem ob r st so v g.held z ∙ x in
             let rest = allowance - (i + 1) in
             let m : i + suc (steps F rest w) ≡ i + 1 + steps F rest w = omega arith in
             record {
@@ -150,16 +153,14 @@ module _ (guarded : Bool) (e : Layout) (s : List ℕ) (k : Rule) (allowance : �
               count = g.count ∙ ap (λ j. i + steps F j u) (sym one) ∙ ap (λ c. i + suc (steps_from c (λ w. steps F rest w))) y ∙ m;
             }
 
-        pub ready : (kept : List ℤ) → (0 < e.transfer_count → e.cells ≤ length kept) → Ready e s k r.index so kept
+        pub ready : (kept : List ℤ) → (0 < ob.layout.transfer_count → ob.layout.cells ≤ length kept) → Ready ob r.index so kept
         unfolding operation_of
         ready kept room =
             let h = g.held in
             let p = guard_passes O r.index r.height z in
             record {
-              placed = h.placed;
               right = h.right;
-              rule = h.rule;
-              inside = omega (arith, p.inside, code_length e s);
+              inside = omega (arith, p.inside, code_length ob.layout ob.bytes.now);
               is = either (transfer_number is) (word_in_table O (word_of O r.index) p.operand).1;
               operand = p.operand;
               entry = p.entry;
@@ -172,14 +173,17 @@ module _ (guarded : Bool) (e : Layout) (s : List ℕ) (k : Rule) (allowance : �
             either (inl p) q = inl (sym q ∙ p)
             either (inr p) q = inr (sym q ∙ p)
 
-        module _ (m : Transferred) (so' : List ℤ) (lines' : List ℕ) (tr : Transfers O r.index so trays.cards taken lines written m so' lines') where
+        module _ (m : Result counts.Trays opcodes.Halt) (so' : List ℤ) (lines' : List ℕ) (tr : Transfers O r.index so trays.cards lines (record { taken = taken; written = written }) m so' lines') where
+          abbrev N : counts.Trays
+          N = after (record { taken = taken; written = written }) m
+
           abbrev v' : Devices
-          v' = devices_in trays.cards m.taken lines' m.written
+          v' = devices_in trays.cards N.taken lines' N.written
 
-          counted' : Counted trays m.taken lines' m.written
-          counted' = counted_on trays taken lines written g.counted m.taken lines' m.written tr.counted tr.onward
+          counted' : Counted trays N.taken lines' N.written
+          counted' = counted_on trays taken lines written g.counted N.taken lines' N.written tr.counted tr.onward
 
-          outcome : Moved m.halt u so' v' (step O u)
+          outcome : Moved m u so' v' (step O u)
           unfolding taken
           outcome = tr.is u refl refl refl
 
@@ -188,22 +192,22 @@ module _ (guarded : Bool) (e : Layout) (s : List ℕ) (k : Rule) (allowance : �
           unfolding taken
           after_is = let j : suc r.index ≡ r.index + 1 = omega arith in ap (λ n. going_to n (with_devices v' (with_store so' u))) j
 
-          pub transfer_goes : m.halt ≡ 0 → Going guarded e s k allowance start st₀ so₀ trays (onward r.height r) st so' m.taken lines' m.written (i + 1)
+          pub transfer_goes : (now : counts.Trays) → m ≡ Ok now → Going guarded ob allowance start st₀ so₀ trays (onward r.height r) st so' N.taken lines' N.written (i + 1)
           unfolding taken step
-          transfer_goes q =
-              let x = moved_on outcome q ∙ ap go after_is in
+          transfer_goes now q =
+              let x = moved_on outcome now q ∙ ap go after_is in
               let h = g.held in
-              let y = held_sound e s k r st so h in
-              let c = transfer_keeps (rule_of O) e.cells (length so) (instruction O r.index) is u (refl, y.store) _ x in
-              let w : Sound e.cells (rule_of O).ceiling r.height st so' = record { low = y.low; forty = y.forty; clean = y.clean; stack = y.stack; long = omega (arith, c.0, y.long); store = c.1 } in
-              goes_to_lem (onward r.height r) st so' m.taken lines' m.written (sound_held e s k r st so h (onward r.height r) st so' w) c.0 counted' x
+              let y = held_sound ob r st so h in
+              let c = transfer_keeps (rule_of O) ob.layout.cells (length so) (instruction O r.index) is u (refl, y.store) _ x in
+              let w : Sound ob.layout.cells (rule_of O).ceiling r.height st so' = record { low = y.low; forty = y.forty; clean = y.clean; stack = y.stack; long = omega (arith, c.0, y.long); store = c.1 } in
+              goes_to_lem (onward r.height r) st so' N.taken lines' N.written (sound_held ob r st so h (onward r.height r) st so' w) c.0 counted' x
 
-          pub transfer_stops : (m.halt ≡ 0 → ⊥) → answer O (ran_as m.halt (i + 1) r m.taken m.written) st so' lines' ≡ run_from O trays F allowance t₀
+          pub transfer_stops : (x : opcodes.Halt) → m ≡ Err x → answer O (ran_as x (i + 1) r N.taken N.written) st so' lines' ≡ run_from O trays F allowance t₀
           unfolding taken
-          transfer_stops q =
-              let x = moved_not outcome q in
-              ap (λ c. answer O (ran_as m.halt (i + 1) r m.taken m.written) st c lines') x.store
-              ∙ ends (halt_in x.trouble) m.halt (bench_step_lem e s k r st so v g.held z ∙ x.is) x.number m.taken lines' m.written counted' x.devices
+          transfer_stops n q =
+              let x = moved_not outcome n q in
+              ap (λ c. answer O (ran_as n (i + 1) r N.taken N.written) st c lines') x.store
+              ∙ ends (halt_in x.trouble) n (bench_step_lem ob r st so v g.held z ∙ x.is) x.number N.taken lines' N.written counted' x.devices
 
 -- ---- a run of an object that passes is its bench run
 

@@ -2,12 +2,15 @@
 use mathlib.Core.Path.{◌≡◌, refl, sym, ap, ap₂, ◌∙◌, subst}
 use mathlib.Core.Bool.{Bool, true, false, ◌&&◌, cond}
 use Prim.Native.Nat.{ℕ, ◌+◌, ◌-◌, ◌/◌, ◌%◌, ◌^◌, ◌≤◌, ◌<◌}
-use native.Mathlib.Omega.{arith}
 use lib.Dec.{leb}
 use lib.ListN.{length}
 use borrow.Author.Tests.{ltb-true, leb-true, lt-ltb}
 use Rattle.rules_shared.specs.Runs.{halt}
 use Rattle.rules_object.specs.Halts.{Halt, halt_number, bad_stack, bad_instruction}
+use Rattle.std.specs.Prelude.{Result, Ok, Err}
+use Rattle.object_opcodes.specs.declared.Halt as opcodes
+use Rattle.object_opcodes.specs.declared.Halt.TheVariants.{BadStack, BadInstruction}
+use Rattle.object_opcodes.specs.Halts.{number_of}
 use Rattle.rules_object.specs.Object.{Object}
 use Rattle.rules_object.specs.Check.{in_code}
 use Rattle.rules_object.specs.Operations.{Instr, operation_of, operand_of, meant, decode, right43, entry_right, pops, pushes, instruction}
@@ -18,7 +21,7 @@ use Rattle.run_operations.proofs.Known.{both}
 use Rattle.run_guards.specs.Guarding.{room_for, word_of, guard_of}
 use Rattle.run_guards.proofs.Guards.{room_there}
 
--- ---- where it is 0
+-- ---- where it finds nothing
 
 pub record Passes (o : Object) (i h : ℕ) : Type 0 where
   pub inside : i < length o.code
@@ -27,22 +30,19 @@ pub record Passes (o : Object) (i h : ℕ) : Type 0 where
   pub popped : pops (instruction o i) ≤ h
   pub pushed : h - pops (instruction o i) + pushes (instruction o i) ≤ 40
 
-cond_zero : (a b : Bool) → ◌≡◌ {A = ℕ} (cond a (cond b 0 7) 8) 0 → (a ≡ true) × (b ≡ true)
-cond_zero true true e = (refl, refl)
-cond_zero true false e = absurd (none e)
-  where
-    none : ◌≡◌ {A = ℕ} 7 0 → ⊥
-    none e = omega arith
-cond_zero false b e = absurd (none e)
-  where
-    none : ◌≡◌ {A = ℕ} 8 0 → ⊥
-    none e = omega arith
+abbrev Answer : Type 0
+Answer = Result (Unit {0}) opcodes.Halt
 
-pub guard_passes : (o : Object) (i h : ℕ) → guard_of o i h ≡ 0 → Passes o i h
+cond_ok : (a b : Bool) → ◌≡◌ {A = Answer} (cond a (cond b (Ok tt) (Err BadStack)) (Err BadInstruction)) (Ok tt) → (a ≡ true) × (b ≡ true)
+cond_ok true true e = (refl, refl)
+cond_ok true false e = absurd cc
+cond_ok false b e = absurd cc
+
+pub guard_passes : (o : Object) (i h : ℕ) → guard_of o i h ≡ Ok tt → Passes o i h
 unfolding guard_of room_for
 guard_passes o i h e =
     let n = instruction o i in
-    let q = cond_zero (in_code o i && (right43 o (word_of o i) && entry_right o (word_of o i))) (leb (pops n) h && leb (h - pops n + pushes n) 40) e in
+    let q = cond_ok (in_code o i && (right43 o (word_of o i) && entry_right o (word_of o i))) (leb (pops n) h && leb (h - pops n + pushes n) 40) e in
     let a = both (in_code o i) _ q.0 in
     let b = both (right43 o (word_of o i)) _ a.1 in
     let c = both (leb (pops n) h) _ q.1 in
@@ -73,24 +73,24 @@ module _ (o : Object) (t : State) where
   abbrev B : Bool
   B = leb (pops n) (length t.stack) && leb (length t.stack - pops n + pushes n) 40
 
-  pub guard_none : guard_of o t.index (length t.stack) ≡ 0 → bench_step o t ≡ step o t
+  pub guard_none : guard_of o t.index (length t.stack) ≡ Ok tt → bench_step o t ≡ step o t
   unfolding guard_of room_for bench_step
-  guard_none e = let q = cond_zero A B e in ap₂ (λ a b. cond a (cond b (step o t) (halt bad_stack t)) (halt bad_instruction t)) q.0 q.1
+  guard_none e = let q = cond_ok A B e in ap₂ (λ a b. cond a (cond b (step o t) (halt bad_stack t)) (halt bad_instruction t)) q.0 q.1
 
-  pub guard_stops : (g : ℕ) → g ≡ guard_of o t.index (length t.stack) → (g ≡ 0 → ⊥) → (x : Halt) × ((bench_step o t ≡ halt x t) × (g ≡ halt_number x))
+  pub guard_stops : (g : opcodes.Halt) → Err g ≡ guard_of o t.index (length t.stack) → (x : Halt) × ((bench_step o t ≡ halt x t) × (number_of g ≡ halt_number x))
   unfolding guard_of room_for bench_step halt_number
-  guard_stops g e f = by A B e
+  guard_stops g e = by A B e
     where
-      by : (a b : Bool) → g ≡ cond a (cond b 0 7) 8 → (x : Halt) × ((cond a (cond b (step o t) (halt bad_stack t)) (halt bad_instruction t) ≡ halt x t) × (g ≡ halt_number x))
-      by true true e = absurd (f e)
-      by true false e = (bad_stack, (refl, e))
-      by false b e = (bad_instruction, (refl, e))
+      by : (a b : Bool) → ◌≡◌ {A = Answer} (Err g) (cond a (cond b (Ok tt) (Err BadStack)) (Err BadInstruction)) → (x : Halt) × ((cond a (cond b (step o t) (halt bad_stack t)) (halt bad_instruction t) ≡ halt x t) × (number_of g ≡ halt_number x))
+      by true true e = absurd cc
+      by true false e = (bad_stack, (refl, let q : g ≡ BadStack = cc in ap number_of q))
+      by false b e = (bad_instruction, (refl, let q : g ≡ BadInstruction = cc in ap number_of q))
 
-  pub right_guard : Right o t → guard_of o t.index (length t.stack) ≡ 0
+  pub right_guard : Right o t → guard_of o t.index (length t.stack) ≡ Ok tt
   unfolding guard_of
   right_guard r =
       let k = instruction o t.index in
-      ap (λ a. cond a (room_for (pops k) (pushes k) (length t.stack)) 8) (and_true (lt-ltb _ _ r.inside) (and_true r.operand r.entry))
+      ap (λ a. cond a (room_for (pops k) (pushes k) (length t.stack)) (Err BadInstruction)) (and_true (lt-ltb _ _ r.inside) (and_true r.operand r.entry))
       ∙ sym (room_there (pops k) (pushes k) (length t.stack) r.popped r.pushed)
     where
       and_true : {a b : Bool} → a ≡ true → b ≡ true → (a && b) ≡ true

@@ -6,7 +6,6 @@ use Prim.Native.Nat.{ℕ, ◌+◌, ◌≤◌, ◌<◌}
 use native.Mathlib.Omega.{arith}
 use lib.ListN.{length}
 use lib.IntN.{ℤ}
-use Rattle.number.specs.declared.Rule.{Rule}
 use Rattle.rules_shared.specs.Runs.{go, then, run}
 use Rattle.rules_shared.proofs.RunLaws.{run_add}
 use Rattle.rules_formats.specs.Walk.{Devices, devices_of}
@@ -14,8 +13,10 @@ use Rattle.rules_object.specs.Halts.{Out}
 use Rattle.rules_object.specs.Object.{Object, rule_of}
 use Rattle.rules_object.specs.Operations.{instruction}
 use Rattle.rules_object.specs.Machine.{State, bench_step}
-use Rattle.object_contents.specs.declared.Layout.{Layout}
-use Rattle.object_contents.specs.Layout.{object_at}
+use Rattle.object_contents.specs.declared.placed.Object.{Object as Lent}
+use Rattle.object_contents.specs.Book.{book_of}
+use Rattle.std.specs.Prelude.{Ok, Err}
+use Rattle.object_opcodes.specs.declared.Halt as opcodes
 use Rattle.run_registers.specs.declared.Regs.{Regs}
 use Rattle.run_registers.specs.declared.Turn.TheVariants as turn
 use Rattle.run_registers.specs.Registers.{state_of}
@@ -31,33 +32,33 @@ use Rattle.run_machine.proofs.Stepping.{guard_at, rights_guard, rights_on, bench
 
 -- ---- the loop's invariant
 
-pub record Coming (guarded : Bool) (e : Layout) (s : List ℕ) (k : Rule) (allowance : ℕ) (start : Regs) (st₀ so₀ : List ℤ) (r : Regs) (st so : List ℤ) (i : ℕ) : Type 0 where
+pub record Coming (guarded : Bool) (ob : Lent) (allowance : ℕ) (start : Regs) (st₀ so₀ : List ℤ) (r : Regs) (st so : List ℤ) (i : ℕ) : Type 0 where
   pub most : i ≤ allowance
-  pub held : Held e s k r st so
+  pub held : Held ob r st so
   pub long : length so ≡ length so₀
-  pub safe : guarded ≡ false → NoFault (object_at e s) r st so
-  pub comes : (v : Devices) → run (bench_step (object_at e s)) i (state_of start st₀ so₀ v) ≡ go (state_of r st so v)
+  pub safe : guarded ≡ false → NoFault (book_of ob) r st so
+  pub comes : (v : Devices) → run (bench_step (book_of ob)) i (state_of start st₀ so₀ v) ≡ go (state_of r st so v)
 
 -- places and store after a step are the same with any cards and paper, so with none
 abbrev none : Devices
 none = devices_of (trays_of [] [])
 
-module _ (guarded : Bool) (e : Layout) (s : List ℕ) (k : Rule) (allowance : ℕ) (start : Regs) (st₀ so₀ : List ℤ) where
+module _ (guarded : Bool) (ob : Lent) (allowance : ℕ) (start : Regs) (st₀ so₀ : List ℤ) where
   abbrev O : Object
-  O = object_at e s
+  O = book_of ob
 
   abbrev F : State → Out State
   F = bench_step O
 
   abbrev PausesAs : Pause → ℕ → Regs → List ℤ → List ℤ → Type 0
-  PausesAs p n r st so = Pauses e s k allowance start st₀ so₀ (record { pause = p; steps = n; regs = r }) st so
+  PausesAs p n r st so = Pauses ob allowance start st₀ so₀ (record { pause = p; steps = n; regs = r }) st so
 
-  pub begins : Held e s k start st₀ so₀ → (guarded ≡ false → NoFault O start st₀ so₀) → Coming guarded e s k allowance start st₀ so₀ start st₀ so₀ 0
+  pub begins : Held ob start st₀ so₀ → (guarded ≡ false → NoFault O start st₀ so₀) → Coming guarded ob allowance start st₀ so₀ start st₀ so₀ 0
   begins h w = record { most = omega arith; held = h; long = refl; safe = w; comes = λ v. refl }
 
-  module _ (r : Regs) (st so : List ℤ) (i : ℕ) (g : Coming guarded e s k allowance start st₀ so₀ r st so i) where
-    pub guard_is : guarded ≡ false → guard_of O r.index r.height ≡ 0
-    guard_is q = let w = g.safe q in rights_guard e s k r st so w.devices g.held w.rights
+  module _ (r : Regs) (st so : List ℤ) (i : ℕ) (g : Coming guarded ob allowance start st₀ so₀ r st so i) where
+    pub guard_is : guarded ≡ false → guard_of O r.index r.height ≡ Ok tt
+    guard_is q = let w = g.safe q in rights_guard ob r st so w.devices g.held w.rights
 
     -- the allowance is used
     pub used : allowance ≤ i → PausesAs Used i r st so
@@ -67,29 +68,29 @@ module _ (guarded : Bool) (e : Layout) (s : List ℕ) (k : Rule) (allowance : �
       pauses : (p : Pause) → i + 1 ≡ counted p i → Because O allowance i r st so p → PausesAs p (i + 1) r st so
       pauses p n w = record { before = i; steps = n; most = omega arith; held = g.held; comes = g.comes; why = w }
 
-      pub guard_halts : (n : ℕ) → n ≡ guard_of O r.index r.height → (n ≡ 0 → ⊥) → PausesAs (Halted n) (i + 1) r st so
-      guard_halts n a b = pauses (Halted n) refl (λ v. guard_stops O (state_of r st so v) n (a ∙ guard_at e s k r st so v g.held) b)
+      pub guard_halts : (n : opcodes.Halt) → Err n ≡ guard_of O r.index r.height → PausesAs (Halted n) (i + 1) r st so
+      guard_halts n a = pauses (Halted n) refl (λ v. guard_stops O (state_of r st so v) n (a ∙ guard_at ob r st so v g.held))
 
-      module _ (z : guard_of O r.index r.height ≡ 0) (a : After) (is : a ≡ performed (rule_of O) (instruction O r.index) r st so) where
+      module _ (z : guard_of O r.index r.height ≡ Ok tt) (a : After) (is : a ≡ performed (rule_of O) (instruction O r.index) r st so) where
         -- one step more
-        pub goes : (q : Regs) → a.turn ≡ turn.Next q → Coming guarded e s k allowance start st₀ so₀ q a.places a.store (i + 1)
+        pub goes : (q : Regs) → a.turn ≡ turn.Next q → Coming guarded ob allowance start st₀ so₀ q a.places a.store (i + 1)
         goes q b =
-            let x = goes_on e s k r st so none g.held z a is q b in
+            let x = goes_on ob r st so none g.held z a is q b in
             record {
               most = omega arith;
               held = x.0.0;
               long = x.0.1 ∙ g.long;
-              safe = λ c. let w = g.safe c in record { devices = w.devices; rights = rights_on O (state_of r st so w.devices) _ (goes_on e s k r st so w.devices g.held z a is q b).1 w.rights };
+              safe = λ c. let w = g.safe c in record { devices = w.devices; rights = rights_on O (state_of r st so w.devices) _ (goes_on ob r st so w.devices g.held z a is q b).1 w.rights };
               comes = λ v. run_add F i 1 (state_of start st₀ so₀ v) ∙ ap (λ o. then o (λ u. run F 1 u)) (g.comes v)
-                  ∙ ap (λ o. then o (λ u. go u)) (bench_step_lem e s k r st so v g.held z ∙ (goes_on e s k r st so v g.held z a is q b).1);
+                  ∙ ap (λ o. then o (λ u. go u)) (bench_step_lem ob r st so v g.held z ∙ (goes_on ob r st so v g.held z a is q b).1);
             }
 
         -- one that leaves all as it was
         as_it_was : (p : Pause) → (a.places ≡ st) × (a.store ≡ so) → PausesAs p (i + 1) r st so → PausesAs p (i + 1) r a.places a.store
         as_it_was p b h = subst (λ c. PausesAs p (i + 1) r a.places c) (sym b.1) (subst (λ c. PausesAs p (i + 1) r c so) (sym b.0) h)
 
-        pub halts : (n : ℕ) → a.turn ≡ turn.Halt n → PausesAs (Halted n) (i + 1) r a.places a.store
-        halts n b = as_it_was (Halted n) (stops_there e s k r st so none g.held z a is n b).0 (pauses (Halted n) refl (λ v. (stops_there e s k r st so v g.held z a is n b).1))
+        pub halts : (n : opcodes.Halt) → a.turn ≡ turn.Halt n → PausesAs (Halted n) (i + 1) r a.places a.store
+        halts n b = as_it_was (Halted n) (stops_there ob r st so none g.held z a is n b).0 (pauses (Halted n) refl (λ v. (stops_there ob r st so v g.held z a is n b).1))
 
         pub transfers : a.turn ≡ turn.Transfer → PausesAs Transfer (i + 1) r a.places a.store
-        transfers b = let x = left_over e s k r st so none g.held z a is b in as_it_was Transfer x.1 (pauses Transfer refl (z, x.0))
+        transfers b = let x = left_over ob r st so none g.held z a is b in as_it_was Transfer x.1 (pauses Transfer refl (z, x.0))

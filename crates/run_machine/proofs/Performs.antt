@@ -8,7 +8,6 @@ use lib.Dec.{ltb, leb}
 use lib.ListN.{get_or}
 use lib.IntN.{ℤ, pos, nat_abs}
 use borrow.Author.Tests.{ltb-true, leb-true}
-use Rattle.number.specs.declared.Rule.{Rule}
 use Rattle.number.specs.Number as numbers
 use Rattle.number.proofs.Laws.{fits_yes}
 use Rattle.rules_formats.specs.Walk.{Devices}
@@ -18,6 +17,8 @@ use Rattle.rules_object.specs.Operations.{meant, no_element, no_loop, operation_
 use Rattle.rules_object.specs.Machine.{cell, act}
 use Rattle.object_contents.specs.declared.Layout.{Layout}
 use Rattle.object_contents.specs.Layout.{object_at}
+use Rattle.object_contents.specs.declared.placed.Object.{Object as Lent}
+use Rattle.object_contents.specs.Book.{book_of}
 use Rattle.run_registers.specs.declared.Regs.{Regs}
 use Rattle.run_registers.specs.Registers.{state_of}
 use Rattle.run_arithmetic.specs.Performed.{performed}
@@ -75,10 +76,10 @@ module _ (e : Layout) (s : List ℕ) where
 
 -- ---- the code's record of a state, and the law's
 
-module _ (e : Layout) (s : List ℕ) (k : Rule) (r : Regs) (st so : List ℤ) (h : Held e s k r st so) where
-  pub held_sound : Sound e.cells (rule_of (object_at e s)).ceiling r.height st so
+module _ (ob : Lent) (r : Regs) (st so : List ℤ) (h : Held ob r st so) where
+  pub held_sound : Sound ob.layout.cells (rule_of (book_of ob)).ceiling r.height st so
   held_sound =
-      let c = ap (λ (q : numbers.Rule). q.ceiling) h.rule in
+      let c = ap (λ (q : numbers.Rule). q.ceiling) ob.ruled in
       record {
         low = h.low;
         forty = h.forty;
@@ -88,13 +89,11 @@ module _ (e : Layout) (s : List ℕ) (k : Rule) (r : Regs) (st so : List ℤ) (h
         store = λ a l. subst (λ n. nat_abs (cell so a) < n) c (h.store a l);
       }
 
-  pub sound_held : (q : Regs) (st' so' : List ℤ) → Sound e.cells (rule_of (object_at e s)).ceiling q.height st' so' → Held e s k q st' so'
+  pub sound_held : (q : Regs) (st' so' : List ℤ) → Sound ob.layout.cells (rule_of (book_of ob)).ceiling q.height st' so' → Held ob q st' so'
   sound_held q st' so' y =
-      let c = ap (λ (q : numbers.Rule). q.ceiling) h.rule in
+      let c = ap (λ (q : numbers.Rule). q.ceiling) ob.ruled in
       record {
-        placed = h.placed;
         right = h.right;
-        rule = h.rule;
         low = y.low;
         forty = y.forty;
         clean = y.clean;
@@ -104,10 +103,10 @@ module _ (e : Layout) (s : List ℕ) (k : Rule) (r : Regs) (st so : List ℤ) (h
       }
 
   -- the operation as the code does it and as the book says it
-  pub performs : (v : Devices) (op x : ℕ) → Ready (object_at e s) op x r.height
-      → DidAll (IsTransfer (meant (object_at e s) op x)) e.cells (rule_of (object_at e s)).ceiling st so (state_of r st so v) (performed (rule_of (object_at e s)) (meant (object_at e s) op x) r st so)
-      (act (rule_of (object_at e s)) (meant (object_at e s) op x) (state_of r st so v))
+  pub performs : (v : Devices) (op x : ℕ) → Ready (book_of ob) op x r.height
+      → DidAll (IsTransfer (meant (book_of ob) op x)) ob.layout.cells (rule_of (book_of ob)).ceiling st so (state_of r st so v) (performed (rule_of (book_of ob)) (meant (book_of ob) op x) r st so)
+      (act (rule_of (book_of ob)) (meant (book_of ob) op x) (state_of r st so v))
   unfolding object_at
   performs v op x y =
-      does (rule_of (object_at e s)) e.cells r.index r.height r.mark st so v held_sound (IsTransfer (meant (object_at e s) op x)) (meant (object_at e s) op x) (λ w. w)
-      (good e s op x y.operand y.entry) y.popped y.pushed
+      does (rule_of (book_of ob)) ob.layout.cells r.index r.height r.mark st so v held_sound (IsTransfer (meant (book_of ob) op x)) (meant (book_of ob) op x) (λ w. w)
+      (good ob.layout ob.bytes.now op x y.operand y.entry) y.popped y.pushed

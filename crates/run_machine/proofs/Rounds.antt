@@ -6,7 +6,6 @@ use Prim.Native.Nat.{ℕ, ◌+◌, ◌-◌, ◌≤◌, ◌<◌}
 use native.Mathlib.Omega.{arith}
 use lib.ListN.{length}
 use lib.IntN.{ℤ}
-use Rattle.number.specs.declared.Rule.{Rule}
 use Rattle.rules_shared.specs.Runs.{then, run, steps_from, steps}
 use Rattle.rules_shared.proofs.RunLaws.{run_add, steps_add, steps_go}
 use Rattle.rules_formats.specs.Walk.{Trays, devices_of}
@@ -14,12 +13,15 @@ use Rattle.rules_object.specs.Halts.{Out}
 use Rattle.rules_object.specs.Object.{Object}
 use Rattle.rules_object.specs.Machine.{State, bench_step}
 use Rattle.rules_object.specs.Calls.{run_from}
-use Rattle.object_contents.specs.declared.Layout.{Layout}
-use Rattle.object_contents.specs.Layout.{object_at}
+use Rattle.object_contents.specs.declared.placed.Object.{Object as Lent}
+use Rattle.object_contents.specs.Book.{book_of}
 use Rattle.run_registers.specs.declared.Regs.{Regs}
 use Rattle.run_registers.specs.Registers.{onward, state_of}
 use Rattle.run_registers.specs.Devices.{devices_in}
-use Rattle.run_transfers.specs.declared.Transferred.{Transferred}
+use Rattle.std.specs.Prelude.{Result, Ok, Err}
+use Rattle.object_opcodes.specs.declared.Halt as opcodes
+use Rattle.object_opcodes.specs.declared.Halt.TheVariants.{Allowance}
+use Rattle.run_transfers.specs.declared.Trays as counts
 use Rattle.run_transfers.specs.Transfers.{Ready, Transfers}
 use Rattle.run_machine.specs.declared.Pause.{Pause}
 use Rattle.run_machine.specs.declared.Pause.TheVariants.{Used, Halted, Transfer}
@@ -34,11 +36,11 @@ at_least Used n = omega arith
 at_least (Halted number) n = omega arith
 at_least Transfer n = omega arith
 
-module _ (guarded : Bool) (e : Layout) (s : List ℕ) (k : Rule) (allowance : ℕ) (start : Regs) (st₀ so₀ : List ℤ) (trays : Trays)
-    (r : Regs) (st so : List ℤ) (taken : ℕ) (lines : List ℕ) (written : ℕ) (i : ℕ) (g : Going guarded e s k allowance start st₀ so₀ trays r st so taken lines written i)
-    (p : Paused) (st' so' : List ℤ) (w : Pauses e s k (allowance - i) r st so p st' so') (same : length so' ≡ length so) where
+module _ (guarded : Bool) (ob : Lent) (allowance : ℕ) (start : Regs) (st₀ so₀ : List ℤ) (trays : Trays)
+    (r : Regs) (st so : List ℤ) (taken : ℕ) (lines : List ℕ) (written : ℕ) (i : ℕ) (g : Going guarded ob allowance start st₀ so₀ trays r st so taken lines written i)
+    (p : Paused) (st' so' : List ℤ) (w : Pauses ob (allowance - i) r st so p st' so') (same : length so' ≡ length so) where
   abbrev O : Object
-  O = object_at e s
+  O = book_of ob
 
   abbrev F : State → Out State
   F = bench_step O
@@ -62,7 +64,7 @@ module _ (guarded : Bool) (e : Layout) (s : List ℕ) (k : Rule) (allowance : �
   within = omega (arith, at_least p.pause w.before, w.steps, w.most)
 
   -- as far as the whole steps
-  there : Going guarded e s k allowance start st₀ so₀ trays q st' so' taken lines written j
+  there : Going guarded ob allowance start st₀ so₀ trays q st' so' taken lines written j
   there =
       let v = devices_in trays.cards taken lines written in
       let n = w.before in
@@ -83,18 +85,18 @@ module _ (guarded : Bool) (e : Layout) (s : List ℕ) (k : Rule) (allowance : �
             g.count ∙ ap (λ m. i + steps F m t) m ∙ ap (λ m. i + m) d ∙ x;
       }
 
-  pub round_used : p.pause ≡ Used → answer O (ran_as 2 (i + p.steps) q taken written) st' so' lines ≡ run_from O trays F allowance t₀
+  pub round_used : p.pause ≡ Used → answer O (ran_as Allowance (i + p.steps) q taken written) st' so' lines ≡ run_from O trays F allowance t₀
   round_used b =
       let n : i + p.steps ≡ j = ap (λ n. i + n) (total Used b) in
-      ap (λ n. answer O (ran_as 2 n q taken written) st' so' lines) n ∙ used guarded e s k allowance start st₀ so₀ trays q st' so' taken lines written j there (omega (arith, because Used b))
+      ap (λ n. answer O (ran_as Allowance n q taken written) st' so' lines) n ∙ used guarded ob allowance start st₀ so₀ trays q st' so' taken lines written j there (omega (arith, because Used b))
 
-  pub round_halted : (h : ℕ) → p.pause ≡ Halted h → answer O (ran_as h (i + p.steps) q taken written) st' so' lines ≡ run_from O trays F allowance t₀
+  pub round_halted : (h : opcodes.Halt) → p.pause ≡ Halted h → answer O (ran_as h (i + p.steps) q taken written) st' so' lines ≡ run_from O trays F allowance t₀
   round_halted h b =
       let m = total (Halted h) b in
       let n : i + p.steps ≡ j + 1 = omega arith in
       let x = because (Halted h) b (devices_in trays.cards taken lines written) in
       ap (λ n. answer O (ran_as h n q taken written) st' so' lines) n
-      ∙ ends guarded e s k allowance start st₀ so₀ trays q st' so' taken lines written j there (omega (arith, m, w.most)) x.0 h x.1.0 x.1.1 taken lines written g.counted refl
+      ∙ ends guarded ob allowance start st₀ so₀ trays q st' so' taken lines written j there (omega (arith, m, w.most)) x.0 h x.1.0 x.1.1 taken lines written g.counted refl
 
   module _ (b : p.pause ≡ Transfer) where
     one_more : i + p.steps ≡ j + 1
@@ -109,16 +111,19 @@ module _ (guarded : Bool) (e : Layout) (s : List ℕ) (k : Rule) (allowance : �
     pub index_below : q.index < length O.code
     index_below = (guard_passes O q.index q.height (because Transfer b).0).inside
 
-    pub round_ready : (kept : List ℤ) → (0 < e.transfer_count → e.cells ≤ length kept) → Ready e s k q.index so' kept
-    round_ready = ready guarded e s k allowance start st₀ so₀ trays q st' so' taken lines written j there below (because Transfer b).0 (because Transfer b).1
+    pub round_ready : (kept : List ℤ) → (0 < ob.layout.transfer_count → ob.layout.cells ≤ length kept) → Ready ob q.index so' kept
+    round_ready = ready guarded ob allowance start st₀ so₀ trays q st' so' taken lines written j there below (because Transfer b).0 (because Transfer b).1
 
-    module _ (m : Transferred) (so'' : List ℤ) (lines' : List ℕ) (tr : Transfers O q.index so' trays.cards taken lines written m so'' lines') where
-      pub round_goes : m.halt ≡ 0 → Going guarded e s k allowance start st₀ so₀ trays (onward q.height q) st' so'' m.taken lines' m.written (i + p.steps)
-      round_goes z =
-          subst (λ n. Going guarded e s k allowance start st₀ so₀ trays (onward q.height q) st' so'' m.taken lines' m.written n) (sym one_more)
-          (transfer_goes guarded e s k allowance start st₀ so₀ trays q st' so' taken lines written j there below (because Transfer b).0 (because Transfer b).1 m so'' lines' tr z)
+    module _ (so'' : List ℤ) (lines' : List ℕ) where
+      abbrev Moves : Result counts.Trays opcodes.Halt → Type 0
+      Moves m = Transfers O q.index so' trays.cards lines (record { taken = taken; written = written }) m so'' lines'
 
-      pub round_stops : (m.halt ≡ 0 → ⊥) → answer O (ran_as m.halt (i + p.steps) q m.taken m.written) st' so'' lines' ≡ run_from O trays F allowance t₀
-      round_stops z =
-          ap (λ n. answer O (ran_as m.halt n q m.taken m.written) st' so'' lines') one_more
-          ∙ transfer_stops guarded e s k allowance start st₀ so₀ trays q st' so' taken lines written j there below (because Transfer b).0 (because Transfer b).1 m so'' lines' tr z
+      pub round_goes : (now : counts.Trays) → Moves (Ok now) → Going guarded ob allowance start st₀ so₀ trays (onward q.height q) st' so'' now.taken lines' now.written (i + p.steps)
+      round_goes now tr =
+          subst (λ n. Going guarded ob allowance start st₀ so₀ trays (onward q.height q) st' so'' now.taken lines' now.written n) (sym one_more)
+          (transfer_goes guarded ob allowance start st₀ so₀ trays q st' so' taken lines written j there below (because Transfer b).0 (because Transfer b).1 (Ok now) so'' lines' tr now refl)
+
+      pub round_stops : (x : opcodes.Halt) → Moves (Err x) → answer O (ran_as x (i + p.steps) q taken written) st' so'' lines' ≡ run_from O trays F allowance t₀
+      round_stops x tr =
+          ap (λ n. answer O (ran_as x n q taken written) st' so'' lines') one_more
+          ∙ transfer_stops guarded ob allowance start st₀ so₀ trays q st' so' taken lines written j there below (because Transfer b).0 (because Transfer b).1 (Err x) so'' lines' tr x refl

@@ -5,17 +5,20 @@ use mathlib.Core.Logic.{◌⊎◌, inl, inr}
 use mathlib.Core.List.{List}
 use mathlib.Core.Option.{Option, none, some}
 use Prim.Native.Nat.{ℕ, ◌<◌}
-use native.Mathlib.Omega.{arith}
 use lib.ListN.{length, length-set}
 use lib.IntN.{ℤ, nat_abs}
 use Rattle.number.specs.Number.{Rule}
 use Rattle.rules_shared.specs.Runs.{go, halt}
-use Rattle.rules_formats.specs.Walk.{Trouble, bad_subscript, ran_out, bad_field, Outcome, fine, trouble, Paper, Taken, Devices, prints, reads}
+use Rattle.rules_formats.specs.Walk.{Trouble, Outcome, fine, trouble, Paper, Taken, Devices, prints, reads}
 use Rattle.rules_shared.proofs.EachLaws.{each_of}
 use Rattle.rules_formats.proofs.Kept.{Holds, KeepsP, reads_keep}
 use Rattle.rules_object.specs.Halts.{halt_number, Out}
 use Rattle.rules_object.specs.Operations.{Instr, operation_number}
 use Rattle.rules_object.specs.Machine.{State, cell, next, with_store, with_devices, Spot, spots, spot_cell, store_with, spot_get, spot_set, halt_in, was_printed, was_read, act}
+use Rattle.std.specs.Prelude.{Result, Ok, Err}
+use Rattle.object_opcodes.specs.declared.Halt as opcodes
+use Rattle.object_opcodes.specs.Halts.{number_of}
+use Rattle.run_transfers.specs.declared.Trays.{Trays}
 use Rattle.run_transfers.specs.Transfers.{Moved, done, not_done}
 use Rattle.run_machine.specs.Running.{IsTransfer, a_read, a_print}
 use Rattle.run_machine.proofs.Places.{small_set}
@@ -57,24 +60,18 @@ module _ (k : Rule) (cells long : ℕ) where
 
 -- ---- the outcome
 
-trouble_some : (w : Trouble) (n : ℕ) → n ≡ halt_number (halt_in w) → n ≡ 0 → ⊥
-unfolding halt_number
-trouble_some bad_subscript n e f = omega arith
-trouble_some ran_out n e f = omega arith
-trouble_some bad_field n e f = omega arith
-
-pub moved_on : {n : ℕ} {t : State} {so : List ℤ} {v : Devices} {b : Out State} → Moved n t so v b → n ≡ 0 → b ≡ go (next (with_devices v (with_store so t)))
-moved_on (done e) z = refl
-moved_on {n} (not_done w e f g) z = absurd (trouble_some w n e z)
+pub moved_on : {r : Result Trays opcodes.Halt} {t : State} {so : List ℤ} {v : Devices} {b : Out State} → Moved r t so v b → (now : Trays) → r ≡ Ok now → b ≡ go (next (with_devices v (with_store so t)))
+moved_on (done was e) now z = refl
+moved_on (not_done w x e q f g) now z = absurd cc
 
 -- halted, and all is as it was
-pub record Stopped (n : ℕ) (t : State) (so : List ℤ) (v : Devices) (b : Out State) : Type 0 where
+pub record Stopped (x : opcodes.Halt) (t : State) (so : List ℤ) (v : Devices) (b : Out State) : Type 0 where
   pub trouble : Trouble
   pub is : b ≡ halt (halt_in trouble) t
-  pub number : n ≡ halt_number (halt_in trouble)
+  pub number : number_of x ≡ halt_number (halt_in trouble)
   pub store : so ≡ t.store
   pub devices : v ≡ t.devices
 
-pub moved_not : {n : ℕ} {t : State} {so : List ℤ} {v : Devices} {b : Out State} → Moved n t so v b → (n ≡ 0 → ⊥) → Stopped n t so v b
-moved_not (done e) z = absurd (z e)
-moved_not (not_done w e f g) z = record { trouble = w; is = refl; number = e; store = f; devices = g }
+pub moved_not : {r : Result Trays opcodes.Halt} {t : State} {so : List ℤ} {v : Devices} {b : Out State} → Moved r t so v b → (x : opcodes.Halt) → r ≡ Err x → Stopped x t so v b
+moved_not (done now e) x z = absurd cc
+moved_not (not_done w y e q f g) x z = let same : x ≡ y = cc in record { trouble = w; is = refl; number = ap number_of same ∙ q; store = f; devices = g }

@@ -1,20 +1,20 @@
 -- A run's answer in the book's words, and what its steps up to a READ or PRINT come to.
 -- Assumes nothing.
-use Rattle.std.specs.Prelude.{◌≡◌, List, ℕ, ◌+◌, ◌≤◌, ℤ}
-use Rattle.number.specs.declared.Rule.{Rule}
+use Rattle.std.specs.Prelude.{◌≡◌, List, ℕ, ◌+◌, ◌≤◌, ℤ, Ok}
 use Rattle.rules_shared.specs.Runs.{go, halt, run}
 use Rattle.rules_shared.specs.Refusals.{accepted}
 use Rattle.rules_formats.specs.Format.{Flat}
 use Rattle.rules_formats.specs.Walk.{Devices}
 use Rattle.rules_object.specs.Halts.{Halt, halt_number}
-use Rattle.rules_object.specs.Object.{Object}
+use Rattle.rules_object.specs.Object as rules
+use Rattle.object_opcodes.specs.Halts.{number_of}
 use Rattle.rules_object.specs.Operations.{Listed, Instr, READ, PRINT, instruction}
 use Rattle.rules_object.specs.Machine.{State, step, bench_step}
 use Rattle.rules_object.specs.Calls.{sequence_of}
 use Rattle.rules_object.specs.Calls as book
 use Rattle.rules_object.specs.Safe.{Right}
-use Rattle.object_contents.specs.declared.Layout.{Layout}
-use Rattle.object_contents.specs.Layout.{object_at}
+use Rattle.object_contents.specs.declared.placed.Object.{Object}
+use Rattle.object_contents.specs.Book.{book_of}
 use Rattle.run_registers.specs.declared.Regs.{Regs}
 use Rattle.run_registers.specs.Registers.{lent_of, state_of}
 use Rattle.run_operations.specs.Ready.{Held}
@@ -25,28 +25,28 @@ use Rattle.run_machine.specs.declared.Pause.TheVariants.{Used, Halted, Transfer}
 use Rattle.run_machine.specs.declared.Paused.{Paused}
 
 -- what the code answers, with the places, the store and the lines that it leaves
-abbrev pub answer : Object → Ran → List ℤ → List ℤ → List ℕ → book.Ran
+abbrev pub answer : rules.Object → Ran → List ℤ → List ℤ → List ℕ → book.Ran
 answer o q st so lines =
     record {
       refusal = accepted;
-      halt = q.halt;
+      halt = number_of q.halt;
       steps = q.steps;
       sequence = sequence_of o.lines q.regs.mark;
       lent = lent_of q.regs st;
       store = so;
-      cards_taken = q.taken;
-      lines_written = q.written;
+      cards_taken = q.trays.taken;
+      lines_written = q.trays.written;
       lines = lines;
     }
 
 -- ---- up to a READ or PRINT
 
 -- at every state of the unguarded run from t the instruction can be done
-abbrev pub Rights : Object → State → Type 0
+abbrev pub Rights : rules.Object → State → Type 0
 Rights o t = (n : ℕ) (u : State) → run (step o) n t ≡ go u → Right o u
 
 -- so with some cards and paper: whether an instruction can be done does not hang on them
-pub record NoFault (o : Object) (r : Regs) (st so : List ℤ) : Type 0 where
+pub record NoFault (o : rules.Object) (r : Regs) (st so : List ℤ) : Type 0 where
   pub devices : Devices
   pub rights : Rights o (state_of r st so devices)
 
@@ -56,22 +56,22 @@ pub data IsTransfer : Instr → Type 0 where
   a_print : (n : ℕ) (f : Flat) (list : List Listed) → IsTransfer (PRINT n f list)
 
 -- why it pauses after n whole steps, whatever the cards and the paper
-abbrev pub Because : Object → ℕ → ℕ → Regs → List ℤ → List ℤ → Pause → Type 0
+abbrev pub Because : rules.Object → ℕ → ℕ → Regs → List ℤ → List ℤ → Pause → Type 0
 Because o allowance n r st so Used = n ≡ allowance
-Because o allowance n r st so (Halted number) = (v : Devices) → (h : Halt) × ((bench_step o (state_of r st so v) ≡ halt h (state_of r st so v)) × (number ≡ halt_number h))
-Because o allowance n r st so Transfer = (guard_of o r.index r.height ≡ 0) × IsTransfer (instruction o r.index)
+Because o allowance n r st so (Halted x) = (v : Devices) → (h : Halt) × ((bench_step o (state_of r st so v) ≡ halt h (state_of r st so v)) × (number_of x ≡ halt_number h))
+Because o allowance n r st so Transfer = (guard_of o r.index r.height ≡ Ok tt) × IsTransfer (instruction o r.index)
 
 -- with the one that halts, or is a READ or PRINT
 abbrev pub counted : Pause → ℕ → ℕ
 counted Used n = n
-counted (Halted number) n = n + 1
+counted (Halted x) n = n + 1
 counted Transfer n = n + 1
 
 -- The whole steps before the pause are the book's, with the cards and the paper as they were.
-pub record Pauses (e : Layout) (s : List ℕ) (k : Rule) (allowance : ℕ) (start : Regs) (st₀ so₀ : List ℤ) (q : Paused) (st so : List ℤ) : Type 0 where
+pub record Pauses (o : Object) (allowance : ℕ) (start : Regs) (st₀ so₀ : List ℤ) (q : Paused) (st so : List ℤ) : Type 0 where
   pub before : ℕ
   pub steps : q.steps ≡ counted q.pause before
   pub most : q.steps ≤ allowance
-  pub held : Held e s k q.regs st so
-  pub comes : (v : Devices) → run (bench_step (object_at e s)) before (state_of start st₀ so₀ v) ≡ go (state_of q.regs st so v)
-  pub why : Because (object_at e s) allowance before q.regs st so q.pause
+  pub held : Held o q.regs st so
+  pub comes : (v : Devices) → run (bench_step (book_of o)) before (state_of start st₀ so₀ v) ≡ go (state_of q.regs st so v)
+  pub why : Because (book_of o) allowance before q.regs st so q.pause

@@ -3,11 +3,12 @@
 
 ghost use Rattle.std.specs.Prelude.{◌≡◌, List, ℕ, ◌≤◌, take, ℤ};
 ghost use Rattle.std.proofs.Math.Option.{some};
-ghost use Rattle.rules_object.specs.Calls.{run_checked, running, bench_object, benching};
+ghost use Rattle.refusals.specs.Numbers.{number_of};
+ghost use Rattle.rules_object.specs.Calls.{passed, run_checked, running, bench_object, benching};
 ghost use Rattle.rules_object.specs.Passed.{Passed};
 ghost use Rattle.object_contents.specs.Layout.{Placed, object_at};
+ghost use Rattle.object_contents.specs.Book.{book_of};
 ghost use Rattle.check_heights.specs.Judged.{Fresh};
-ghost use Rattle.check_object.specs.Verdicts.{passing};
 ghost use Rattle.run_registers.specs.Devices.{trays_of};
 ghost use Rattle.run_lent.specs.Lending.{lent};
 ghost use Rattle.run_machine.specs.Running.{answer};
@@ -15,7 +16,11 @@ ghost use Rattle.run_object.specs.Outcomes.{ran_of, refused_ran, Ends};
 
 use check_meeting::{NEVER, Table};
 use limits::{CODE, STACK};
-use object_contents::{Contents, Layout};
+use number::Rule;
+use object_contents::Layout;
+use object_contents::placed::Object;
+use refusals::Reason;
+use run_registers::Regs;
 
 // `cards` are those taken, `lines` those written, by this run.
 #[repr(C)]
@@ -33,13 +38,13 @@ pub struct Ran {
 
 // ---- either
 
-fn not_run(number: u32, place: u32, kind: u32) -> Ran
-    ensures { result ≡ refused_ran number place kind }
+fn not_run(reason: Reason, place: u32, kind: u32) -> Ran
+    ensures { result ≡ refused_ran (number_of reason) place kind }
 {
     Ran {
-        number: number,
-        place: place,
-        kind: kind,
+        number: reason.number(),
+        place,
+        kind,
         halt: 0,
         steps: 0,
         sequence: 0,
@@ -49,29 +54,20 @@ fn not_run(number: u32, place: u32, kind: u32) -> Ran
 }
 
 // The state after a run goes back to where it was lent.
-fn finish(
-    object: &[u8],
-    e: Layout,
-    q: run_machine::Ran,
-    index: &mut u32,
-    height: &mut u32,
-    mark: &mut u32,
-) -> Ran
-    requires placed { Placed e object.now }
-    requires index_bound { (q.regs.index ≤ 4096) × (q.regs.height ≤ 4096) }
-    ensures { (places store : List ℤ) (lines : List ℕ) → ran_of result (lent index.new height.new mark.new places) store lines ≡ answer (object_at e object.now) q places store lines }
+fn finish(o: &Object, q: run_machine::Ran, index: &mut u32, height: &mut u32, mark: &mut u32) -> Ran
+    requires { (q.regs.index ≤ 4096) × (q.regs.height ≤ 4096) }
+    ensures { (places store : List ℤ) (lines : List ℕ) → ran_of result (lent index.new height.new mark.new places) store lines ≡ answer (book_of o.now) q places store lines }
 {
-    let regs = q.regs;
-    run_lent::give_back(regs, index, height, mark);
+    run_lent::give_back(q.regs, index, height, mark);
     Ran {
         number: 0,
         place: 0,
         kind: 0,
-        halt: q.halt,
+        halt: q.halt.number(),
         steps: q.steps,
-        sequence: run_machine::sequence(object, e, regs.mark),
-        cards: q.taken,
-        lines: q.written,
+        sequence: run_machine::sequence(o, q.regs.mark),
+        cards: q.trays.taken,
+        lines: q.trays.written,
     }
 }
 
@@ -79,8 +75,7 @@ fn finish(
 
 // An object that passed the check.
 fn run_passed(
-    object: &[u8],
-    e: Layout,
+    o: &Object,
     table: &Table,
     store: &mut [i64],
     index: &mut u32,
@@ -91,24 +86,23 @@ fn run_passed(
     lines: &mut [u8],
     allowance: u32,
 ) -> Ran
-    requires placed { Placed e object.now }
-    requires passed { Passed object.now (object_at e object.now) (take e.code_count table.now) }
-    ensures { Ends (run_checked (passing e object.now table.now) store.old (lent index.old height.old mark.old places.old) (trays_of cards.now lines.old) allowance) result (lent index.new height.new mark.new places.new) store.new lines.new }
+    requires { (s : List ℕ) × Passed s (book_of o.now) (take o.now.layout.code_count table.now) }
+    ensures { Ends (run_checked (passed (book_of o.now) (take o.now.layout.code_count table.now)) store.old (lent index.old height.old mark.old places.old) (trays_of cards.now lines.old) allowance) result (lent index.new height.new mark.new places.new) store.new lines.new }
 {
-    let rule = number::of_digits(object_words::index(e.digits));
-    let i = *index;
-    let h = *height;
-    let m = *mark;
-    let refused = run_lent::lent_wrong(e, rule, table, store, i, h, m, places);
-    if refused != 0 {
-        return not_run(refused, 0, 0);
-    }
-    let start = run_registers::of_state(object_words::index(i), object_words::index(h), m);
-    run_lent::clear(places, start.height);
-    let q = run_machine::run(
-        object, e, rule, start, places, store, cards, lines, allowance,
+    let judged = run_lent::lent_wrong(
+        &o.layout, o.rule, table, store, *index, *height, *mark, places,
     );
-    finish(object, e, q, index, height, mark)
+    if let Err(reason) = judged {
+        return not_run(reason, 0, 0);
+    }
+    let start = Regs {
+        index: *index as usize,
+        height: *height as usize,
+        mark: *mark,
+    };
+    run_lent::clear(places, start.height);
+    let q = run_machine::run(o, start, places, store, cards, lines, allowance);
+    finish(o, q, index, height, mark)
 }
 
 fn run_with(
@@ -126,14 +120,12 @@ fn run_with(
     requires { Fresh table.old }
     ensures { Ends (running object.now store.old (lent index.old height.old mark.old places.old) (trays_of cards.now lines.old) allowance) result (lent index.new height.new mark.new places.new) store.new lines.new }
 {
-    let v = check_object::check(object, table);
-    if v.number != 0 {
-        return not_run(v.number, v.place, v.kind);
+    match check_object::check(object, table) {
+        Ok(o) => run_passed(
+            &o, table, store, index, height, mark, places, cards, lines, allowance,
+        ),
+        Err(refusal) => not_run(refusal.reason, refusal.place, refusal.kind),
     }
-    let e = v.layout;
-    run_passed(
-        object, e, table, store, index, height, mark, places, cards, lines, allowance,
-    )
 }
 
 // From the state that is lent; what it leaves is a state to go on from.
@@ -161,7 +153,7 @@ pub fn run(
 // An object that has its bodies.
 fn bench_read(
     object: &[u8],
-    e: Layout,
+    layout: Layout,
     store: &mut [i64],
     index: &mut u32,
     height: &mut u32,
@@ -171,23 +163,29 @@ fn bench_read(
     lines: &mut [u8],
     allowance: u32,
 ) -> Ran
-    requires { Placed e object.now }
-    ensures { Ends (bench_object (some (object_at e object.now)) store.old (lent index.old height.old mark.old places.old) (trays_of cards.now lines.old) allowance) result (lent index.new height.new mark.new places.new) store.new lines.new }
+    requires { Placed layout object.now }
+    ensures { Ends (bench_object (some (object_at layout object.now)) store.old (lent index.old height.old mark.old places.old) (trays_of cards.now lines.old) allowance) result (lent index.new height.new mark.new places.new) store.new lines.new }
 {
-    if !check_entries::limits_right(e) {
-        return not_run(41, 0, 0);
+    if !check_entries::limits_right(layout) {
+        return not_run(Reason::Limits, 0, 0);
     }
-    let rule = number::of_digits(object_words::index(e.digits));
-    let wrong = run_lent::store_wrong(e, rule, store);
-    if wrong != 0 {
+    let rule = Rule::of_digits(layout.digits as usize);
+    let o = Object {
+        bytes: object,
+        layout,
+        rule,
+    };
+    if let Err(wrong) = run_lent::store_wrong(&o.layout, rule, store) {
         return not_run(wrong, 0, 0);
     }
-    let start = run_registers::of_state(0, 0, 0);
     run_lent::clear(places, 0);
-    let q = run_machine::bench(
-        object, e, rule, start, places, store, cards, lines, allowance,
-    );
-    finish(object, e, q, index, height, mark)
+    let start = Regs {
+        index: 0,
+        height: 0,
+        mark: 0,
+    };
+    let q = run_machine::bench(&o, start, places, store, cards, lines, allowance);
+    finish(&o, q, index, height, mark)
 }
 
 // Starts fresh, and tests each instruction before it is done: 42 to 44 are not asked.
@@ -204,13 +202,10 @@ pub fn bench(
 ) -> Ran
     ensures { Ends (benching object.now store.old (lent index.old height.old mark.old places.old) (trays_of cards.now lines.old) allowance) result (lent index.new height.new mark.new places.new) store.new lines.new }
 {
-    let contents = object_contents::contents_of(object);
-    match contents {
-        Contents::Read(e) => {
-            bench_read(
-                object, e, store, index, height, mark, places, cards, lines, allowance,
-            )
-        }
-        Contents::Wrong => not_run(40, 0, 0),
+    match object_contents::contents_of(object) {
+        Some(layout) => bench_read(
+            object, layout, store, index, height, mark, places, cards, lines, allowance,
+        ),
+        None => not_run(Reason::Contents, 0, 0),
     }
 }

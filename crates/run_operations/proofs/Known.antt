@@ -14,9 +14,11 @@ use Rattle.number.specs.Number.{fits}
 use Rattle.number.specs.Code.{ruled, Narrow, Both}
 use Rattle.number.proofs.Laws.{digits_narrow, fits_below, fits_yes}
 use Rattle.rules_shared.specs.Choose.{sign3, exit}
-use Rattle.rules_object.specs.Object.{Object, rule_of}
+use Rattle.rules_object.specs.Object.{rule_of}
+use Rattle.object_contents.specs.declared.placed.Object.{Object}
+use Rattle.object_contents.specs.Book.{book_of}
 use Rattle.rules_object.specs.Check.{right41, right_constant, right_subscript, right_element, right_loop}
-use Rattle.rules_object.specs.Operations.{HLT, meant, no_element, no_loop}
+use Rattle.rules_object.specs.Operations.{no_element, no_loop}
 use Rattle.rules_object.specs.Machine.{cell}
 use Rattle.rules_object.specs.Bytes.{signed_of}
 use Rattle.rules_object.proofs.Limited.{limited}
@@ -69,29 +71,39 @@ nth_gone (v ∷ l) (suc k) (suc n) a = nth_gone l k n (omega arith)
 
 -- ---- the limits
 
-pub record Bounds (e : Layout) (k : Rule) : Type 0 where
-  pub narrow : Narrow (ruled k)
-  pub cells : e.cells ≤ 4096
-  pub code : e.code_count ≤ 4096
+pub record Bounds (o : Object) : Type 0 where
+  pub narrow : Narrow (ruled o.rule)
+  pub cells : o.layout.cells ≤ 4096
+  pub code : o.layout.code_count ≤ 4096
 
-pub bounds : (e : Layout) (s : List ℕ) (k : Rule) → Placed e s → right41 (object_at e s) ≡ true → ruled k ≡ rule_of (object_at e s) → Bounds e k
+pub bounds : (o : Object) → right41 (book_of o) ≡ true → Bounds o
 unfolding object_at
-bounds e s k p r q =
-    let l = limited (object_at e s) p.edition r in
+bounds o r =
+    let e = o.layout in
+    let l = limited (book_of o) o.placed.edition r in
     let n = l.code in
     record {
-      narrow = subst Narrow (sym q) (digits_narrow e.digits l.digits);
+      narrow = subst Narrow (sym o.ruled) (digits_narrow e.digits l.digits);
       cells = l.cells;
-      code = omega (arith, length_from e.code_count 0 (λ i. word_at s (e.code + 4 * i)));
+      code = omega (arith, length_from e.code_count 0 (λ i. word_at o.bytes.now (e.code + 4 * i)));
     }
 
-module _ (e : Layout) (s : List ℕ) (k : Rule) (r : Regs) (st so : List ℤ) (h : Held e s k r st so) where
-  pub held_bounds : Bounds e k
-  held_bounds = bounds e s k h.placed h.right h.rule
+module _ (o : Object) (r : Regs) (st so : List ℤ) (h : Held o r st so) where
+  abbrev e : Layout
+  e = o.layout
+
+  abbrev s : List ℕ
+  s = o.bytes.now
+
+  abbrev k : Rule
+  k = o.rule
+
+  pub held_bounds : Bounds o
+  held_bounds = bounds o h.right
 
   -- what fits the object's rule
   fits_here : (z : ℤ) → fits (rule_of (object_at e s)) z ≡ true → nat_abs z < 2 ^ 31
-  fits_here z t = fits_below (ruled k) held_bounds.narrow z (fits_yes (ruled k) z (ap (λ q. fits q z) h.rule ∙ t))
+  fits_here z t = fits_below (ruled k) held_bounds.narrow z (fits_yes (ruled k) z (ap (λ q. fits q z) o.ruled ∙ t))
 
   pub cell_in_lem : (a : ℕ) → a < e.cells → Cell so a
   cell_in_lem a l = let b = held_bounds in record { inside = omega (arith, h.long); small = fits_below (ruled k) b.narrow (cell so a) (h.store a l) }
@@ -113,7 +125,7 @@ module _ (e : Layout) (s : List ℕ) (k : Rule) (r : Regs) (st so : List ℤ) (h
     con_is l = get e.constant_count (λ i. word_at s (e.constants + 4 * i)) x 0 l
 
     pub con_whole : x < e.constant_count → e.constants + 4 * x + 4 ≤ length s
-    con_whole l = let q = h.placed in omega (arith, q.elements, q.exits, q.dos, q.code, q.lines, q.names, q.whole)
+    con_whole l = let q = o.placed in omega (arith, q.elements, q.exits, q.dos, q.code, q.lines, q.names, q.whole)
 
     pub con_small : Ready (object_at e s) 1 x r.height → word_at s (e.constants + 4 * x) < 2 ^ 31
     unfolding right_constant
@@ -136,15 +148,15 @@ module _ (e : Layout) (s : List ℕ) (k : Rule) (r : Regs) (st so : List ℤ) (h
     element_in_lem : x < e.element_count → right_element (object_at e s) (get_or (object_at e s).elements x no_element) ≡ true → ElementIn s (e.elements + 36 * x) so
     unfolding right_element element_at object_at
     element_in_lem l t =
-        let q = h.placed in
+        let q = o.placed in
         let b = held_bounds in
-        let o = object_at e s in
+        let b' = object_at e s in
         let w = e.elements + 36 * x in
-        let m = subst (λ n. right_element o n ≡ true) (element_is l) t in
+        let m = subst (λ n. right_element b' n ≡ true) (element_is l) t in
         let m₁ = both (leb 1 (word_at s (w + 4))) _ m in
         let m₂ = both (leb 1 (word_at s (w + 8))) _ m₁.1 in
         let m₃ = both (leb (word_at s w + word_at s (w + 4) * word_at s (w + 8)) e.cells) _ m₂.1 in
-        let m₄ = both (right_subscript o (element_at s w).first) _ m₃.1 in
+        let m₄ = both (right_subscript b' (element_at s w).first) _ m₃.1 in
         let span = leb-true (word_at s w + word_at s (w + 4) * word_at s (w + 8)) e.cells m₃.0 in
         let whole : w + 36 ≤ length s = omega (arith, q.exits, q.dos, q.code, q.lines, q.names, q.whole) in
         record {
@@ -185,7 +197,7 @@ module _ (e : Layout) (s : List ℕ) (k : Rule) (r : Regs) (st so : List ℤ) (h
     loop_in : x < e.do_count → right_loop (object_at e s) (get_or (object_at e s).dos x no_loop) ≡ true → LoopIn s (e.dos + 16 * x) so
     unfolding right_loop loop_at object_at
     loop_in l t =
-        let q = h.placed in
+        let q = o.placed in
         let w = e.dos + 16 * x in
         let m = subst (λ n. right_loop (object_at e s) n ≡ true) (loop_is l) t in
         let m₁ = both (ltb (word_at s w) e.cells) _ m in
@@ -223,7 +235,7 @@ module _ (e : Layout) (s : List ℕ) (k : Rule) (r : Regs) (st so : List ℤ) (h
     br3_in y = let l = ltb-true (x + 2) (length exits) (both (ltb (x + 2) (length exits)) _ y.operand).0 in omega (arith, count_exits)
 
     pub br3_whole : x + 2 < e.exit_count → e.exits + 4 * x + 12 ≤ length s
-    br3_whole l = let q = h.placed in omega (arith, q.dos, q.code, q.lines, q.names, q.whole)
+    br3_whole l = let q = o.placed in omega (arith, q.dos, q.code, q.lines, q.names, q.whole)
 
     pub br3_is : x + 2 < e.exit_count → (z : ℤ)
         → word_at s (e.exits + 4 * x + 4 * sign_of z) ≡ sign3 z (get_or (object_at e s).exits x 0) (get_or (object_at e s).exits (x + 1) 0) (get_or (object_at e s).exits (x + 2) 0)
@@ -243,7 +255,7 @@ module _ (e : Layout) (s : List ℕ) (k : Rule) (r : Regs) (st so : List ℤ) (h
         omega (arith, count_exits, exit_is x (omega (arith, count_exits)))
 
     pub brc_whole : x + word_at s (e.exits + 4 * x) < e.exit_count → e.exits + 4 * x + 4 * word_at s (e.exits + 4 * x) + 4 ≤ length s
-    brc_whole l = let q = h.placed in omega (arith, q.dos, q.code, q.lines, q.names, q.whole)
+    brc_whole l = let q = o.placed in omega (arith, q.dos, q.code, q.lines, q.names, q.whole)
 
     pub brc_is : x + word_at s (e.exits + 4 * x) < e.exit_count → (z : ℤ)
         → chosen s (e.exits + 4 * x) (word_at s (e.exits + 4 * x)) z ≡ exit (take (get_or (object_at e s).exits x 0) (drop (x + 1) (object_at e s).exits)) z
@@ -262,26 +274,3 @@ module _ (e : Layout) (s : List ℕ) (k : Rule) (r : Regs) (st so : List ℤ) (h
             nth_gone (drop (x + 1) exits) k (word_at s (e.exits + 4 * x)) (ltb-false k (word_at s (e.exits + 4 * x)) t)
             ∙ ap (λ n. get_elem? (take n (drop (x + 1) exits)) k) (sym (exit_is x (omega arith)))
     brc_is l (negsuc k) = refl
-
--- the operations that are none of 1 to 17 mean a halt
-pub rest_halts : (o : Object) (op x : ℕ) → (op ≡ 1 → ⊥) → (op ≡ 2 → ⊥) → (op ≡ 3 → ⊥) → (op ≡ 4 → ⊥) → (op ≡ 5 → ⊥) → (op ≡ 6 → ⊥) → (op ≡ 7 → ⊥) → (op ≡ 8 → ⊥)
-    → (op ≡ 9 → ⊥) → (op ≡ 10 → ⊥) → (op ≡ 11 → ⊥) → (op ≡ 12 → ⊥) → (op ≡ 13 → ⊥) → (op ≡ 14 → ⊥) → (op ≡ 15 → ⊥) → (op ≡ 16 → ⊥) → (op ≡ 17 → ⊥) → HLT x ≡ meant o op x
-rest_halts o zero x a b c d e f g h i j k l m n p q r = refl
-rest_halts o (suc zero) x a b c d e f g h i j k l m n p q r = absurd (a refl)
-rest_halts o (suc (suc zero)) x a b c d e f g h i j k l m n p q r = absurd (b refl)
-rest_halts o (suc (suc (suc zero))) x a b c d e f g h i j k l m n p q r = absurd (c refl)
-rest_halts o (suc (suc (suc (suc zero)))) x a b c d e f g h i j k l m n p q r = absurd (d refl)
-rest_halts o (suc (suc (suc (suc (suc zero))))) x a b c d e f g h i j k l m n p q r = absurd (e refl)
-rest_halts o (suc (suc (suc (suc (suc (suc zero)))))) x a b c d e f g h i j k l m n p q r = absurd (f refl)
-rest_halts o (suc (suc (suc (suc (suc (suc (suc zero))))))) x a b c d e f g h i j k l m n p q r = absurd (g refl)
-rest_halts o (suc (suc (suc (suc (suc (suc (suc (suc zero)))))))) x a b c d e f g h i j k l m n p q r = absurd (h refl)
-rest_halts o (suc (suc (suc (suc (suc (suc (suc (suc (suc zero))))))))) x a b c d e f g h i j k l m n p q r = absurd (i refl)
-rest_halts o (suc (suc (suc (suc (suc (suc (suc (suc (suc (suc zero)))))))))) x a b c d e f g h i j k l m n p q r = absurd (j refl)
-rest_halts o (suc (suc (suc (suc (suc (suc (suc (suc (suc (suc (suc zero))))))))))) x a b c d e f g h i j k l m n p q r = absurd (k refl)
-rest_halts o (suc (suc (suc (suc (suc (suc (suc (suc (suc (suc (suc (suc zero)))))))))))) x a b c d e f g h i j k l m n p q r = absurd (l refl)
-rest_halts o (suc (suc (suc (suc (suc (suc (suc (suc (suc (suc (suc (suc (suc zero))))))))))))) x a b c d e f g h i j k l m n p q r = absurd (m refl)
-rest_halts o (suc (suc (suc (suc (suc (suc (suc (suc (suc (suc (suc (suc (suc (suc zero)))))))))))))) x a b c d e f g h i j k l m n p q r = absurd (n refl)
-rest_halts o (suc (suc (suc (suc (suc (suc (suc (suc (suc (suc (suc (suc (suc (suc (suc zero))))))))))))))) x a b c d e f g h i j k l m n p q r = absurd (p refl)
-rest_halts o (suc (suc (suc (suc (suc (suc (suc (suc (suc (suc (suc (suc (suc (suc (suc (suc zero)))))))))))))))) x a b c d e f g h i j k l m n p q r = absurd (q refl)
-rest_halts o (suc (suc (suc (suc (suc (suc (suc (suc (suc (suc (suc (suc (suc (suc (suc (suc (suc zero))))))))))))))))) x a b c d e f g h i j k l m n p q r = absurd (r refl)
-rest_halts o (suc (suc (suc (suc (suc (suc (suc (suc (suc (suc (suc (suc (suc (suc (suc (suc (suc (suc s)))))))))))))))))) x a b c d e f g h i j k l m n p q r = refl

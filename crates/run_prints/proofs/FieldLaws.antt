@@ -18,6 +18,7 @@ use Rattle.rules_object.specs.Object.{Object}
 use Rattle.rules_object.specs.Machine.{cell, Spot, cell_in, spot_get}
 use Rattle.run_fields.specs.Put.{over}
 use Rattle.run_fields.proofs.LineLaws.{put_on_lem}
+use Rattle.object_opcodes.specs.declared.Halt.TheVariants.{BadSubscript, BadField}
 use Rattle.run_lists.specs.declared.Cursor.{Cursor}
 use Rattle.run_lists.specs.Cursors.{left_of, Reached, Found, Astray}
 use Rattle.run_lists.specs.Troubles.{Stopped}
@@ -43,7 +44,7 @@ module _ (o : Object) (so : List ℤ) (c : Cursor) (line : Columns) (column : �
   -- ---- columns put on, or no room for them
 
   module _ (g : Field) (field : Columns) (w : ℕ) (is : List Spot) (e : step_at o so g c cur ≡ put_on cur field w is) where
-    pub passes : line_width - column < w → Stopped (step_at o so g c cur) 10
+    pub passes : line_width - column < w → Stopped (step_at o so g c cur) BadField
     unfolding trouble_number
     passes h =
         record {
@@ -80,7 +81,7 @@ module _ (o : Object) (so : List ℤ) (c : Cursor) (line : Columns) (column : �
     unfolding step_of
     number_none e = (ap (λ (is : List Spot). step_of spot_get so (I w) is cur) e, f.rest)
 
-    pub number_astray : Astray o so c → Stopped (step_at o so (I w) c cur) 4
+    pub number_astray : Astray o so c → Stopped (step_at o so (I w) c cur) BadSubscript
     unfolding step_of spot_get trouble_number
     number_astray a =
         record {
@@ -98,7 +99,7 @@ module _ (o : Object) (so : List ℤ) (c : Cursor) (line : Columns) (column : �
           ap (λ (is : List Spot). step_of spot_get so (I w) is cur) n.is
           ∙ ap (λ (p : Option ℕ). given bad_subscript (cell_in so p) (λ v. put_on cur (printed w v) w (left_of o d))) n.at
 
-      pub number_passes : line_width - column < w → Stopped (step_at o so (I w) c cur) 10
+      pub number_passes : line_width - column < w → Stopped (step_at o so (I w) c cur) BadField
       number_passes h = passes (I w) (printed w (cell so a)) w (left_of o d) number_step h
 
       pub number_put : w ≤ line_width - column → (after : Columns) → after ≡ over column (printed w (cell so a)) line → Goes o so c cur (I w) after (column + w) d
@@ -114,7 +115,7 @@ module _ (o : Object) (so : List ℤ) (c : Cursor) (line : Columns) (column : �
       unfolding step_of
       skip_step = refl
 
-      pub skip_passes : line_width - column < n → Stopped (step_at o so (X n) c cur) 10
+      pub skip_passes : line_width - column < n → Stopped (step_at o so (X n) c cur) BadField
       skip_passes h = passes (X n) (replicate n blank) n (left_of o c) skip_step h
 
       pub skip_put : n ≤ line_width - column → Goes o so c cur (X n) line (column + n) c
@@ -127,7 +128,7 @@ module _ (o : Object) (so : List ℤ) (c : Cursor) (line : Columns) (column : �
       unfolding step_of
       text_step = refl
 
-      pub text_passes : line_width - column < 1 → Stopped (step_at o so (H t) c cur) 10
+      pub text_passes : line_width - column < 1 → Stopped (step_at o so (H t) c cur) BadField
       text_passes h = passes (H t) (t ∷ []) 1 (left_of o c) text_step h
 
       pub text_put : 1 ≤ line_width - column → Goes o so c cur (H t) (set line column t) (column + 1) c

@@ -13,10 +13,11 @@ use Rattle.rules_formats.specs.Walk.{Outcome, fine, then, Columns, line_width, w
 use Rattle.rules_formats.proofs.Lengths.{whole_length}
 use Rattle.rules_object.specs.Object.{Object}
 use Rattle.rules_object.specs.Machine.{Spot, spot_get}
+use Rattle.object_opcodes.specs.declared.Halt.{Halt}
 use Rattle.run_formats.specs.Scan.{fields_at, scan_at, Scanning, Along, FieldAt, EndAt}
 use Rattle.run_formats.proofs.ScanLaws.{along_here, farther}
 use Rattle.run_lists.specs.declared.Cursor.{Cursor}
-use Rattle.run_lists.specs.Cursors.{left_of, Reached, Some}
+use Rattle.run_lists.specs.Cursors.{left_of, Reached, SomeLeft}
 use Rattle.run_lists.specs.Troubles.{Stopped}
 use Rattle.run_prints.specs.Steps.{Step, on, record_ends, statement_ends, Line, at_end, follow, line_of}
 use Rattle.run_prints.specs.Puts.{Filled, step_at, Goes, line_at, OneLine, LastLine}
@@ -64,7 +65,7 @@ module _ (o : Object) (so : List ℤ) (word : ℕ) (c : Cursor) where
       pub statement_ends_lem : (after : Columns) → (step_at o so f left cur ≡ fine statement_ends) × (after ≡ whole cur) → LastLine o so word c after
       statement_ends_lem after d = record { line = cur; is = by (fine statement_ends) d.0; put = d.1 }
 
-      pub stops : (h : ℕ) → Stopped (step_at o so f left cur) h → Stopped (line_at o so word c) h
+      pub stops : (h : Halt) → Stopped (step_at o so f left cur) h → Stopped (line_at o so word c) h
       stops h s = record { why = s.why; is = by _ s.is; numbered = s.numbered }
 
       pub goes_on : (after : Columns) (next : ℕ) (d : Cursor) → Goes o so left cur f after next d → Going after (j + 1) d next
@@ -97,7 +98,7 @@ module _ (o : Object) (so : List ℤ) (word : ℕ) (c : Cursor) where
       unfolding scan_at
       new_scan_lem = ap (fields_at words) (sym g.along.same) ∙ at.scan
 
-      pub scans_again : Some o left → OneLine o so word c line again left
+      pub scans_again : SomeLeft o left → OneLine o so word c line again left
       scans_again s =
           record {
             line = cur;

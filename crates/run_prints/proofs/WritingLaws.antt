@@ -10,7 +10,7 @@ use lib.Seq.{append_snoc}
 use lib.IntN.{ℤ}
 use borrow.Rule.Slice.PartMut.{put_mid}
 use Rattle.rules_formats.specs.Format.{Field, new_scan}
-use Rattle.rules_formats.specs.Walk.{Outcome, fine, trouble, then, Columns, line_width, lines, Paper, below, prints, room_of, joined_lines}
+use Rattle.rules_formats.specs.Walk.{Trouble, Outcome, fine, trouble, then, Columns, line_width, lines, Paper, below, prints, room_of, joined_lines}
 use Rattle.rules_formats.proofs.Lengths.{Wide, InRoom, lines_right}
 use Rattle.rules_object.specs.Object.{Object}
 use Rattle.rules_object.specs.Operations.{transfer_at, format_at, transfer_right}
@@ -18,18 +18,22 @@ use Rattle.rules_object.specs.Machine.{Spot, spot_get}
 use Rattle.run_registers.specs.Devices.{paper_of}
 use Rattle.run_fields.specs.Put.{over}
 use Rattle.run_fields.proofs.LineLaws.{part_over}
+use Rattle.std.specs.Prelude.{Result, Ok, Err}
+use Rattle.object_opcodes.specs.declared.Halt.{Halt}
 use Rattle.run_formats.specs.Scan.{fields_at, scan_at, Scanning}
 use Rattle.run_formats.proofs.StartLaws.{starts_again, fields_are}
 use Rattle.run_lists.specs.declared.Cursor.{Cursor}
 use Rattle.run_lists.specs.declared.Start.{Start}
 use Rattle.run_lists.specs.Cursors.{start_of, left_of, Reached}
-use Rattle.run_lists.specs.Troubles.{halt_of, Stopped}
-use Rattle.run_lists.proofs.Troubles.{no_zero}
+use Rattle.run_lists.specs.Troubles.{Stopped, Fine}
 use Rattle.run_lists.proofs.Lists.{list_is}
 use Rattle.run_prints.specs.Puts.{line_at, OneLine, LastLine}
-use Rattle.run_prints.specs.Lines.{lines_at, Written, printed, Prints}
-use Rattle.run_prints.proofs.LinesLaws.{more_lines, last_line, no_room_lem, no_fine}
+use Rattle.run_prints.specs.Lines.{lines_from, Written, Writes, printed, Prints}
+use Rattle.run_prints.proofs.LinesLaws.{more_lines, last_line, no_room_lem, line_stops}
 use Rattle.run_prints.proofs.PaperLaws.{over_over, over_none, over_length, joined_length, joined_one_more, wide_after, paper_is, paper_long, paper_rest, paper_room}
+
+no_trouble : (t : Trouble) {ls : List Columns} → ◌≡◌ {A = Outcome (List Columns)} (fine ls) (trouble t) → ⊥
+no_trouble t e = cc
 
 one_fine : (a b : List Columns) → ◌≡◌ {A = Outcome (List Columns)} (fine a) (fine b) → a ≡ b
 one_fine a b e = cc
@@ -38,7 +42,7 @@ one_fine a b e = cc
 
 module _ (o : Object) (so : List ℤ) (before : List ℕ) (written word : ℕ) (c : Cursor) where
   abbrev outcome : Outcome (List Columns)
-  outcome = lines_at o so (room_of before - written) word c
+  outcome = lines_from o so (room_of before - written) word c
 
   -- the lines so far stand there, and the rest are the lines from here on
   pub record Writing (bytes : List ℕ) (n j : ℕ) (left : Cursor) : Type 0 where
@@ -47,20 +51,16 @@ module _ (o : Object) (so : List ℤ) (before : List ℕ) (written word : ℕ) (
     pub count : n ≡ written + length front
     pub put : bytes ≡ over (line_width * written) (joined_lines front) before
     pub all : outcome ≡ fine (front ++ rest)
-    pub now : lines_at o so (room_of before - n) j left ≡ fine rest
+    pub now : lines_from o so (room_of before - n) j left ≡ fine rest
     pub scanning : Scanning o.formats j
     pub reached : Reached o left
 
-  pub writing_begins : halt_of outcome ≡ 0 → Scanning o.formats word → Reached o c → Writing before written word c
-  writing_begins h s r = by outcome refl h
-    where
-      by : (out : Outcome (List Columns)) → outcome ≡ out → halt_of out ≡ 0 → Writing before written word c
-      by (fine ls) e z =
-          record { front = []; rest = ls; count = omega arith; put = over_none before (line_width * written); all = e; now = e; scanning = s; reached = r }
-      by (trouble t) e z = absurd (no_zero t z)
+  pub writing_begins : Fine outcome → Scanning o.formats word → Reached o c → Writing before written word c
+  writing_begins f s r =
+      record { front = []; rest = f.value; count = omega arith; put = over_none before (line_width * written); all = f.is; now = f.is; scanning = s; reached = r }
 
   wide : (ls : List Columns) → outcome ≡ fine ls → Wide line_width ls × (length ls ≤ room_of before - written)
-  unfolding lines_at
+  unfolding lines_from
   wide ls e =
       subst (InRoom (room_of before - written)) e
       (lines_right spot_get (scan_at o.formats word) so (room_of before - written) (fields_at o.formats word) (left_of o c))
@@ -70,7 +70,7 @@ module _ (o : Object) (so : List ℤ) (before : List ℕ) (written word : ℕ) (
     some_room = by (room_of before - n) refl
       where
         by : (k : ℕ) → room_of before - n ≡ k → n < room_of before
-        by zero e = absurd (no_room_lem o so j left w.rest (ap (λ (k : ℕ). lines_at o so k j left) (sym e) ∙ w.now))
+        by zero e = absurd (no_room_lem o so j left w.rest (ap (λ (k : ℕ). lines_from o so k j left) (sym e) ∙ w.now))
         by (suc k) e = omega arith
 
     pub as_long : length bytes ≡ length before
@@ -84,8 +84,8 @@ module _ (o : Object) (so : List ℤ) (before : List ℕ) (written word : ℕ) (
     line_kept line e =
         ap (λ (b : List ℕ). length b) (part_over (line_width * n) line_width bytes line line_inside e) ∙ over_length line bytes (line_width * n) ∙ as_long
 
-    pub never_stops : (h : ℕ) → Stopped (line_at o so j left) h → ⊥
-    never_stops h s = no_fine o so j left h s (room_of before - n) (ap halt_of w.now)
+    pub never_stops : (h : Halt) → Stopped (line_at o so j left) h → ⊥
+    never_stops h s = let stopped = line_stops o so j left h s (room_of before - n) in no_trouble stopped.why (sym w.now ∙ stopped.is)
 
     -- a line more
     module _ (line : Columns) (more : List Columns) (e : w.rest ≡ line ∷ more) where
@@ -124,12 +124,12 @@ module _ (o : Object) (so : List ℤ) (before : List ℕ) (written word : ℕ) (
 
     pub writes_more : (line : Columns) (next : ℕ) (d : Cursor) → OneLine o so j left line next d
         → Writing (put_mid (line_width * n) (line_width * n + line_width - line_width * n) bytes line) (n + 1) next d
-    writes_more line next d l = by (lines_at o so (room_of before - n - 1) next d) refl
+    writes_more line next d l = by (lines_from o so (room_of before - n - 1) next d) refl
       where
-        is : then (lines_at o so (room_of before - n - 1) next d) (λ ls. fine (line ∷ ls)) ≡ fine w.rest
+        is : then (lines_from o so (room_of before - n - 1) next d) (λ ls. fine (line ∷ ls)) ≡ fine w.rest
         is = sym (more_lines o so j left line next d l (room_of before - n) has_room) ∙ w.now
 
-        by : (out : Outcome (List Columns)) → lines_at o so (room_of before - n - 1) next d ≡ out
+        by : (out : Outcome (List Columns)) → lines_from o so (room_of before - n - 1) next d ≡ out
             → Writing (put_mid (line_width * n) (line_width * n + line_width - line_width * n) bytes line) (n + 1) next d
         by (fine more) q =
             let e : w.rest ≡ line ∷ more = sym (one_fine (line ∷ more) w.rest (sym (ap (λ (x : Outcome (List Columns)). then x (λ ls. fine (line ∷ ls))) q) ∙ is)) in
@@ -140,51 +140,48 @@ module _ (o : Object) (so : List ℤ) (before : List ℕ) (written word : ℕ) (
               count = count_longer line more e;
               put = put_longer line more e;
               all = all_longer line more e;
-              now = ap (λ (k : ℕ). lines_at o so k next d) room ∙ q;
+              now = ap (λ (k : ℕ). lines_from o so k next d) room ∙ q;
               scanning = l.along.scanning;
               reached = l.next;
             }
-        by (trouble t) q =
-            absurd (no_zero t (sym (ap (λ (x : Outcome (List Columns)). halt_of (then x (λ ls. fine (line ∷ ls)))) q) ∙ ap halt_of is))
+        by (trouble t) q = absurd (no_trouble t (sym is ∙ ap (λ (x : Outcome (List Columns)). then x (λ ls. fine (line ∷ ls))) q))
 
   -- ---- the statement
 
-  pub prints_well : written ≤ room_of before → (now : ℕ) (after : List ℕ) → halt_of outcome ≡ 0 → Written outcome before after written now
-      → Prints before written (then outcome (λ ls. fine (below (paper_of written before) ls))) after (record { halt = 0; written = now })
-  prints_well h now after z w = by outcome refl
-    where
-      by : (out : Outcome (List Columns)) → outcome ≡ out → Prints before written (then out (λ ls. fine (below (paper_of written before) ls))) after (record { halt = 0; written = now })
-      by (fine ls) e =
-          let all = wide ls e in
-          let fits : written + length ls ≤ room_of before = omega (arith, all.1) in
-          let n = w.count ls e in
-          let bytes = w.put ls e in
-          record {
-            halt = refl;
-            paper = ap (λ (k : ℕ). paper_of k after) n ∙ ap (λ (b : List ℕ). paper_of (written + length ls) b) bytes ∙ paper_is before written ls all.0 fits;
-            onward = omega arith;
-            room = subst (λ (b : List ℕ). now ≤ room_of b) (sym bytes) (omega (arith, paper_room before written ls all.0 fits));
-            long = ap (λ (b : List ℕ). length b) bytes ∙ paper_long before written ls all.0 fits;
-            rest =
-                ap (λ (k : ℕ). drop (line_width * k) after) n
-                ∙ ap (λ (b : List ℕ). drop (line_width * (written + length ls)) b) bytes
-                ∙ paper_rest before written ls all.0 fits
-                ∙ ap (λ (k : ℕ). drop (line_width * k) before) (sym n);
-          }
-      by (trouble t) e = absurd (no_zero t (sym (ap halt_of e) ∙ z))
+  prints_well : written ≤ room_of before → (now : ℕ) (after : List ℕ) → Fine outcome → Written outcome before after written now
+      → Prints before written (then outcome (λ ls. fine (below (paper_of written before) ls))) after (Ok now)
+  prints_well h now after f w =
+      let all = wide f.value f.is in
+      let fits : written + length f.value ≤ room_of before = omega (arith, all.1) in
+      let n = w.count f.value f.is in
+      let bytes = w.put f.value f.is in
+      subst (λ (out : Outcome (List Columns)). Prints before written (then out (λ ls. fine (below (paper_of written before) ls))) after (Ok now)) (sym f.is)
+      (record {
+        paper = ap (λ (k : ℕ). paper_of k after) n ∙ ap (λ (b : List ℕ). paper_of (written + length f.value) b) bytes ∙ paper_is before written f.value all.0 fits;
+        onward = omega arith;
+        room = subst (λ (b : List ℕ). now ≤ room_of b) (sym bytes) (omega (arith, paper_room before written f.value all.0 fits));
+        long = ap (λ (b : List ℕ). length b) bytes ∙ paper_long before written f.value all.0 fits;
+        rest =
+            ap (λ (k : ℕ). drop (line_width * k) after) n
+            ∙ ap (λ (b : List ℕ). drop (line_width * (written + length f.value)) b) bytes
+            ∙ paper_rest before written f.value all.0 fits
+            ∙ ap (λ (k : ℕ). drop (line_width * k) before) (sym n);
+      })
 
-  pub prints_ill : (h : ℕ) → (h ≡ 0 → ⊥) → h ≡ halt_of outcome
-      → Prints before written (then outcome (λ ls. fine (below (paper_of written before) ls))) before (record { halt = h; written = written })
-  prints_ill h n e = by outcome refl
-    where
-      by : (out : Outcome (List Columns)) → outcome ≡ out → Prints before written (then out (λ ls. fine (below (paper_of written before) ls))) before (record { halt = h; written = written })
-      by (fine ls) q = absurd (n (e ∙ ap halt_of q))
-      by (trouble t) q = (e ∙ ap halt_of q, refl, refl)
+  pub prints_ill : (h : Halt) → Stopped outcome h → Prints before written (then outcome (λ ls. fine (below (paper_of written before) ls))) before (Err h)
+  prints_ill h s =
+      subst (λ (out : Outcome (List Columns)). Prints before written (then out (λ ls. fine (below (paper_of written before) ls))) before (Err h)) (sym s.is)
+      (s.numbered, refl)
+
+  pub prints_so : written ≤ room_of before → (after : List ℕ) (r : Result ℕ Halt) → Fine outcome → Writes outcome before after written r
+      → Prints before written (then outcome (λ ls. fine (below (paper_of written before) ls))) after r
+  prints_so h after (Ok now) f w = prints_well h now after f w
+  prints_so h after (Err e) f w = absurd w
 
 -- the book's PRINT is what these lines come to
 pub printed_is : (o : Object) (x : ℕ) (so : List ℤ) (p : Paper) → transfer_right o x ≡ true
-    → then (lines_at o so p.room (start_of (transfer_at o x)).word (start_of (transfer_at o x)).list) (λ ls. fine (below p ls)) ≡ printed o x so p
-unfolding printed prints lines_at
+    → then (lines_from o so p.room (start_of (transfer_at o x)).word (start_of (transfer_at o x)).list) (λ ls. fine (below p ls)) ≡ printed o x so p
+unfolding printed prints lines_from
 printed_is o x so p right =
     ap (λ (fs : List Field). then (lines spot_get fs so p.room (fields_at o.formats (transfer_at o x).format) (left_of o (start_of (transfer_at o x)).list)) (λ ls. fine (below p ls))) (sym (starts_again o x right))
     ∙ ap (λ (fs : List Field). then (lines spot_get (new_scan (format_at o (transfer_at o x).format)) so p.room fs (left_of o (start_of (transfer_at o x)).list)) (λ ls. fine (below p ls))) (sym (fields_are o x right))
@@ -193,8 +190,8 @@ printed_is o x so p right =
 -- from where the code begins
 module _ (o : Object) (x : ℕ) (right : transfer_right o x ≡ true) (start : Start) (e : start ≡ start_of (transfer_at o x)) where
   pub as_printed : (so : List ℤ) (before : List ℕ) (written : ℕ)
-      → then (lines_at o so (room_of before - written) start.word start.list) (λ ls. fine (below (paper_of written before) ls)) ≡ printed o x so (paper_of written before)
+      → then (lines_from o so (room_of before - written) start.word start.list) (λ ls. fine (below (paper_of written before) ls)) ≡ printed o x so (paper_of written before)
   unfolding paper_of
   as_printed so before written =
-      ap (λ (s : Start). then (lines_at o so (room_of before - written) s.word s.list) (λ ls. fine (below (paper_of written before) ls))) e
+      ap (λ (s : Start). then (lines_from o so (room_of before - written) s.word s.list) (λ ls. fine (below (paper_of written before) ls))) e
       ∙ printed_is o x so (paper_of written before) right

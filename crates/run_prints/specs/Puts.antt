@@ -1,16 +1,16 @@
 -- A line in place: filled to a column, blank after it; what putting a field on it does, and a whole line, and every line of a PRINT.
 -- Assumes nothing.
-use Rattle.std.specs.Prelude.{◌≡◌, List, [], ℕ, ◌≤◌, length, take, ℤ}
+use Rattle.std.specs.Prelude.{◌≡◌, List, [], ℕ, ◌≤◌, length, take, ℤ, Option, Some, None, Result, Ok, Err}
 use Rattle.rules_formats.specs.Format.{Field}
 use Rattle.rules_formats.specs.Walk.{Outcome, fine, Columns, line_width, whole}
 use Rattle.rules_object.specs.Object.{Object}
 use Rattle.rules_object.specs.Machine.{Spot, spot_get}
+use Rattle.object_opcodes.specs.declared.Halt.{Halt}
 use Rattle.run_formats.specs.Scan.{fields_at, scan_at, Along}
 use Rattle.run_lists.specs.declared.Cursor.{Cursor}
 use Rattle.run_lists.specs.declared.Step.{Step as Stepped}
-use Rattle.run_lists.specs.declared.Step.TheVariants.{On, RecordEnds, StatementEnds, Stops}
-use Rattle.run_lists.specs.declared.Record.{Record}
-use Rattle.run_lists.specs.declared.Record.TheVariants.{More, Last, Stops as StopsHere}
+use Rattle.run_lists.specs.declared.Step.TheVariants.{On, RecordEnds, StatementEnds}
+use Rattle.run_lists.specs.declared.Start.{Start}
 use Rattle.run_lists.specs.Cursors.{left_of, Reached}
 use Rattle.run_lists.specs.Troubles.{Stopped}
 use Rattle.run_prints.specs.Steps.{Step, on, record_ends, statement_ends, Line, more, last, step_of, line_of}
@@ -34,11 +34,11 @@ pub record Goes (o : Object) (so : List ℤ) (c : Cursor) (before : Columns) (f 
   pub within : length line ≤ line_width
   pub next : Reached o d
 
-abbrev pub Does : Object → List ℤ → Cursor → Columns → Field → Columns → Stepped → Type 0
-Does o so c before f after (On column d) = Goes o so c before f after column d
-Does o so c before f after RecordEnds = (step_at o so f c before ≡ fine record_ends) × (after ≡ whole before)
-Does o so c before f after StatementEnds = (step_at o so f c before ≡ fine statement_ends) × (after ≡ whole before)
-Does o so c before f after (Stops h) = Stopped (step_at o so f c before) h
+abbrev pub Does : Object → List ℤ → Cursor → Columns → Field → Columns → Result Stepped Halt → Type 0
+Does o so c before f after (Ok (On column d)) = Goes o so c before f after column d
+Does o so c before f after (Ok RecordEnds) = (step_at o so f c before ≡ fine record_ends) × (after ≡ whole before)
+Does o so c before f after (Ok StatementEnds) = (step_at o so f c before ≡ fine statement_ends) × (after ≡ whole before)
+Does o so c before f after (Err h) = Stopped (step_at o so f c before) h
 
 -- ---- one line
 
@@ -58,7 +58,7 @@ pub record LastLine (o : Object) (so : List ℤ) (word : ℕ) (c : Cursor) (afte
   pub is : line_at o so word c ≡ fine (last line)
   pub put : after ≡ whole line
 
-abbrev pub Puts : Object → List ℤ → ℕ → Cursor → Columns → Record → Type 0
-Puts o so word c after (More j d) = OneLine o so word c after j d
-Puts o so word c after Last = LastLine o so word c after
-Puts o so word c after (StopsHere h) = Stopped (line_at o so word c) h
+abbrev pub Puts : Object → List ℤ → Start → Columns → Result (Option Start) Halt → Type 0
+Puts o so s after (Ok (Some t)) = OneLine o so s.word s.list after t.word t.list
+Puts o so s after (Ok None) = LastLine o so s.word s.list after
+Puts o so s after (Err h) = Stopped (line_at o so s.word s.list) h

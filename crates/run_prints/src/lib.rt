@@ -5,227 +5,185 @@ ghost use Rattle.std.specs.Prelude.{◌≡◌, true, ◌-◌, ◌≤◌, ◌<◌
 ghost use Rattle.rules_formats.specs.Format.{I};
 ghost use Rattle.rules_formats.specs.Walk.{room_of};
 ghost use Rattle.rules_object.specs.Operations.{transfer_right};
-ghost use Rattle.object_contents.specs.Layout.{object_at};
+ghost use Rattle.object_contents.specs.Book.{book_of};
 ghost use Rattle.run_registers.specs.Devices.{paper_of};
 ghost use Rattle.run_formats.specs.Scan.{field_of, Scanning};
 ghost use Rattle.run_lists.specs.Cursors.{Stored, Reached};
-ghost use Rattle.run_lists.specs.Troubles.{halt_of};
+ghost use Rattle.run_lists.specs.Troubles.{Fine, Tried};
 ghost use Rattle.run_prints.specs.Puts.{Filled, Does, Puts};
-ghost use Rattle.run_prints.specs.Lines.{lines_at, Written, printed, Prints};
+ghost use Rattle.run_prints.specs.Lines.{lines_at, Writes, printed, Prints};
 
-use object_contents::Layout;
+use object_contents::Object;
+use object_opcodes::Halt;
 use run_formats::{Field, Word};
-use run_lists::{Cursor, Next, Record, Step};
+use run_lists::{Cursor, Start, Step};
 
 const WIDTH: usize = 132;
 
 // The list's next number, across so many columns of a line that is filled to a column.
 fn put_number(
-    o: &[u8],
-    e: Layout,
+    o: &Object,
     store: &[i64],
     c: Cursor,
     line: &mut [u8],
     column: usize,
     width: usize,
-) -> Step
-    requires stored { Stored e o.now store.now }
-    requires reached { Reached (object_at e o.now) c }
+) -> Result<Step, Halt>
+    requires stored { Stored o.now store.now }
+    requires reached { Reached (book_of o.now) c }
     requires filled { Filled line.old column }
-    ensures { Does (object_at e o.now) store.now c (take column line.old) (I width) line.new result }
+    ensures { Does (book_of o.now) store.now c (take column line.old) (I width) line.new result }
 {
-    match run_lists::next_number(o, e, store, c) {
-        Next::Nothing => return Step::StatementEnds,
-        Next::Wrong => return Step::Stops(object_opcodes::BAD_SUBSCRIPT),
-        Next::Cell(a, d) => {
-            if WIDTH - column < width {
-                return Step::Stops(object_opcodes::BAD_FIELD);
-            }
-            run_fields::print_at(store[a], line, column, width);
-            return Step::On(column + width, d);
-        }
+    let Some((cell, rest)) = run_lists::next_number(o, store, c)? else {
+        return Ok(Step::StatementEnds);
+    };
+    if WIDTH - column < width {
+        return Err(Halt::BadField);
     }
+    run_fields::print_field(store[cell], &mut line[column..column + width]);
+    Ok(Step::On(column + width, rest))
 }
 
 // One field.
 fn put_field(
-    o: &[u8],
-    e: Layout,
+    o: &Object,
     store: &[i64],
     c: Cursor,
     line: &mut [u8],
     column: usize,
     f: Field,
-) -> Step
-    requires stored { Stored e o.now store.now }
-    requires reached { Reached (object_at e o.now) c }
+) -> Result<Step, Halt>
+    requires stored { Stored o.now store.now }
+    requires reached { Reached (book_of o.now) c }
     requires filled { Filled line.old column }
-    ensures { Does (object_at e o.now) store.now c (take column line.old) (field_of f) line.new result }
+    ensures { Does (book_of o.now) store.now c (take column line.old) (field_of f) line.new result }
 {
     match f {
-        Field::Number(width) => return put_number(o, e, store, c, line, column, width),
+        Field::Number(width) => put_number(o, store, c, line, column, width),
         Field::Skip(n) => {
             if WIDTH - column < n {
-                return Step::Stops(object_opcodes::BAD_FIELD);
+                return Err(Halt::BadField);
             }
-            return Step::On(column + n, c);
+            Ok(Step::On(column + n, c))
         }
         Field::Text(t) => {
-            if WIDTH - column < 1 {
-                return Step::Stops(object_opcodes::BAD_FIELD);
+            if column == WIDTH {
+                return Err(Halt::BadField);
             }
             line[column] = t;
-            return Step::On(column + 1, c);
+            Ok(Step::On(column + 1, c))
         }
-        Field::Slash => return Step::RecordEnds,
+        Field::Slash => Ok(Step::RecordEnds),
     }
 }
 
-// One line, from a word on, with what is left of the list.
-fn put_line(o: &[u8], e: Layout, store: &[i64], line: &mut [u8], word: usize, c: Cursor) -> Record
-    requires stored { Stored e o.now store.now }
-    requires reached { Reached (object_at e o.now) c }
-    requires scanning { Scanning (object_at e o.now).formats word }
+// One line; answers where the next begins, unless the line is the last.
+fn put_line(o: &Object, store: &[i64], line: &mut [u8], start: Start) -> Result<Option<Start>, Halt>
+    requires stored { Stored o.now store.now }
+    requires reached { Reached (book_of o.now) start.list }
+    requires scanning { Scanning (book_of o.now).formats start.word }
     requires line_len { length line.old ≡ 132 }
-    ensures { Puts (object_at e o.now) store.now word c line.new result }
+    ensures { Puts (book_of o.now) store.now start line.new result }
 {
-    run_fields::fill(line, b' ');
-    let mut j = word;
-    let mut left = c;
-    let mut column: usize = 0;
+    line.fill(b' ');
+    let mut at = start;
+    let mut column = 0;
     loop {
-        match run_formats::word_at(o, e, j) {
+        match run_formats::word_at(o, at.word) {
             Word::End(again) => {
-                if run_lists::any_left(left) {
-                    return Record::More(again, left);
+                if run_lists::any_left(at.list) {
+                    return Ok(Some(Start { word: again, ..at }));
                 }
-                return Record::Last;
+                return Ok(None);
             }
-            Word::Of(f) => match put_field(o, e, store, left, line, column, f) {
-                Step::RecordEnds => return Record::More(j + 1, left),
-                Step::StatementEnds => return Record::Last,
-                Step::Stops(h) => return Record::Stops(h),
-                Step::On(next, rest) => {
+            Word::Of(f) => match put_field(o, store, at.list, line, column, f)? {
+                Step::RecordEnds => {
+                    return Ok(Some(Start {
+                        word: at.word + 1,
+                        ..at
+                    }));
+                }
+                Step::StatementEnds => return Ok(None),
+                Step::On(next, list) => {
                     column = next;
-                    left = rest;
+                    at = Start {
+                        word: at.word + 1,
+                        list,
+                    };
                 }
             },
         }
-        j += 1;
     }
 }
 
-// The number of the halt that the lines come to, or 0. The line that is lent is written over.
+// Whether the lines come to a halt. The line that is lent is written over.
 fn try_lines(
-    o: &[u8],
-    e: Layout,
+    o: &Object,
     store: &[i64],
     line: &mut [u8],
-    word: usize,
-    c: Cursor,
+    start: Start,
     room: usize,
-) -> u32
-    requires stored { Stored e o.now store.now }
-    requires reached { Reached (object_at e o.now) c }
-    requires scanning { Scanning (object_at e o.now).formats word }
+) -> Result<(), Halt>
+    requires stored { Stored o.now store.now }
+    requires reached { Reached (book_of o.now) start.list }
+    requires scanning { Scanning (book_of o.now).formats start.word }
     requires line_len { length line.old ≡ 132 }
-    ensures { result ≡ halt_of (lines_at (object_at e o.now) store.now room word c) }
+    ensures { Tried (lines_at (book_of o.now) store.now room start) result }
 {
-    let mut j = word;
-    let mut left = c;
-    let mut space = room;
-    loop {
-        match put_line(o, e, store, line, j, left) {
-            Record::Stops(h) => return h,
-            Record::Last => {
-                if space == 0 {
-                    return object_opcodes::RAN_OUT;
-                }
-                return 0;
-            }
-            Record::More(next, rest) => {
-                if space == 0 {
-                    return object_opcodes::RAN_OUT;
-                }
-                j = next;
-                left = rest;
-            }
-        }
-        space -= 1;
+    let mut at = start;
+    for _ in 0..room {
+        let Some(next) = put_line(o, store, line, at)? else {
+            return Ok(());
+        };
+        at = next;
     }
+    put_line(o, store, line, at)?;
+    Err(Halt::RanOut)
 }
 
 // Lines that were tried, written below those that are there already; answers how many there are then.
 fn put_lines(
-    o: &[u8],
-    e: Layout,
+    o: &Object,
     store: &[i64],
     lines: &mut [u8],
     written: usize,
-    word: usize,
-    c: Cursor,
-) -> usize
-    requires stored { Stored e o.now store.now }
-    requires reached { Reached (object_at e o.now) c }
-    requires scanning { Scanning (object_at e o.now).formats word }
+    start: Start,
+) -> Result<usize, Halt>
+    requires stored { Stored o.now store.now }
+    requires reached { Reached (book_of o.now) start.list }
+    requires scanning { Scanning (book_of o.now).formats start.word }
     requires written_bound { written ≤ room_of lines.old }
-    requires c_value { halt_of (lines_at (object_at e o.now) store.now (room_of lines.old - written) word c) ≡ 0 }
-    ensures { Written (lines_at (object_at e o.now) store.now (room_of lines.old - written) word c) lines.old lines.new written result }
+    requires tried { Fine (lines_at (book_of o.now) store.now (room_of lines.old - written) start) }
+    ensures { Writes (lines_at (book_of o.now) store.now (room_of lines.old - written) start) lines.old lines.new written result }
 {
-    let mut j = word;
-    let mut left = c;
+    let mut at = start;
     let mut n = written;
     loop {
-        let at = WIDTH * n;
-        let end = at + WIDTH;
-        match put_line(o, e, store, &mut lines[at..end], j, left) {
-            Record::Stops(_) => return n,
-            Record::Last => return n + 1,
-            Record::More(next, rest) => {
-                j = next;
-                left = rest;
-            }
-        }
+        let next = put_line(o, store, &mut lines[WIDTH * n..WIDTH * n + WIDTH], at)?;
         n += 1;
+        let Some(rest) = next else {
+            return Ok(n);
+        };
+        at = rest;
     }
 }
 
-// The number of the halt, or 0, and how many lines are written.
-#[derive(Drop)]
-pub struct Printed {
-    pub halt: u32,
-    pub written: usize,
-}
-
-// PRINT by the transfer x, on paper of which the first lines are written.
+// PRINT by the transfer x, on paper of which the first lines are written; answers how many there are then.
 pub fn print(
-    o: &[u8],
-    e: Layout,
+    o: &Object,
     x: usize,
     store: &[i64],
     lines: &mut [u8],
     written: usize,
-) -> Printed
-    requires stored { Stored e o.now store.now }
-    requires x_bound { x < e.transfer_count }
-    requires x_value { transfer_right (object_at e o.now) x ≡ true }
+) -> Result<usize, Halt>
+    requires stored { Stored o.now store.now }
+    requires x_bound { x < o.now.layout.transfer_count }
+    requires x_value { transfer_right (book_of o.now) x ≡ true }
     requires written_bound { written ≤ room_of lines.old }
-    ensures { Prints lines.old written (printed (object_at e o.now) x store.now (paper_of written lines.old)) lines.new result }
+    ensures { Prints lines.old written (printed (book_of o.now) x store.now (paper_of written lines.old)) lines.new result }
 {
-    let start = run_lists::start_of(o, e, x);
-    let list = start.list;
+    let start = run_lists::start_of(o, x);
     let mut scratch = [b' '; WIDTH];
-    let room = lines.len() / WIDTH - written;
-    let halt = try_lines(o, e, store, &mut scratch, start.word, list, room);
-    if halt != 0 {
-        return Printed {
-            halt: halt,
-            written: written,
-        };
-    }
-    let end = put_lines(o, e, store, lines, written, start.word, list);
-    Printed {
-        halt: 0,
-        written: end,
-    }
+    try_lines(o, store, &mut scratch, start, lines.len() / WIDTH - written)?;
+    put_lines(o, store, lines, written, start)
 }

@@ -14,13 +14,13 @@ use Rattle.rules_formats.specs.Fields.{field_read}
 use Rattle.rules_formats.specs.Walk.{bad_subscript, ran_out, bad_field, Outcome, fine, trouble, then, given, provided, Columns, Taken, taken, on_card, cards}
 use Rattle.rules_object.specs.Object.{Object}
 use Rattle.rules_object.specs.Machine.{Spot, spot_get, spot_set}
-use Rattle.object_contents.specs.declared.Layout.{Layout}
-use Rattle.object_contents.specs.Layout.{object_at}
+use Rattle.object_contents.specs.declared.placed.Object.{Object as Lent}
+use Rattle.object_contents.specs.Book.{book_of}
 use Rattle.run_formats.specs.Scan.{fields_at, scan_at}
 use Rattle.run_lists.specs.declared.Cursor.{Cursor}
 use Rattle.run_lists.specs.Cursors.{left_of}
 use Rattle.run_reads.specs.Steps.{on, Card, more, last, follow, step_of, card_of}
-use Rattle.run_reads.specs.Takes.{card_at, OneCard, cards_at}
+use Rattle.run_reads.specs.Takes.{card_at, OneCard, cards_on}
 
 -- what comes after a card
 abbrev pub ended : {S Item : Type 0} → List Columns → (List Field → List Item → S → Outcome (Taken S)) → Card S Item → Outcome (Taken S)
@@ -64,23 +64,23 @@ module _ {S Item : Type 0} (ceiling : ℕ) (get : S → Item → Option ℤ) (se
   by_card (H c ∷ fs) is s columns = passing (leb 1 (length columns)) fs is s (drop 1 columns) (by_card fs is s (drop 1 columns))
   by_card (new_record ∷ fs) is s columns = refl
 
-pub no_cards : (o : Object) (k : Rule) (word : ℕ) (c : Cursor) (so : List ℤ) → cards_at o k [] word c so ≡ trouble ran_out
-unfolding cards_at
+pub no_cards : (o : Object) (k : Rule) (word : ℕ) (c : Cursor) (so : List ℤ) → cards_on o k [] word c so ≡ trouble ran_out
+unfolding cards_on
 no_cards o k word c so = refl
 
-module _ (e : Layout) (s : List ℕ) (k : Rule) (cs : List Columns) (word : ℕ) (c : Cursor) (before : List ℤ) (card : Columns) where
+module _ (ob : Lent) (cs : List Columns) (word : ℕ) (c : Cursor) (before : List ℤ) (card : Columns) where
   abbrev o : Object
-  o = object_at e s
+  o = book_of ob
 
-  pub by_cards : (l : Outcome (Card (List ℤ) Spot)) → card_at o k word c before card ≡ l
-      → cards_at o k (card ∷ cs) word c before ≡ then l (ended cs (cards k.ceiling spot_get spot_set (scan_at o.formats word) cs))
-  unfolding cards_at
+  pub by_cards : (l : Outcome (Card (List ℤ) Spot)) → card_at o ob.rule word c before card ≡ l
+      → cards_on o ob.rule (card ∷ cs) word c before ≡ then l (ended cs (cards ob.rule.ceiling spot_get spot_set (scan_at o.formats word) cs))
+  unfolding cards_on
   by_cards l q =
-      by_card k.ceiling spot_get spot_set (scan_at o.formats word) cs (cards k.ceiling spot_get spot_set (scan_at o.formats word) cs) (fields_at o.formats word) (left_of o c) before card
-      ∙ ap (λ (x : Outcome (Card (List ℤ) Spot)). then x (ended cs (cards k.ceiling spot_get spot_set (scan_at o.formats word) cs))) q
+      by_card ob.rule.ceiling spot_get spot_set (scan_at o.formats word) cs (cards ob.rule.ceiling spot_get spot_set (scan_at o.formats word) cs) (fields_at o.formats word) (left_of o c) before card
+      ∙ ap (λ (x : Outcome (Card (List ℤ) Spot)). then x (ended cs (cards ob.rule.ceiling spot_get spot_set (scan_at o.formats word) cs))) q
 
-  pub more_cards : (after : List ℤ) (j : ℕ) (d : Cursor) → OneCard e s k word c before card after j d → cards_at o k (card ∷ cs) word c before ≡ cards_at o k cs j d after
-  unfolding cards_at scan_at
+  pub more_cards : (after : List ℤ) (j : ℕ) (d : Cursor) → OneCard ob word c before card after j d → cards_on o ob.rule (card ∷ cs) word c before ≡ cards_on o ob.rule cs j d after
+  unfolding cards_on scan_at
   more_cards after j d l =
       by_cards _ l.is
-      ∙ ap (λ (fs : List Field). cards k.ceiling spot_get spot_set fs cs (fields_at o.formats j) (left_of o d) after) (ap (fields_at o.formats) (sym l.along.same))
+      ∙ ap (λ (fs : List Field). cards ob.rule.ceiling spot_get spot_set fs cs (fields_at o.formats j) (left_of o d) after) (ap (fields_at o.formats) (sym l.along.same))

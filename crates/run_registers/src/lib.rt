@@ -1,80 +1,59 @@
-// The registers of the machine, and the only functions that make them.
+// The registers of the machine, and how an instruction turns them.
 #![tactic(auto)]
 
 ghost use Rattle.std.specs.Prelude.{◌≡◌, ◌<◌};
 ghost use Rattle.number.specs.Code.{loss_of};
-ghost use Rattle.rules_shared.specs.Choose.{marked};
-ghost use Rattle.run_registers.specs.Registers.{regs, going_to, onward, marking};
+ghost use Rattle.run_registers.specs.Registers.{going_to, onward, marking};
 
 use number::Loss;
+use object_opcodes::Halt;
 
 // The instruction to be done, how many places of the stack are used, and the drop mark.
-#[derive(Clone, Copy)]
+#[derive(Clone, Copy, PartialEq, Eq, Debug)]
 pub struct Regs {
     pub index: usize,
     pub height: usize,
     pub mark: u32,
 }
 
-#[derive(Drop)]
+#[derive(Clone, Copy, PartialEq, Eq, Debug)]
 pub enum Turn {
     Next(Regs),
-    Halt(u32),
+    Halt(Halt),
     // a READ or PRINT, which is not done here
     Transfer,
 }
 
-pub fn of_state(index: usize, height: usize, mark: u32) -> Regs
-    ensures { result ≡ regs index height mark }
-{
-    Regs {
-        index: index,
-        height: height,
-        mark: mark,
-    }
-}
-
-pub fn going_to(r: Regs, index: usize, height: usize) -> Regs
-    ensures { result ≡ going_to index height r }
-{
-    Regs {
-        index: index,
-        height: height,
-        mark: r.mark,
-    }
-}
-
-pub fn onward(r: Regs, height: usize) -> Regs
-    requires { r.index < 4096 }
-    ensures { result ≡ onward height r }
-{
-    Regs {
-        index: r.index + 1,
-        height: height,
-        mark: r.mark,
-    }
-}
-
-fn mark_after(mark: u32, loss: Loss, index: usize) -> u32
-    requires { index < 4096 }
-    ensures { result ≡ marked mark (loss_of loss) index }
-{
-    if number::is_loss(loss) {
-        if mark == 0 {
-            return index as u32 + 1;
+impl Regs {
+    pub fn going_to(self, index: usize, height: usize) -> Regs
+        ensures { result ≡ going_to index height self }
+    {
+        Regs {
+            index,
+            height,
+            ..self
         }
     }
-    mark
-}
 
-// Told what the instruction lost.
-pub fn marking(r: Regs, loss: Loss) -> Regs
-    requires { r.index < 4096 }
-    ensures { result ≡ marking (loss_of loss) r }
-{
-    Regs {
-        index: r.index,
-        height: r.height,
-        mark: mark_after(r.mark, loss, r.index),
+    pub fn onward(self, height: usize) -> Regs
+        requires { self.index < 4096 }
+        ensures { result ≡ onward height self }
+    {
+        self.going_to(self.index + 1, height)
+    }
+
+    // Told what the instruction lost.
+    pub fn marking(self, loss: Loss) -> Regs
+        requires { self.index < 4096 }
+        ensures { result ≡ marking (loss_of loss) self }
+    {
+        if loss.digits && self.mark == 0 {
+            Regs {
+                mark: self.index as u32 + 1,
+                ..self
+            }
+        } else {
+            self
+        }
     }
 }

@@ -1,28 +1,28 @@
 -- Subscripts, signed words and places, on plain numbers and lists.
 -- Assumes nothing.
 use mathlib.Core.Path.{◌≡◌, refl, sym, ap, ap₂, ◌∙◌, subst}
-use mathlib.Core.Bool.{Bool, true, false, cond}
+use mathlib.Core.Bool.{true, false, cond}
 use mathlib.Core.List.{List}
-use mathlib.Core.Option.{none, some}
+use mathlib.Core.Option.{Option, some}
 use Prim.Native.Nat.{ℕ, zero, suc, ◌+◌, ◌-◌, ◌*◌, ◌^◌, ◌≤◌, ◌<◌}
-use native.Mathlib.Nat.{mul-le-mul_right, mul_comm, suc-mul}
 use native.Mathlib.Omega.{arith}
 use lib.Dec.{ltb}
 use lib.ListN.{length}
-use lib.IntN.{ℤ, pos, negsuc, nat_abs, ◌+ℤ◌, ◌-ℤ◌, ◌*ℤ◌}
+use lib.IntN.{ℤ, pos, negsuc, nat_abs, ◌+ℤ◌, ◌*ℤ◌}
 use lib.Signed.{lt_z}
-use borrow.Author.Tests.{ltb-true, ltb-false, lt-ltb, le-ltb}
-use mir.Syntax.{w64}
-use mir.Val.{to_z, of_z, SFits}
-use mir.Facts.{to_z_pos}
+use borrow.Author.Tests.{lt-ltb}
+use mir.Syntax.{w32, w64}
+use Rattle.std.specs.Prelude.{FitsSigned}
+use Rattle.std.specs.Int.{cast_signed}
+use mir.Val.{to_z, of_z}
 use Rattle.number.proofs.Whole.{back, abs_add, abs_mul_le, sfits_abs}
 use Rattle.rules_object.specs.Bytes.{signed_of}
-use Rattle.rules_shared.specs.Choose.{SubscriptParts, below, in_dimension, right, by_columns, place, positive, all_positive}
+use Rattle.rules_shared.specs.Choose.{SubscriptParts, in_dimension, right, by_columns, place, positive}
 use Rattle.rules_shared.proofs.Places as places
 use Rattle.rules_object.specs.Machine.{cell, subscript_of, place_of}
 use Rattle.object_words.specs.Word.{word_at}
 use Rattle.object_contents.specs.Layout.{element_at}
-use Rattle.run_subscripts.specs.Elements.{subscript_at, Worked, SubscriptIn, ElementIn}
+use Rattle.run_subscripts.specs.Elements.{subscript_at, SubscriptIn, ElementIn}
 
 pub apart : true ≡ false → ⊥
 apart e = let z : ◌≡◌ {A = ℕ} 0 1 = cc in omega arith
@@ -34,129 +34,51 @@ above (negsuc n) = refl
 
 -- ---- a subscript's place
 
-pub in_none : (d : ℕ) (z : ℤ) → positive z ≡ false → none ≡ in_dimension d z
-in_none d (pos zero) e = refl
-in_none d (pos (suc n)) e = absurd (apart e)
-in_none d (negsuc n) e = refl
-
-pub positive_size : (z : ℤ) → positive z ≡ true → 0 < nat_abs z
-positive_size (pos zero) e = absurd (apart (sym e))
-positive_size (pos (suc n)) e = omega arith
-positive_size (negsuc n) e = omega arith
-
-pub in_some : (d : ℕ) (z : ℤ) → positive z ≡ true → (n : ℕ) → n ≡ nat_abs z - 1 → n < d → some n ≡ in_dimension d z
-in_some d (pos zero) e n q l = absurd (apart (sym e))
-in_some d (pos (suc m)) e n q l =
-    let same : n ≡ m = omega arith in
-    ap some same ∙ ap (λ b. below b m) (sym (lt-ltb m d (omega arith)))
-in_some d (negsuc m) e n q l = absurd (apart (sym e))
-
-pub in_far : (d : ℕ) (z : ℤ) → positive z ≡ true → (n : ℕ) → n ≡ nat_abs z - 1 → d ≤ n → none ≡ in_dimension d z
-in_far d (pos zero) e n q l = absurd (apart (sym e))
-in_far d (pos (suc m)) e n q l = ap (λ b. below b m) (sym (le-ltb m d (omega arith)))
-in_far d (negsuc m) e n q l = absurd (apart (sym e))
-
-pub right_below : (d : ℕ) (s : SubscriptParts) (p : ℕ) → some p ≡ right d s → p < d
-right_below d s p e = (places.right_is d s p (sym e)).1
-
-pub columns_below : (rows columns i j : ℕ) → i < rows → j < columns → j * rows + i < rows * columns
-columns_below rows columns i j l m =
-    let n : suc j * rows ≤ columns * rows = mul-le-mul_right rows m in
-    omega (arith, suc-mul j rows, mul_comm columns rows)
-
-module _ (rows columns : ℕ) (s t : SubscriptParts) where
-  pub place_none : none ≡ right rows s → none ≡ place rows columns s t
-  unfolding place
-  place_none e = ap (λ i. by_columns rows i (right columns t)) e
-
-  pub place_none_2 : (i : ℕ) → some i ≡ right rows s → none ≡ right columns t → none ≡ place rows columns s t
-  unfolding place
-  place_none_2 i e f = ap₂ (λ i j. by_columns rows i j) e f
-
-  pub place_some : (i j : ℕ) → some i ≡ right rows s → some j ≡ right columns t → some (j * rows + i) ≡ place rows columns s t
-  unfolding place
-  place_some i j e f = ap₂ (λ i j. by_columns rows i j) e f
-
-  pub place_below : (p : ℕ) → some p ≡ place rows columns s t → p < rows * columns
-  place_below p e = places.place_below rows columns s t p (sym e)
+pub place_below : (rows columns : ℕ) (s t : SubscriptParts) (p : ℕ) → some p ≡ place rows columns s t → p < rows * columns
+place_below rows columns s t p e = places.place_below rows columns s t p (sym e)
 
 -- ---- a signed word
 
-pub signed_low : (w : ℕ) → w < 2147483648 → to_z w64 w ≡ signed_of w
+pub signed_cast : (w : ℕ) → cast_signed w32 w ≡ signed_of w
 unfolding signed_of
-signed_low w l = to_z_pos w64 (omega arith) ∙ ap (λ b. cond b (pos w) (negsuc (2 ^ 32 - 1 - w))) (sym (lt-ltb w 2147483648 l))
+signed_cast w = let e : 4294967296 - suc w ≡ 4294967295 - w = omega arith in ap (λ n. cond (ltb w (2 ^ 31)) (pos w) (negsuc n)) e
 
-sub_high : (w : ℕ) → 2147483648 ≤ w → w < 4294967296 → pos w -ℤ pos 4294967296 ≡ signed_of w
-unfolding signed_of
-sub_high w l m =
-    let e : 4294967296 - suc w ≡ 4294967296 - 1 - w = omega arith in
-    ap (λ b. cond b (negsuc (4294967296 - suc w)) (pos (w - 4294967296))) (lt-ltb w 4294967296 m)
-    ∙ ap negsuc e ∙ ap (λ b. cond b (pos w) (negsuc (2 ^ 32 - 1 - w))) (sym (le-ltb w 2147483648 l))
+-- ---- a subscript's value: multiplier, cell's number and addend below 2 ^ 31, as they are read back
 
-signed_small : (w : ℕ) → w < 4294967296 → nat_abs (signed_of w) ≤ 2147483648
-unfolding signed_of
-signed_small w m = by (ltb w 2147483648) refl
-  where
-    by : (b : Bool) → ltb w 2147483648 ≡ b → nat_abs (cond b (pos w) (negsuc (2 ^ 32 - 1 - w))) ≤ 2147483648
-    by true e = let l = ltb-true w 2147483648 e in omega arith
-    by false e = let l = ltb-false w 2147483648 e in omega arith
+abbrev read : ℤ → ℤ
+read z = to_z w64 (of_z w64 z)
 
-module _ (w : ℕ) (l : 2147483648 ≤ w) (m : w < 4294967296) where
-  high_is : to_z w64 w -ℤ pos 4294967296 ≡ signed_of w
-  high_is = ap (λ z. z -ℤ pos 4294967296) (to_z_pos w64 {n = w} (omega arith)) ∙ sub_high w l m
+abbrev product : ℤ → ℤ → ℤ
+product t v = read (read t *ℤ read v)
 
-  pub high_fits : SFits w64 (to_z w64 w -ℤ pos 4294967296)
-  high_fits = subst (SFits w64) (sym high_is) (sfits_abs w64 (signed_of w) (omega (arith, signed_small w m)))
+module _ (t v u : ℤ) (lt : nat_abs t < 2 ^ 31) (lv : nat_abs v < 2 ^ 31) (lu : nat_abs u < 2 ^ 31) where
+  product_small : nat_abs (t *ℤ v) ≤ 2 ^ 31 * 2 ^ 31
+  product_small = abs_mul_le t v {P = 2 ^ 31} (omega arith) (omega arith)
 
-  pub high_back : to_z w64 (of_z w64 (to_z w64 w -ℤ pos 4294967296)) ≡ signed_of w
-  high_back = ap (λ z. to_z w64 (of_z w64 z)) high_is ∙ back (signed_of w) (omega (arith, signed_small w m))
+  sum_small : nat_abs (t *ℤ v +ℤ u) < 2 ^ 63
+  sum_small = omega (arith, abs_add (t *ℤ v) u, product_small)
 
--- ---- a subscript's value: multiplier, cell's number and addend below 2 ^ 31
+  sum_is : product t v +ℤ read u ≡ t *ℤ v +ℤ u
+  sum_is = ap₂ ◌+ℤ◌ (ap read (ap₂ ◌*ℤ◌ (back t (omega arith)) (back v (omega arith))) ∙ back (t *ℤ v) (omega (arith, product_small))) (back u (omega arith))
 
-module _ (t : ℕ) (v u : ℤ) (lt : t < 2 ^ 31) (lv : nat_abs v < 2 ^ 31) (lu : nat_abs u < 2 ^ 31) where
-  times_is : to_z w64 t *ℤ to_z w64 (of_z w64 v) ≡ pos t *ℤ v
-  times_is = ap₂ ◌*ℤ◌ (to_z_pos w64 {n = t} (omega arith)) (back v (omega arith))
+  sum_fits : FitsSigned w64 (product t v +ℤ read u)
+  sum_fits = subst (FitsSigned w64) (sym sum_is) (sfits_abs w64 (t *ℤ v +ℤ u) sum_small)
 
-  times_small : nat_abs (pos t *ℤ v) ≤ 2 ^ 31 * 2 ^ 31
-  times_small = abs_mul_le (pos t) v {P = 2 ^ 31} (omega arith) (omega arith)
-
-  pub times_fits : SFits w64 (to_z w64 t *ℤ to_z w64 (of_z w64 v))
-  times_fits = subst (SFits w64) (sym times_is) (sfits_abs w64 (pos t *ℤ v) (omega (arith, times_small)))
-
-  times_back : to_z w64 (of_z w64 (to_z w64 t *ℤ to_z w64 (of_z w64 v))) ≡ pos t *ℤ v
-  times_back = ap (λ z. to_z w64 (of_z w64 z)) times_is ∙ back (pos t *ℤ v) (omega (arith, times_small))
-
-  plus_is : to_z w64 (of_z w64 (to_z w64 t *ℤ to_z w64 (of_z w64 v))) +ℤ to_z w64 (of_z w64 u) ≡ pos t *ℤ v +ℤ u
-  plus_is = ap₂ ◌+ℤ◌ times_back (back u (omega arith))
-
-  plus_small : nat_abs (pos t *ℤ v +ℤ u) < 9223372036854775808
-  plus_small = omega (arith, abs_add (pos t *ℤ v) u, times_small)
-
-  pub plus_fits : SFits w64 (to_z w64 (of_z w64 (to_z w64 t *ℤ to_z w64 (of_z w64 v))) +ℤ to_z w64 (of_z w64 u))
-  plus_fits = subst (SFits w64) (sym plus_is) (sfits_abs w64 (pos t *ℤ v +ℤ u) plus_small)
-
-  pub plus_back : to_z w64 (of_z w64 (to_z w64 (of_z w64 (to_z w64 t *ℤ to_z w64 (of_z w64 v))) +ℤ to_z w64 (of_z w64 u))) ≡ pos t *ℤ v +ℤ u
-  plus_back = ap (λ z. to_z w64 (of_z w64 z)) plus_is ∙ back (pos t *ℤ v +ℤ u) plus_small
+  sum_back : read (product t v +ℤ read u) ≡ t *ℤ v +ℤ u
+  sum_back = ap read sum_is ∙ back (t *ℤ v +ℤ u) sum_small
 
 -- ---- a subscript's entry: its parts as the code has them
 
-module _ (s : List ℕ) (b : ℕ) (so : List ℤ) (h : SubscriptIn s b so) (t a : ℕ) (u : ℤ) (et : t ≡ word_at s b) (ea : a ≡ word_at s (b + 4)) (eu : u ≡ signed_of (word_at s (b + 8))) where
-  variable_is : to_z w64 (of_z w64 (cell so a)) ≡ cell so (word_at s (b + 4))
-  variable_is = ap (λ m. to_z w64 (of_z w64 (cell so m))) ea ∙ back (cell so (word_at s (b + 4))) (omega (arith, h.at.small))
+module _ (s : List ℕ) (b : ℕ) (so : List ℤ) (h : SubscriptIn s b so) (t : ℤ) (a : ℕ) (u : ℤ) (et : t ≡ pos (word_at s b)) (ea : a ≡ word_at s (b + 4)) (eu : u ≡ signed_of (word_at s (b + 8))) where
+  abbrev v : ℤ
+  v = cell so (word_at s (b + 4))
 
-  plus_same : to_z w64 (of_z w64 u) ≡ signed_of (word_at s (b + 8))
-  plus_same = ap (λ z. to_z w64 (of_z w64 z)) eu ∙ back (signed_of (word_at s (b + 8))) (omega (arith, h.plus))
+  pub value_fits : FitsSigned w64 (product t (cell so a) +ℤ read u)
+  value_fits = subst (FitsSigned w64) (λ i. product (sym et i) (cell so (sym ea i)) +ℤ read (sym eu i)) (sum_fits (pos (word_at s b)) v (signed_of (word_at s (b + 8))) h.times h.at.small h.plus)
 
-  pub parts_small : Worked t (to_z w64 (of_z w64 (cell so a))) (to_z w64 (of_z w64 u))
-  parts_small =
-      record {
-        times = omega (arith, h.times);
-        variable = subst (λ z. nat_abs z < 2 ^ 31) (sym variable_is) h.at.small;
-        plus = subst (λ z. nat_abs z < 2 ^ 31) (sym plus_same) h.plus;
-      }
-
-  pub parts_are : (d : ℕ) → right d (record { times = t; variable = to_z w64 (of_z w64 (cell so a)); plus = to_z w64 (of_z w64 u) }) ≡ right d (subscript_of so (subscript_at s b))
-  parts_are d = λ i. right d (record { times = et i; variable = variable_is i; plus = plus_same i })
+  pub value_is : (d : ℕ) → in_dimension d (read (product t (cell so a) +ℤ read u)) ≡ right d (subscript_of so (subscript_at s b))
+  value_is d =
+      ap (in_dimension d) ((λ i. read (product (et i) (cell so (ea i)) +ℤ read (eu i))) ∙ sum_back (pos (word_at s b)) v (signed_of (word_at s (b + 8))) h.times h.at.small h.plus)
 
 -- ---- an element's entry
 
@@ -178,11 +100,18 @@ module _ (s : List ℕ) (b : ℕ) (so : List ℤ) where
       let l = place_below (word_at s (b + 4)) (word_at s (b + 8)) _ _ n e in
       omega (arith, h.span)
 
-pub all_first : (a b c : ℤ) → positive a ≡ false → false ≡ all_positive a b c
-all_first a b c e = rw e refl
+  -- the subscripts' places as the code has them
+  pub element_is : (m n : ℕ) → m ≡ word_at s (b + 4) → n ≡ word_at s (b + 8)
+      → (i j : Option ℕ) → i ≡ right m (subscript_of so (subscript_at s (b + 12))) → j ≡ right n (subscript_of so (subscript_at s (b + 24)))
+      → by_columns m i j ≡ place_of so (element_at s b)
+  unfolding place
+  element_is m n em en i j ei ej =
+      ap₂ (by_columns m) ei ej
+      ∙ (λ k. place (em k) (en k) (subscript_of so (subscript_at s (b + 12))) (subscript_of so (subscript_at s (b + 24))))
+      ∙ element_alike
 
-pub all_second : (a b c : ℤ) → positive a ≡ true → positive b ≡ false → false ≡ all_positive a b c
-all_second a b c e f = rw (e, f) refl
-
-pub all_third : (a b c : ℤ) → positive a ≡ true → positive b ≡ true → positive c ≡ all_positive a b c
-all_third a b c e f = rw (e, f) refl
+  pub element_small : ElementIn s b so → (n : ℕ) → some n ≡ place_of so (element_at s b) → n < 4096
+  unfolding element_at
+  element_small h n e =
+      let l = place_below (word_at s (b + 4)) (word_at s (b + 8)) _ _ n e in
+      omega (arith, h.few)

@@ -1,13 +1,10 @@
 -- What the code asks of an element's entry, and the place that it finds.
 -- Assumes nothing.
 use Rattle.std.specs.Prelude.{List, ℕ, ◌+◌, ◌*◌, ◌^◌, ◌≤◌, ◌<◌, length, ℤ, nat_abs}
-use Rattle.std.proofs.Math.Option.{Option, none, some}
 use Rattle.rules_object.specs.Object.{SubscriptEntry}
 use Rattle.rules_object.specs.Machine.{cell}
 use Rattle.rules_object.specs.Bytes.{signed_of}
 use Rattle.object_words.specs.Word.{word_at}
-use Rattle.run_subscripts.specs.declared.Place.{Place}
-use Rattle.run_subscripts.specs.declared.Place.TheVariants.{At, Nowhere}
 
 -- a cell of the store, and its number below 2 ^ 31
 pub record Cell (so : List ℤ) (a : ℕ) : Type 0 where
@@ -17,12 +14,6 @@ pub record Cell (so : List ℤ) (a : ℕ) : Type 0 where
 -- a subscript at byte b: multiplier, cell, addend
 abbrev pub subscript_at : List ℕ → ℕ → SubscriptEntry
 subscript_at s b = record { times = word_at s b; cell = word_at s (b + 4); plus = signed_of (word_at s (b + 8)) }
-
--- a subscript's parts, each within nine digits
-pub record Worked (t : ℕ) (v u : ℤ) : Type 0 where
-  pub times : t < 2 ^ 31
-  pub variable : nat_abs v < 2 ^ 31
-  pub plus : nat_abs u < 2 ^ 31
 
 pub record SubscriptIn (s : List ℕ) (b : ℕ) (so : List ℤ) : Type 0 where
   pub whole : b + 12 ≤ length s
@@ -37,7 +28,3 @@ pub record ElementIn (s : List ℕ) (b : ℕ) (so : List ℤ) : Type 0 where
   pub second : SubscriptIn s (b + 24) so
   pub span : word_at s b + word_at s (b + 4) * word_at s (b + 8) ≤ length so
   pub few : word_at s (b + 4) * word_at s (b + 8) ≤ 4096
-
-abbrev pub place_found : Place → Option ℕ
-place_found (At n) = some n
-place_found Nowhere = none

@@ -10,7 +10,6 @@ use native.Mathlib.Omega.{arith}
 use borrow.Author.Tests.{ltb-true}
 use lib.ListN.{length}
 use lib.IntN.{ℤ}
-use Rattle.number.specs.declared.Rule.{Rule}
 use Rattle.number.specs.Number.{Fits, digits_rule}
 use Rattle.number.specs.Number as numbers
 use Rattle.number.specs.Code.{Narrow}
@@ -20,39 +19,44 @@ use Rattle.rules_object.specs.Machine.{State, cell, act, step}
 use Rattle.rules_object.proofs.Limited.{limited}
 use Rattle.object_words.specs.Word.{word_at}
 use Rattle.object_contents.specs.declared.Layout.{Layout}
+use Rattle.object_contents.specs.declared.placed.Object.{Object as Lent}
 use Rattle.object_contents.specs.Layout.{object_at}
 use Rattle.object_contents.proofs.Entries.{code_at, code_inside, transfer_length}
 use Rattle.run_operations.proofs.Known.{bounds}
 use Rattle.run_lists.specs.Cursors.{Stored}
-use Rattle.run_reads.specs.Takes.{Ruled}
 use Rattle.run_transfers.specs.Transfers.{word_in, Ready}
 
-module _ (e : Layout) (s : List ℕ) (k : Rule) (i : ℕ) (so kept : List ℤ) (h : Ready e s k i so kept) where
+module _ (ob : Lent) (i : ℕ) (so kept : List ℤ) (h : Ready ob i so kept) where
+  abbrev e : Layout
+  e = ob.layout
+
+  abbrev s : List ℕ
+  s = ob.bytes.now
+
   abbrev o : Object
   o = object_at e s
 
-  pub stored : Stored e s so
+  pub stored : Stored ob so
   stored =
-      let b = bounds e s k h.placed h.right h.rule in
+      let b = bounds ob h.right in
       record {
-        placed = h.placed;
-        narrow = subst Narrow h.rule b.narrow;
+        narrow = subst Narrow ob.ruled b.narrow;
         few = b.cells;
         long = h.long;
-        fit = λ a l. subst (λ (q : numbers.Rule). Fits q (cell so a)) h.rule (h.fit a l);
+        fit = λ a l. subst (λ (q : numbers.Rule). Fits q (cell so a)) ob.ruled (h.fit a l);
       }
 
-  pub ceiling_is : k.ceiling ≡ (rule_of o).ceiling
-  ceiling_is = ap (λ (q : numbers.Rule). q.ceiling) h.rule
+  pub ceiling_is : ob.rule.ceiling ≡ (rule_of o).ceiling
+  ceiling_is = ap (λ (q : numbers.Rule). q.ceiling) ob.ruled
 
-  pub some_digit : Ruled e s k
+  pub some_digit : 10 ≤ ob.rule.ceiling
   unfolding digits_rule
   some_digit =
-      let l = pow-le-pow_right {n = 10} (omega arith) (limited o h.placed.edition h.right).some_digits in
-      record { is = h.rule; ten = omega (arith, l, ceiling_is) }
+      let l = pow-le-pow_right {n = 10} (omega arith) (limited o ob.placed.edition h.right).some_digits in
+      omega (arith, l, ceiling_is)
 
   pub word_inside : e.code + 4 * i + 4 ≤ length s
-  word_inside = code_inside e s h.placed i h.inside
+  word_inside = code_inside e s ob.placed i h.inside
 
   -- the word, its operation and its operand
   module _ (w op x : ℕ) (load : w ≡ word_at s (e.code + 4 * i)) (first : op ≡ w / 2 ^ 24) (rest : x ≡ w % 2 ^ 24) where

@@ -1,52 +1,40 @@
 // A READ or a PRINT, with the cards and the paper.
 #![tactic(auto)]
 
-ghost use Rattle.object_contents.specs.Layout.{object_at};
+ghost use Rattle.object_contents.specs.Book.{book_of};
 ghost use Rattle.run_registers.specs.Devices.{trays_of, Counted};
 ghost use Rattle.run_transfers.specs.Transfers.{Ready, Transfers};
 
-use number::Rule;
-use object_contents::Layout;
+use object_contents::placed::Object;
+use object_opcodes::Halt;
 
-// The number of the halt, or 0; and how many cards are taken and lines written after it.
-#[derive(Drop)]
-pub struct Transferred {
-    pub halt: u32,
+// How many cards are taken and lines written.
+#[derive(Clone, Copy, PartialEq, Eq, Debug, Default)]
+pub struct Trays {
     pub taken: usize,
     pub written: usize,
 }
 
 // The instruction at `index`.
 pub fn transfer(
-    o: &[u8],
-    e: Layout,
-    rule: Rule,
+    o: &Object,
     index: usize,
     store: &mut [i64],
     kept: &mut [i64],
     cards: &[u8],
-    taken: usize,
     lines: &mut [u8],
-    written: usize,
-) -> Transferred
-    requires ready { Ready e o.now rule index store.old kept.old }
-    requires counted { Counted (trays_of cards.now lines.old) taken lines.old written }
-    ensures { Transfers (object_at e o.now) index store.old cards.now taken lines.old written result store.new lines.new }
+    trays: Trays,
+) -> Result<Trays, Halt>
+    requires ready { Ready o.now index store.old kept.old }
+    requires counted { Counted (trays_of cards.now lines.old) trays.taken lines.old trays.written }
+    ensures { Transfers (book_of o.now) index store.old cards.now lines.old trays result store.new lines.new }
 {
-    let w = object_words::load(o, e.code + 4 * index);
-    let x = object_words::index(object_words::operand(w));
+    let w = object_words::load(o.bytes, o.layout.code + 4 * index);
+    let x = object_words::operand(w) as usize;
     if object_words::operation(w) == object_opcodes::READ {
-        let read = run_reads::read(o, e, rule, x, store, kept, cards, taken);
-        return Transferred {
-            halt: read.halt,
-            taken: read.taken,
-            written: written,
-        };
+        let taken = run_reads::read(o, x, store, kept, cards, trays.taken)?;
+        return Ok(Trays { taken, ..trays });
     }
-    let printed = run_prints::print(o, e, x, store, lines, written);
-    Transferred {
-        halt: printed.halt,
-        taken: taken,
-        written: printed.written,
-    }
+    let written = run_prints::print(o, x, store, lines, trays.written)?;
+    Ok(Trays { written, ..trays })
 }

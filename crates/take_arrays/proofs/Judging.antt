@@ -166,19 +166,16 @@ pub record Judged (held : List Held) (declared : List Array) (i : ℕ) : Type 0 
   pub parted : Parted declared i
   pub same : right_arrays false held declared ≡ right_arrays false (held ++ brought parted.before) parted.left
 
-pub record Checking (arrays t : List ℕ) (n m i : ℕ) : Type 0 where
-  pub within : i ≤ m
-  pub part : (held : List Held) (cells : ℕ) (declared : List Array) → Lists held t n cells → arrays ≡ all_words declared → Each Told (array_names declared) → Judged held declared i
+abbrev pub Checking : List ℕ → List ℕ → ℕ → ℕ → Type 0
+Checking arrays t n i =
+    (held : List Held) (cells : ℕ) (declared : List Array) → Lists held t n cells → arrays ≡ all_words declared → Each Told (array_names declared) → Judged held declared i
+
+pub checking_start : (arrays t : List ℕ) (n : ℕ) → Checking arrays t n 0
+unfolding parted_start
+checking_start arrays t n held cells declared l w told =
+    record { parted = parted_start declared; same = ap (λ (x : List Held). right_arrays false x declared) (sym (append-nil held)) }
 
 module _ (arrays t : List ℕ) (n m : ℕ) (h : 7 * m ≡ length arrays) where
-  pub checking_start : Checking arrays t n m 0
-  unfolding parted_start
-  checking_start =
-      record {
-        within = omega arith;
-        part = λ held cells declared l w told. record { parted = parted_start declared; same = ap (λ (x : List Held). right_arrays false x declared) (sym (append-nil held)) };
-      }
-
   step : (i : ℕ) (r : Bool) → RightArray arrays i t n r → i < m → (held : List Held) (cells : ℕ) (declared : List Array) → Lists held t n cells
       → arrays ≡ all_words declared → Each Told (array_names declared) → (j : Judged held declared i) (x : Next declared i j.parted)
       → right_arrays false held declared ≡ r && right_arrays false (held ++ brought (j.parted.before ++ (x.here ∷ []))) x.after
@@ -189,27 +186,23 @@ module _ (arrays t : List ℕ) (n m : ℕ) (h : 7 * m ≡ length arrays) where
       ∙ ap (λ (b : Bool). b && right_arrays false (held ++ brought (p.before ++ (x.here ∷ []))) x.after)
       (sym (right held cells p.before x.here x.after ls (here_words p x arrays w) p.count ts.0 ts.1))
 
-  pub checking_no : (i : ℕ) (r : Bool) → Checking arrays t n m i → i < m → RightArray arrays i t n r → r ≡ false → Dimensions arrays t n false
+  pub checking_no : (i : ℕ) (r : Bool) → Checking arrays t n i → i < m → RightArray arrays i t n r → r ≡ false → Dimensions arrays t n false
   checking_no i r c l right e held cells declared ls w told =
-      let j = c.part held cells declared ls w told in
+      let j = c held cells declared ls w told in
       let x = parted_next j.parted arrays m w h l in
       sym (step i r right l held cells declared ls w told j x ∙ ap (λ (b : Bool). b && right_arrays false (held ++ brought (j.parted.before ++ (x.here ∷ []))) x.after) e)
 
-  pub checking_on : (i : ℕ) (r : Bool) → Checking arrays t n m i → i < m → RightArray arrays i t n r → r ≡ true → Checking arrays t n m (i + 1)
+  pub checking_on : (i : ℕ) (r : Bool) → Checking arrays t n i → i < m → RightArray arrays i t n r → r ≡ true → Checking arrays t n (i + 1)
   unfolding parted_more
-  checking_on i r c l right e =
+  checking_on i r c l right e held cells declared ls w told =
+      let j = c held cells declared ls w told in
+      let x = parted_next j.parted arrays m w h l in
       record {
-        within = omega arith;
-        part = λ held cells declared ls w told.
-            let j = c.part held cells declared ls w told in
-            let x = parted_next j.parted arrays m w h l in
-            record {
-              parted = parted_more j.parted x;
-              same = step i r right l held cells declared ls w told j x ∙ ap (λ (b : Bool). b && right_arrays false (held ++ brought (j.parted.before ++ (x.here ∷ []))) x.after) e;
-            };
+        parted = parted_more j.parted x;
+        same = step i r right l held cells declared ls w told j x ∙ ap (λ (b : Bool). b && right_arrays false (held ++ brought (j.parted.before ++ (x.here ∷ []))) x.after) e;
       }
 
-  pub checking_end : (i : ℕ) → Checking arrays t n m i → m ≤ i → Dimensions arrays t n true
+  pub checking_end : (i : ℕ) → Checking arrays t n i → m ≤ i → Dimensions arrays t n true
   checking_end i c l held cells declared ls w told =
-      let j = c.part held cells declared ls w told in
+      let j = c held cells declared ls w told in
       sym (j.same ∙ ap (right_arrays false (held ++ brought j.parted.before)) (parted_end j.parted arrays m w h l))

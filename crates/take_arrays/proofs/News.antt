@@ -6,10 +6,10 @@ use native.Mathlib.Omega.{arith}
 use mathlib.Core.Bool.{Bool, true, false, ◌&&◌, ◌||◌, not}
 use mathlib.Core.List.{List, [], ◌∷◌, ◌++◌}
 use mathlib.Core.Option.{none, some}
-use lib.Dec.{eqb, leb}
+use lib.Dec.{leb}
 use lib.ListN.{length, get_or, drop}
 use lib.Seq.{get_or-drop, drop-drop}
-use borrow.Author.Tests.{eq-eqb, ne_eqb, le-leb}
+use borrow.Author.Tests.{le-leb}
 use Rattle.rules_shared.specs.Lists.{Each, each_more}
 use Rattle.rules_text.specs.Trees.{Name, Array, array, array_names, value_of}
 use Rattle.rules_deck.specs.Deck.{same_name, declare}
@@ -58,15 +58,6 @@ unfolding array_words
 name_is (array v r none) more = refl
 name_is (array v r (some c)) more = refl
 
-pub some_no : (d r c : ℕ) → r ≡ 0 → false ≡ some_words d r c
-some_no d r c e = ap (λ (x : ℕ). some_words d x c) (sym e)
-
-pub some_one : (d r c : ℕ) → (r ≡ 0 → ⊥) → d ≡ 1 → true ≡ some_words d r c
-some_one d r c n e = sym (ap (λ (b : Bool). b && (eqb d 1 || leb 1 c)) (le-leb 1 r (omega (arith, n))) ∙ ap (λ (b : Bool). b || leb 1 c) (eq-eqb d 1 e))
-
-pub some_two : (d r c : ℕ) → (r ≡ 0 → ⊥) → (d ≡ 1 → ⊥) → leb 1 c ≡ some_words d r c
-some_two d r c n e = sym (ap (λ (b : Bool). b && (eqb d 1 || leb 1 c)) (le-leb 1 r (omega (arith, n))) ∙ ap (λ (b : Bool). b || leb 1 c) (ne_eqb d 1 e))
-
 -- ---- the search for a name
 
 pub record Hunting (w : code.Name) (n : ℕ) (t : List ℕ) (i : ℕ) : Type 0 where
@@ -85,9 +76,6 @@ name_drop t k at =
     further i e = get_or-drop k t (at + i) 0 ∙ ap (λ (x : ℕ). get_or t x 0) e
 
 module _ (w : code.Name) (n : ℕ) (t : List ℕ) where
-  pub hunt_start : Hunting w n t 0
-  hunt_start = record { within = omega arith; is = let e : n - 0 ≡ n = omega arith in ap (λ (m : ℕ). is_named w m t) (sym e) }
-
   hunt_step : (i m : ℕ) → m ≡ suc (n - (i + 1)) → is_named w m (drop (7 * i) t) ≡ same_words (name_at t (7 * i + 1)) w || is_named w (n - (i + 1)) (drop (7 * (i + 1)) t)
   unfolding is_named
   hunt_step i m e =

@@ -1,6 +1,6 @@
 -- 15 of a DIMENSION's arrays, and the arrays that take cells.
 -- Assumes nothing.
-use Rattle.std.specs.Prelude.{◌≡◌, ℕ, Bool, true, false, List, ◌++◌, map}
+use Rattle.std.specs.Prelude.{◌≡◌, ℕ, Bool, true, false, List, ◌++◌, map, Option}
 use Rattle.rules_shared.specs.Lists.{Each}
 use Rattle.rules_text.specs.Trees.{Array, array_names}
 use Rattle.rules_deck.specs.Deck.{declare}
@@ -8,8 +8,8 @@ use Rattle.rules_deck.specs.Translation.{Held, array}
 use Rattle.rules_deck.specs.Judge.{right_arrays}
 use Rattle.read_forms.specs.Statements.{all_words}
 use Rattle.take_draft.specs.Names.{Lists, Told}
-use Rattle.take_name_table.specs.declared.Grown.{Grown}
-use Rattle.take_name_table.specs.Appears.{Appeared, Within}
+use Rattle.take_name_table.specs.declared.counted.Extent.{Extent}
+use Rattle.take_name_table.specs.Appears.{Appeared}
 
 -- 15 of a DIMENSION
 abbrev pub Dimensions : List ℕ → List ℕ → ℕ → Bool → Type 0
@@ -18,7 +18,7 @@ Dimensions arrays table n r =
     → r ≡ right_arrays false held declared
 
 -- the arrays of a DIMENSION that passes 15 have taken their cells
-pub record Declares (arrays before after : List ℕ) (n cells : ℕ) (r : Grown) : Type 0 where
-  pub within : Within r
-  pub is : (held : List Held) (declared : List Array) → Lists held before n cells → arrays ≡ all_words declared → Each Told (array_names declared)
-      → right_arrays false held declared ≡ true → Appeared (held ++ map (λ a. array (declare a)) declared) after r
+abbrev pub Declares : List ℕ → List ℕ → List ℕ → Extent → Option Extent → Type 0
+Declares arrays before after n r =
+    (held : List Held) (declared : List Array) → Lists held before n.names n.cells → arrays ≡ all_words declared → Each Told (array_names declared)
+    → right_arrays false held declared ≡ true → Appeared (held ++ map (λ a. array (declare a)) declared) after r

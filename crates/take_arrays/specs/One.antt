@@ -1,6 +1,6 @@
 -- One array of a DIMENSION: its words, 15 of it, and the cells that it takes.
 -- Assumes nothing.
-use Rattle.std.specs.Prelude.{◌≡◌, ℕ, zero, suc, min, ◌≤◌, Bool, false, ◌&&◌, ◌||◌, not, List, [], ◌∷◌, ◌++◌, map, eqb, leb, length, drop}
+use Rattle.std.specs.Prelude.{◌≡◌, ℕ, zero, suc, min, ◌≤◌, Bool, false, ◌&&◌, ◌||◌, not, List, [], ◌∷◌, ◌++◌, map, eqb, leb, length, drop, Option}
 use Rattle.rules_shared.specs.Lists.{Each}
 use Rattle.rules_text.specs.Trees.{Name, Array, array_names}
 use Rattle.rules_deck.specs.Deck.{Declared, declare}
@@ -10,8 +10,8 @@ use Rattle.read_tokens.specs.Words.{most, name_of, name_at, same_words}
 use Rattle.read_tokens.specs.declared.Name as code
 use Rattle.read_forms.specs.Statements.{all_words}
 use Rattle.take_draft.specs.Names.{Lists, Told}
-use Rattle.take_name_table.specs.declared.Grown.{Grown}
-use Rattle.take_name_table.specs.Appears.{Appeared, Within}
+use Rattle.take_name_table.specs.declared.counted.Extent.{Extent}
+use Rattle.take_name_table.specs.Appears.{Appeared}
 
 -- what a DIMENSION's arrays bring
 abbrev pub brought : List Array → List Held
@@ -48,7 +48,7 @@ RightArray arrays i table n r =
 -- ---- its cells
 
 -- rows and columns may be the largest that a word of an array holds
-pub record TakesArray (before after : List ℕ) (n cells : ℕ) (name : code.Name) (rows columns : ℕ) (r : Grown) : Type 0 where
-  pub within : Within r
-  pub is : (held : List Held) (a : Declared) → Lists held before n cells → Told a.name → name ≡ name_of a.name → rows ≡ min a.dims.rows most
-      → columns ≡ min a.dims.columns most → 1 ≤ a.dims.rows → Appeared (held ++ (array a ∷ [])) after r
+abbrev pub TakesArray : List ℕ → List ℕ → Extent → code.Name → ℕ → ℕ → Option Extent → Type 0
+TakesArray before after n name rows columns r =
+    (held : List Held) (a : Declared) → Lists held before n.names n.cells → Told a.name → name ≡ name_of a.name → rows ≡ min a.dims.rows most
+    → columns ≡ min a.dims.columns most → 1 ≤ a.dims.rows → Appeared (held ++ (array a ∷ [])) after r

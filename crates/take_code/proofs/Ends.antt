@@ -3,11 +3,11 @@
 use mathlib.Core.Path.{◌≡◌, sym, ap, ◌∙◌, subst}
 use Prim.Native.Nat.{ℕ, ◌^◌, ◌<◌}
 use native.Mathlib.Omega.{arith}
-use mathlib.Core.Bool.{true, false}
+use mathlib.Core.Bool.{true}
 use mathlib.Core.List.{List, [], ◌∷◌, map}
-use lib.Dec.{leb, eqb}
+use lib.Dec.{leb}
 use lib.ListN.{length, length-map}
-use borrow.Author.Tests.{eq-eqb, ne_eqb, leb-true}
+use borrow.Author.Tests.{leb-true}
 use Rattle.rules_shared.specs.House.{house1401}
 use Rattle.rules_object.specs.Operations.{Instr, LOD, BRC, DOI}
 use Rattle.rules_shared.proofs.EachLaws.{each_head}
@@ -20,42 +20,39 @@ use Rattle.read_tokens.specs.declared.Name as code
 use Rattle.take_draft.specs.declared.Counts.{Counts}
 use Rattle.take_draft.specs.Parts.{Item, form_first, form_ending}
 use Rattle.take_draft.specs.Names.{Told, Known, dims_held}
-use Rattle.take_draft.specs.Draft.{kind_of, no_loop}
+use Rattle.take_draft.specs.Draft.{no_loop}
 use Rattle.rules_deck.proofs.Houses.{lawful1401}
 use Rattle.take_draft.proofs.ReadForm.{right_number, number_exact, right13_capped}
-use Rattle.take_instructions.specs.declared.Emitted.{Emitted}
-use Rattle.take_instructions.specs.declared.Emitted.TheVariants as emitted
+use Rattle.std.specs.Prelude.{Option, Some, None}
 use Rattle.take_instructions.specs.Emits.{Grows, EmitsWith}
 use Rattle.take_instructions.specs.Emitting.{EmitsJump, EmitsHalt, EmitsThree, EmitsChoose, EmitsEnter}
 use Rattle.take_operands.specs.Operands.{EmitsStore, EmitsLoad}
 use Rattle.take_instructions.proofs.Both.{emits_both, full_then}
+use Rattle.take_kinds.specs.declared.Kind.{Kind}
+use Rattle.take_kinds.specs.declared.Kind.TheVariants as kind
 use Rattle.take_plans.specs.declared.Plan.{Plan}
 use Rattle.take_plans.specs.Plans.{form_plan}
-use Rattle.take_plans.proofs.ByKind.{plan_kind, at_assign, at_go_to, at_computed, at_if, at_do, at_stop_lem, at_end_lem}
+use Rattle.take_plans.proofs.ByKind.{at_assign, at_go_to, at_computed, at_if, at_do, at_stop_lem, at_end_lem}
 use Rattle.take_marks.specs.Marks.{cell_name}
-use Rattle.take_code.specs.Endings.{does_of, EmitsEnding}
+use Rattle.take_code.specs.Endings.{does_by, does_of, EmitsEnding}
 
 -- ---- DOEs
 
-pub does_do : (p : Plan) → p.kind ≡ 4 → does_of p ≡ 1
+pub does_as : (p : Plan) (k : Kind) → p.kind ≡ k → does_of p ≡ does_by k
 unfolding does_of
-does_do p z = let a : eqb p.kind 4 ≡ true = eq-eqb p.kind 4 z in rw a
+does_as p k z = ap does_by z
 
-pub does_not : (p : Plan) → (p.kind ≡ 4 → ⊥) → does_of p ≡ 0
-unfolding does_of
-does_not p z = let a : eqb p.kind 4 ≡ false = ne_eqb p.kind 4 z in rw a
-
-pub grows_as : (p : Plan) {d : ℕ} {n : Counts} {r : Emitted} → does_of p ≡ d → Grows d n r → Grows (does_of p) n r
+pub grows_as : (p : Plan) {d : ℕ} {n : Counts} {r : Option Counts} → does_of p ≡ d → Grows d n r → Grows (does_of p) n r
 grows_as p {d} {n} {r} e g = subst (λ (x : ℕ). Grows x n r) (sym e) g
 
 -- ---- by kind
 
 module _ (p : Plan) (f : Form) (e : p ≡ form_plan f) where
-  pub of_kind_lem : (k : ℕ) → p.kind ≡ k → kind_of f ≡ k
-  of_kind_lem k z = sym (plan_kind f) ∙ sym (ap (λ (x : Plan). x.kind) e) ∙ z
+  pub of_kind_lem : (k : Kind) → p.kind ≡ k → (form_plan f).kind ≡ k
+  of_kind_lem k z = sym (ap (λ (x : Plan). x.kind) e) ∙ z
 
 -- what a form's ending is to ensure
-abbrev pub Ends : ℕ → Plan → List Held → Tables → List ℕ → List ℕ → List ℕ → List ℕ → Counts → Emitted → Form → Type 0
+abbrev pub Ends : ℕ → Plan → List Held → Tables → List ℕ → List ℕ → List ℕ → List ℕ → Counts → Option Counts → Form → Type 0
 Ends digits p held T constants words elements' words' n r f =
     p ≡ form_plan f → right13 (house1401 digits) f ≡ true → Known held (form_first f)
     → EmitsWith (length (form_last f)) T (form_ending held (dims_held held) (DOI n.dos no_loop) f) words constants elements' words' n r
@@ -67,15 +64,15 @@ go_to_right : (digits : ℕ) (n : Digits) → right13 (house1401 digits) (go_to 
 unfolding form_exits form_last
 go_to_right digits n h = (both_true (right_number (capped n)) true (sym (right13_capped (lawful1401 digits) (go_to n)) ∙ h)).0
 
-module _ {p : Plan} {names elements words elements' words' : List ℕ} {n : Counts} {r : Emitted} where
-  pub ends_store : p.kind ≡ 0 → EmitsStore p.target names elements words elements' words' n r → EmitsEnding p names elements words elements' words' n r
+module _ {p : Plan} {names elements words elements' words' : List ℕ} {n : Counts} {r : Option Counts} where
+  pub ends_store : p.kind ≡ kind.Assignment → EmitsStore p.target names elements words elements' words' n r → EmitsEnding p names elements words elements' words' n r
   unfolding form_last form_plan
   ends_store z s digits f held T constants e l t h k =
       at_assign (Ends digits p held T constants words elements' words' n r) (λ target x e' h' k'. s held target T constants l t (ap (λ (y : Plan). y.target) e') k')
-      f (of_kind_lem p f e 0 z) e h k
+      f (of_kind_lem p f e kind.Assignment z) e h k
 
-module _ {p : Plan} {names elements words words' : List ℕ} {n : Counts} {r : Emitted} where
-  pub ends_jump : p.kind ≡ 1 → EmitsJump p.below.0 words words' n r → EmitsEnding p names elements words elements words' n r
+module _ {p : Plan} {names elements words words' : List ℕ} {n : Counts} {r : Option Counts} where
+  pub ends_jump : p.kind ≡ kind.GoTo → EmitsJump p.below.0 words words' n r → EmitsEnding p names elements words elements words' n r
   unfolding form_last form_plan
   ends_jump z s digits f held T constants e l t h k =
       at_go_to (Ends digits p held T constants words elements words' n r)
@@ -85,27 +82,27 @@ module _ {p : Plan} {names elements words words' : List ℕ} {n : Counts} {r : E
       let i : p.below.0 ≡ value_of m = b ∙ number_exact m right in
       let low : p.below.0 < 2 ^ 24 = subst (λ (x : ℕ). x < 2 ^ 24) (sym b) (low_number (capped m) right) in
       subst (λ (x : ℕ). EmitsWith 0 T (Instr.JMP x ∷ []) words constants elements words' n r) i (s low T constants elements t))
-      f (of_kind_lem p f e 1 z) e h k
+      f (of_kind_lem p f e kind.GoTo z) e h k
 
-  pub ends_three : p.kind ≡ 3 → EmitsThree words words' n r → EmitsEnding p names elements words elements words' n r
+  pub ends_three : p.kind ≡ kind.If → EmitsThree words words' n r → EmitsEnding p names elements words elements words' n r
   unfolding form_last form_plan
   ends_three z s digits f held T constants e l t h k =
-      at_if (Ends digits p held T constants words elements words' n r) (λ x a b c e' h' k'. s (value_of a) (value_of b) (value_of c) T constants elements t) f (of_kind_lem p f e 3 z) e h k
+      at_if (Ends digits p held T constants words elements words' n r) (λ x a b c e' h' k'. s (value_of a) (value_of b) (value_of c) T constants elements t) f (of_kind_lem p f e kind.If z) e h k
 
-  pub ends_enter : p.kind ≡ 4 → EmitsEnter words words' n r → EmitsEnding p names elements words elements words' n r
+  pub ends_enter : p.kind ≡ kind.Do → EmitsEnter words words' n r → EmitsEnding p names elements words elements words' n r
   unfolding form_last form_plan
   ends_enter z s digits f held T constants e l t h k =
-      at_do (Ends digits p held T constants words elements words' n r) (λ m v a b c e' h' k'. s no_loop T constants elements t) f (of_kind_lem p f e 4 z) e h k
+      at_do (Ends digits p held T constants words elements words' n r) (λ m v a b c e' h' k'. s no_loop T constants elements t) f (of_kind_lem p f e kind.Do z) e h k
 
-  pub ends_stop : p.kind ≡ 6 → EmitsHalt 0 words words' n r → EmitsEnding p names elements words elements words' n r
+  pub ends_stop : p.kind ≡ kind.Stop → EmitsHalt 0 words words' n r → EmitsEnding p names elements words elements words' n r
   unfolding form_last form_plan
   ends_stop z s digits f held T constants e l t h k =
-      at_stop_lem (Ends digits p held T constants words elements words' n r) (λ e' h' k'. s (omega arith) T constants elements t) f (of_kind_lem p f e 6 z) e h k
+      at_stop_lem (Ends digits p held T constants words elements words' n r) (λ e' h' k'. s (omega arith) T constants elements t) f (of_kind_lem p f e kind.Stop z) e h k
 
-  pub ends_end : p.kind ≡ 7 → EmitsHalt 1 words words' n r → EmitsEnding p names elements words elements words' n r
+  pub ends_end : p.kind ≡ kind.End → EmitsHalt 1 words words' n r → EmitsEnding p names elements words elements words' n r
   unfolding form_last form_plan
   ends_end z s digits f held T constants e l t h k =
-      at_end_lem (Ends digits p held T constants words elements words' n r) (λ e' h' k'. s (omega arith) T constants elements t) f (of_kind_lem p f e 7 z) e h k
+      at_end_lem (Ends digits p held T constants words elements words' n r) (λ e' h' k'. s (omega arith) T constants elements t) f (of_kind_lem p f e kind.End z) e h k
 
 -- ---- a computed GO TO
 
@@ -120,18 +117,19 @@ listed_is : {p : Plan} (ns : List Digits) (v : Name) → p ≡ form_plan (comput
 unfolding form_plan
 listed_is ns v e = ap (λ (y : Plan). y.listed) e
 
-module _ {p : Plan} {names words middle words' : List ℕ} {n : Counts} {a : Emitted} {name : code.Name} (z : p.kind ≡ 2) (w : name ≡ cell_name p.target)
+module _ {p : Plan} {names words middle words' : List ℕ} {n : Counts} {a : Option Counts} {name : code.Name} (z : p.kind ≡ kind.Computed) (w : name ≡ cell_name p.target)
     (s : EmitsLoad name names words middle n a) where
-  pub choose_full : a ≡ emitted.Full → (elements : List ℕ) → EmitsEnding p names elements words elements words' n emitted.Full
+  pub choose_full : {r : Option Counts} → a ≡ None → r ≡ None → (elements : List ℕ) → EmitsEnding p names elements words elements words' n r
   unfolding form_last
-  choose_full q elements digits f held T constants e l t h k =
-      at_computed (Ends digits p held T constants words elements words' n emitted.Full)
+  choose_full {r} q none elements digits f held T constants e l t h k =
+      at_computed (Ends digits p held T constants words elements words' n r)
       (λ ns v e' h' k'.
       let known = plain_told k' in
-      full_then T (LOD (cell_of held v) ∷ []) (BRC (map value_of ns) ∷ []) (s held v T constants elements l t (w ∙ name_is ns v e') known.0 known.1) q)
-      f (of_kind_lem p f e 2 z) e h k
+      subst (EmitsWith 0 T (LOD (cell_of held v) ∷ BRC (map value_of ns) ∷ []) words constants elements words' n) (sym none)
+      (full_then T (LOD (cell_of held v) ∷ []) (BRC (map value_of ns) ∷ []) (s held v T constants elements l t (w ∙ name_is ns v e') known.0 known.1) q))
+      f (of_kind_lem p f e kind.Computed z) e h k
 
-  pub choose_then : {m : Counts} {r : Emitted} → a ≡ emitted.Counts m → EmitsChoose p.listed middle words' m r
+  pub choose_then : {m : Counts} {r : Option Counts} → a ≡ Some m → EmitsChoose p.listed middle words' m r
       → (elements : List ℕ) → EmitsEnding p names elements words elements words' n r
   unfolding form_last
   choose_then {m} {r} q c elements digits f held T constants e l t h k =
@@ -141,4 +139,4 @@ module _ {p : Plan} {names words middle words' : List ℕ} {n : Counts} {a : Emi
       let wrote = (s held v T constants elements l t (w ∙ name_is ns v e') known.0 known.1).wrote m q in
       emits_both T (LOD (cell_of held v) ∷ []) (BRC (map value_of ns) ∷ []) wrote
       (c (map value_of ns) (length-map ns value_of ∙ sym (listed_is ns v e')) T constants elements wrote.tables))
-      f (of_kind_lem p f e 2 z) e h k
+      f (of_kind_lem p f e kind.Computed z) e h k

@@ -18,13 +18,14 @@ use Rattle.rules_text.proofs.CardsLaws.{statements_few}
 use Rattle.read_texts.proofs.Onward.{from_start}
 use Rattle.take_draft.specs.declared.Counts.{Counts}
 use Rattle.take_draft.specs.Draft.{Draft, no_draft, draft_of}
-use Rattle.take_draft.specs.Kept.{Words, Fit, Kept}
+use Rattle.take_draft.specs.Kept.{Words, Fit, Room, Kept}
 use Rattle.take_draft.proofs.Matching.{matches_deck}
 use Rattle.take_parts.specs.Fresh.{Fresh}
 use Rattle.take_parts.proofs.HiddenCells.{fresh_deck}
-use Rattle.take_next.specs.declared.Step.{Step}
-use Rattle.take_next.specs.declared.Step.TheVariants as step
-use Rattle.take_deck.specs.declared.Drafted.TheVariants as drafted
+use Rattle.std.specs.Prelude.{Option, Some, None, Result, Ok, Err}
+use Rattle.refusals.specs.declared.Reason.{Reason}
+use Rattle.refusals.specs.Numbers.{number_of}
+use Rattle.take_next.specs.declared.Kept as code
 use Rattle.take_next.specs.Steps.{to_come, Ahead, Keeps, Steps, Continues, ended, taken}
 use Rattle.take_next.specs.Steps as steps
 use Rattle.take_deck.specs.Drafted.{Begins, Drafts, refused, kept}
@@ -38,7 +39,7 @@ digits_right k deck ps = go (right_digits (house1401 k)) _
   where
     go : (b : Bool) (c : Carded) → cond b c (cards_refused 1 0) ≡ statements ps → b ≡ true
     go true c e = refl
-    go false c e = let z : ◌≡◌ {A = ℕ} 0 1 = cc in absurd (omega arith)
+    go false c e = absurd cc
 
 digits_within : (k : ℕ) → right_digits (house1401 k) ≡ true → (1 ≤ k) × (k ≤ 9)
 unfolding right_digits
@@ -46,8 +47,8 @@ digits_within k = go (leb 1 k) (leb k 9) refl refl
   where
     go : (a b : Bool) → leb 1 k ≡ a → leb k 9 ≡ b → (a && b) ≡ true → (1 ≤ k) × (k ≤ 9)
     go true true p q e = (leb-true 1 k p, leb-true k 9 q)
-    go true false p q e = let z : ◌≡◌ {A = ℕ} 0 1 = cc in absurd (omega arith)
-    go false b p q e = let z : ◌≡◌ {A = ℕ} 0 1 = cc in absurd (omega arith)
+    go true false p q e = absurd cc
+    go false b p q e = absurd cc
 
 -- ---- nothing yet
 
@@ -94,14 +95,7 @@ going_fresh g = subst (λ (q : ℕ). Fresh q (draft_of g.done)) (sym g.counted) 
 pub record Round (k : ℕ) (deck : List ℕ) (items₀ : List ℕ) (lent₀ : Words) (card : ℕ) (items : List ℕ) (lent : Words) (n : Counts) : Type 0 where
   pub going : (ps : List Punched) → carded (house1401 k) deck ≡ statements ps → Going k deck ps card lent n
   pub items_same : length items ≡ length items₀
-  pub names_same : length lent.names ≡ length lent₀.names
-  pub constants_same : length lent.constants ≡ length lent₀.constants
-  pub elements_same : length lent.elements ≡ length lent₀.elements
-  pub dos_same : length lent.dos ≡ length lent₀.dos
-  pub loops_same : length lent.loops ≡ length lent₀.loops
-  pub code_same : length lent.code ≡ length lent₀.code
-  pub rows_same : length lent.rows ≡ length lent₀.rows
-  pub jumps_same : length lent.jumps ≡ length lent₀.jumps
+  pub room : Room lent₀ → Room lent
 
 pub round_start : (k : ℕ) (deck items : List ℕ) (lent : Words) → Round k deck items lent 0 items lent no_counts
 unfolding draft_of
@@ -117,14 +111,7 @@ round_start k deck items lent =
             kept = kept_none lent;
           };
       items_same = refl;
-      names_same = refl;
-      constants_same = refl;
-      elements_same = refl;
-      dos_same = refl;
-      loops_same = refl;
-      code_same = refl;
-      rows_same = refl;
-      jumps_same = refl;
+      room = λ h. h;
     }
 
 pub round_ahead : {k : ℕ} {deck items₀ : List ℕ} {lent₀ : Words} {card : ℕ} {items : List ℕ} {lent : Words} {n : Counts}
@@ -137,17 +124,7 @@ round_ahead {k} {deck} {card = card} b r =
       digits_some = d.0;
       digits_few = d.1;
       items_long = omega (arith, b.items_long, r.items_same);
-      room =
-          record {
-            names_long = r.names_same ∙ b.room.names_long;
-            constants_long = r.constants_same ∙ b.room.constants_long;
-            elements_long = r.elements_same ∙ b.room.elements_long;
-            dos_long = r.dos_same ∙ b.room.dos_long;
-            loops_long = r.loops_same ∙ b.room.loops_long;
-            code_long = r.code_same ∙ b.room.code_long;
-            rows_long = r.rows_same ∙ b.room.rows_long;
-            jumps_long = r.jumps_same ∙ b.room.jumps_long;
-          };
+      room = r.room b.room;
       fit = g.fit;
       few = omega (arith, g.few, statements_few (house1401 k) deck b.punched b.are);
       draft = draft_of g.done;
@@ -157,11 +134,11 @@ round_ahead {k} {deck} {card = card} b r =
 
 -- ---- what a turn gives
 
-pub record Refuses (k : ℕ) (deck : List ℕ) (card : ℕ) (t : Taken) (n : Counts) (number : ℕ) : Type 0 where
+pub record Refuses (k : ℕ) (deck : List ℕ) (card : ℕ) (t : Taken) (n : Counts) (e : Reason) : Type 0 where
   pub punched : Punched
   pub more : List Punched
   pub others : to_come deck card ≡ punched ∷ more
-  pub says : (rest : Taken → Read) → read_text (house1401 k) n.statements punched.number t rest (text_of punched.raw) ≡ not_read (refusal number (suc n.statements) 0)
+  pub says : (rest : Taken → Read) → read_text (house1401 k) n.statements punched.number t rest (text_of punched.raw) ≡ not_read (refusal (number_of e) (suc n.statements) 0)
 
 pub record Goes (k : ℕ) (deck : List ℕ) (card : ℕ) (t : Taken) (D : Draft) (n : Counts) (lent : Words) (next : ℕ) (m : Counts) : Type 0 where
   pub punched : Punched
@@ -171,34 +148,33 @@ pub record Goes (k : ℕ) (deck : List ℕ) (card : ℕ) (t : Taken) (D : Draft)
   pub keeps : Keeps k n.statements t D punched lent m
 
 module _ {k : ℕ} {deck : List ℕ} {card : ℕ} {t : Taken} {D : Draft} {n : Counts} {lent : Words} where
-  steps_ended : Steps k deck card t D n lent step.End → (to_come deck card ≡ []) × Kept D lent n
+  steps_ended : Steps k deck card t D n lent (Ok None) → (to_come deck card ≡ []) × Kept D lent n
   steps_ended (ended e h) = (e, h)
 
-  steps_refused : {number : ℕ} → Steps k deck card t D n lent (step.Refused number) → Refuses k deck card t n number
-  steps_refused (steps.refused number p more e h) = record { punched = p; more = more; others = e; says = h }
+  steps_refused : {e : Reason} → Steps k deck card t D n lent (Err e) → Refuses k deck card t n e
+  steps_refused (steps.refused e p more f h) = record { punched = p; more = more; others = f; says = h }
 
-  steps_goes : {next : ℕ} {m : Counts} → Steps k deck card t D n lent (step.Kept next m) → Goes k deck card t D n lent next m
-  steps_goes (taken p next m e f w h) = record { punched = p; others = e; further = f; within = w; keeps = h }
+  steps_goes : {r : code.Kept} → Steps k deck card t D n lent (Ok (Some r)) → Goes k deck card t D n lent r.next r.counts
+  steps_goes (taken p r e f w h) = record { punched = p; others = e; further = f; within = w; keeps = h }
 
-module _ {k : ℕ} {deck : List ℕ} {ps : List Punched} {card : ℕ} {lent : Words} {lent' : Words} {n : Counts} {r : Step}
+module _ {k : ℕ} {deck : List ℕ} {ps : List Punched} {card : ℕ} {lent : Words} {lent' : Words} {n : Counts} {r : Result (Option code.Kept) Reason}
     (g : Going k deck ps card lent n) (c : Continues k deck card n lent lent' r) where
   turn : Steps k deck card (taken_by g.done) (draft_of g.done) n lent' r
   turn = c (draft_of g.done) (taken_by g.done) g.kept (matches_deck g.done) (going_fresh g)
 
-  pub turn_ended : r ≡ step.End → Drafts (read_from (house1401 k) 0 nothing_taken ps) lent' (drafted.Kept n)
+  pub turn_ended : r ≡ Ok None → Drafts (read_from (house1401 k) 0 nothing_taken ps) lent' (Ok n)
   turn_ended e =
       let x = steps_ended (subst (Steps k deck card (taken_by g.done) (draft_of g.done) n lent') e turn) in
       kept g.done n (going_ended g x.0) g.counted g.fit x.1
 
-  pub turn_refused : (number : ℕ) → r ≡ step.Refused number → Drafts (read_from (house1401 k) 0 nothing_taken ps) lent' (drafted.Refused number (record { 0 = n.statements + 1 }))
-  turn_refused number e =
-      let x = steps_refused (subst (Steps k deck card (taken_by g.done) (draft_of g.done) n lent') e turn) in
+  pub turn_refused : (e : Reason) → r ≡ Err e → Drafts (read_from (house1401 k) 0 nothing_taken ps) lent' (Err (record { reason = e; place = n.statements + 1; kind = 0 }))
+  turn_refused e q =
+      let x = steps_refused (subst (Steps k deck card (taken_by g.done) (draft_of g.done) n lent') q turn) in
       let z : suc n.statements ≡ n.statements + 1 = omega arith in
-      refused number (n.statements + 1)
-      (going_refused g number x.punched x.more x.others x.says ∙ ap (λ (i : ℕ). not_read (refusal number i 0)) z)
+      refused _ (going_refused g (number_of e) x.punched x.more x.others x.says ∙ ap (λ (i : ℕ). not_read (refusal (number_of e) i 0)) z)
 
-  pub turn_further : (next : ℕ) (m : Counts) → r ≡ step.Kept next m → (card < next) × (next ≤ length (cards_of deck))
-  turn_further next m e = let x = steps_goes (subst (Steps k deck card (taken_by g.done) (draft_of g.done) n lent') e turn) in (x.further, x.within)
+  pub turn_further : (m : code.Kept) → r ≡ Ok (Some m) → (card < m.next) × (m.next ≤ length (cards_of deck))
+  turn_further m e = let x = steps_goes (subst (Steps k deck card (taken_by g.done) (draft_of g.done) n lent') e turn) in (x.further, x.within)
 
-  pub turn_on : (next : ℕ) (m : Counts) → r ≡ step.Kept next m → Going k deck ps next lent' m
-  turn_on next m e = let x = steps_goes (subst (Steps k deck card (taken_by g.done) (draft_of g.done) n lent') e turn) in going_on g x.punched next x.others x.keeps
+  pub turn_on : (m : code.Kept) → r ≡ Ok (Some m) → Going k deck ps m.next lent' m.counts
+  turn_on m e = let x = steps_goes (subst (Steps k deck card (taken_by g.done) (draft_of g.done) n lent') e turn) in going_on g x.punched m.next x.others x.keeps

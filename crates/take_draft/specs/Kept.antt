@@ -6,6 +6,7 @@ use Rattle.rules_object.specs.Bytes.{concat, element_words, loop_words}
 use Rattle.rules_deck.specs.Translation.{Tables}
 use Rattle.rules_deck.specs.Judge.{Taken}
 use Rattle.take_draft.specs.declared.Counts.{Counts}
+use Rattle.take_draft.specs.declared.Tables as lent
 use Rattle.take_draft.specs.Names.{Lists}
 use Rattle.take_draft.specs.Draft.{Draft}
 
@@ -48,6 +49,10 @@ pub record Words : Type 0 where
 abbrev pub as_words : (names constants elements dos loops code rows jumps : List ℕ) → Words
 as_words names constants elements dos loops code rows jumps =
     record { names = names; constants = constants; elements = elements; dos = dos; loops = loops; code = code; rows = rows; jumps = jumps }
+
+-- of the struct that is passed: what its slices hold
+abbrev pub words_of : lent.Tables → Words
+words_of t = as_words t.names.now t.constants.now t.elements.now t.dos.now t.loops.now t.code.now t.rows.now t.jumps.now
 
 -- how long they are
 pub record Room (lent : Words) : Type 0 where

@@ -1,10 +1,8 @@
 // What compiling has kept of the statements so far, counted. The tables themselves are lent: see specs/Kept.antt.
 #![tactic(auto)]
 
-ghost use Rattle.std.specs.Prelude.{◌≡◌, ◌≤◌};
-ghost use Rattle.take_draft.specs.Counts.{with_names, with_do, with_marks};
-
-#[derive(Clone, Copy)]
+// No ghost field says that they fit: a struct with one has no Default and no struct update, by which everyone changes a count.
+#[derive(Clone, Copy, PartialEq, Eq, Default)]
 pub struct Counts {
     pub names: usize,
     pub cells: usize,
@@ -18,31 +16,26 @@ pub struct Counts {
     pub statements: usize,
 }
 
-pub fn with_names(n: Counts, names: usize, cells: usize) -> Counts
-    ensures { result ≡ with_names n names cells }
-{
-    let mut m = n;
-    m.names = names;
-    m.cells = cells;
-    m
-}
+// Words of the tables: seven for a name, nine for an element, four and two for a DO, five for a statement's row.
+pub const NAMES_WORDS: usize = 7 * limits::NAMES;
 
-pub fn with_do(n: Counts) -> Counts
-    requires { n.dos ≤ 64 }
-    ensures { result ≡ with_do n }
-{
-    let mut m = n;
-    m.dos = n.dos + 1;
-    m
-}
+pub const ELEMENT_WORDS: usize = 9 * limits::ELEMENTS;
 
-// One statement more.
-pub fn with_marks(n: Counts, jumps: usize) -> Counts
-    requires { n.statements ≤ 400 }
-    ensures { result ≡ with_marks n jumps }
-{
-    let mut m = n;
-    m.jumps = jumps;
-    m.statements = n.statements + 1;
-    m
+pub const DO_WORDS: usize = 4 * limits::DOS;
+
+pub const LOOP_WORDS: usize = 2 * limits::DOS;
+
+pub const ROW_WORDS: usize = 5 * limits::STATEMENTS;
+
+// The tables, lent for as long as a deck is compiled; Counts says how much of each is kept.
+#[derive(Drop)]
+pub struct Tables<'a> {
+    pub names: &'a mut [u64; NAMES_WORDS],
+    pub constants: &'a mut [u32; limits::CONSTANTS],
+    pub elements: &'a mut [u32; ELEMENT_WORDS],
+    pub dos: &'a mut [u32; DO_WORDS],
+    pub loops: &'a mut [u32; LOOP_WORDS],
+    pub code: &'a mut [u32; limits::CODE],
+    pub rows: &'a mut [u64; ROW_WORDS],
+    pub jumps: &'a mut [u32; limits::JUMPS],
 }

@@ -1,7 +1,7 @@
 -- What the lookups give is what the book's entry has.
 -- Assumes nothing.
 use mathlib.Core.Path.{◌≡◌, refl, sym, ap, ◌∙◌, subst}
-use Prim.Native.Nat.{ℕ, zero, suc, ◌*◌, ◌%◌, ◌^◌, ◌<◌}
+use Prim.Native.Nat.{ℕ, zero, suc, ◌+◌, ◌*◌, ◌%◌, ◌^◌, ◌<◌}
 use native.Mathlib.Omega.{arith}
 use native.Mathlib.Nat.{mod-eq_of_lt}
 use mathlib.Core.List.{List, [], ◌∷◌, ◌++◌}
@@ -21,7 +21,7 @@ use Rattle.read_elements.specs.declared.Subscript.{Subscript}
 use Rattle.read_elements.specs.declared.Subscripts.{Subscripts}
 use Rattle.read_elements.specs.declared.Element.{Element}
 use Rattle.read_elements.specs.Values.{addend_value, times_of, subscript_value, subscripts_value}
-use Rattle.read_items.specs.Parsed.{Put}
+use Rattle.std.specs.Prelude.{max}
 use Rattle.take_draft.specs.Names.{Lists, Exact, dims_held}
 use Rattle.take_name_table.specs.declared.Entry.{Entry}
 use Rattle.take_name_table.specs.Lookups.{CellOf, ArrayOf}
@@ -99,13 +99,9 @@ module _ (table : List ℕ) (count : ℕ) {p : Subscripts} where
         plains = (each_both (subscript_names s) k.plains).1;
       })
 
-pub width_none : (c : ℕ) → c ≡ 0 → 1 ≡ width c
-width_none zero e = refl
-width_none (suc c) e = absurd (omega (arith, e))
-
-pub width_some : (c : ℕ) → (c ≡ 0 → ⊥) → c ≡ width c
-width_some zero e = absurd (e refl)
-width_some (suc c) e = refl
+width_max : (c : ℕ) → max c 1 ≡ width c
+width_max zero = refl
+width_max (suc c) = omega arith
 
 -- ---- the entry
 
@@ -123,19 +119,19 @@ first_is table count held cells dims (two s t) f l e k =
     })
 
 module _ (table : List ℕ) (count n : ℕ) {x : Element} {array : Entry} {columns : ℕ} {first second : Linear} where
-  pub entered : {a b : List ℕ} {top : ℕ} → ArrayOf table count x.name array → columns ≡ width array.columns → LinearOf table count x.subscripts.first first
-      → SecondOf table count x.subscripts second → Put a b (9 * n) (entry_words array.first array.rows columns first second) top
+  pub entered : (a b : List ℕ) → ArrayOf table count x.name array → columns ≡ max array.columns 1 → LinearOf table count x.subscripts.first first
+      → SecondOf table count x.subscripts second → take (9 * n + 9) b ≡ take (9 * n) a ++ entry_words array.first array.rows columns first second
       → PutsElement table count x a b n
-  entered {a} {b} {top} f w g h p held cells v s l e k =
+  entered a b f w g h p held cells v s l e k =
       let st = f.is held cells (record { name = v; subscripts = s }) l (each_head k.told) (ap (λ (y : Element). y.name) e) (each_head k.arrays) in
       let se : x.subscripts ≡ subscripts_value s = ap (λ (y : Element). y.subscripts) e in
       let cl : Clear held (subscripts_names s) (subscripts_constants s) = record { told = each_tail k.told; exact = k.exact; plains = k.plains } in
       let dims = dims_held held in
-      let c : columns ≡ width (dims v).columns = w ∙ ap width st.columns_are in
+      let c : columns ≡ width (dims v).columns = w ∙ width_max array.columns ∙ ap width st.columns_are in
       let one = three st.first_is st.rows_are c in
       let two = first_is table count held cells dims s g l se cl in
       let three' = h held cells dims s l se cl in
-      ap (λ (j : ℕ). take j b) (sym p.top) ∙ p.table
+      p
       ∙ ap (λ (ws : List ℕ). take (9 * n) a ++ (ws ++ (linear_words first ++ linear_words second))) one
       ∙ ap (λ (ws : List ℕ). take (9 * n) a ++ ((base_of held v ∷ (dims v).rows ∷ width (dims v).columns ∷ []) ++ (ws ++ linear_words second))) two
       ∙ ap (λ (ws : List ℕ). take (9 * n) a ++ ((base_of held v ∷ (dims v).rows ∷ width (dims v).columns ∷ []) ++ (subscript_words (first_entry held dims s) ++ ws))) three'

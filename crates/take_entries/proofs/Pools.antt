@@ -4,49 +4,47 @@ use mathlib.Core.Path.{◌≡◌, refl, sym, ap, ◌∙◌}
 use Prim.Native.Nat.{ℕ, suc, ◌+◌, ◌≤◌, ◌<◌}
 use native.Mathlib.Omega.{arith}
 use native.Mathlib.Numerals.{add-one}
-use mathlib.Core.Bool.{Bool, true, false, cond}
+use mathlib.Core.Bool.{Bool, true, false, cond, not}
 use mathlib.Core.List.{List, [], ◌∷◌, ◌++◌}
-use lib.Dec.{eqb}
-use lib.ListN.{length, get_or, take, drop, set, length-append}
-use lib.Seq.{drop-cons, take-suc-set, length-take-le, get_or-take, drop-length}
-use borrow.Author.Tests.{eq-eqb, ne_eqb}
+use lib.Dec.{eqb, ltb}
+use lib.ListN.{length, take, set, length-append}
+use lib.Seq.{take-suc-set, length-take-le}
+use borrow.Author.Tests.{ltb-true, ltb-false}
 use Rattle.rules_deck.specs.Translation.{pool, pool_at}
-use Rattle.take_entries.specs.declared.Pooled.TheVariants.{Full, At}
+use Rattle.std.specs.Prelude.{Some, None}
+use Rattle.std.specs.List.{position, position_or_len}
+use Rattle.take_entries.specs.declared.Pooled.{Pooled}
 use Rattle.take_entries.specs.Pooling.{Pools}
 
 -- ---- sought
 
--- the first i are others
-abbrev pub Sought : List ℕ → ℕ → ℕ → ℕ → Type 0
-Sought cs n v i = pool_at (take n cs) v ≡ i + pool_at (drop i (take n cs)) v
+-- the library's place is the book's
+abbrev pub is : ℕ → ℕ → Bool
+is v c = eqb c v
 
-module _ (cs : List ℕ) (n v i : ℕ) (l : n ≤ length cs) where
-  long : length (take n cs) ≡ n
-  long = length-take-le n cs l
+pub pool_place : (cs : List ℕ) (v : ℕ) → position_or_len (is v) cs ≡ pool_at cs v
+pool_place [] v = refl
+pool_place (b ∷ bs) v = go (eqb b v) (pool_place bs v)
+  where
+    go : (t : Bool) → position_or_len (is v) bs ≡ pool_at bs v → cond (not t) (1 + position_or_len (is v) bs) 0 ≡ cond t 0 (suc (pool_at bs v))
+    go true e = refl
+    go false e = omega (arith, e)
 
-  next : i < n → drop i (take n cs) ≡ get_or cs i 0 ∷ drop (suc i) (take n cs)
-  next h = drop-cons (take n cs) i 0 (omega (arith, long)) ∙ ap (λ (x : ℕ). x ∷ drop (suc i) (take n cs)) (get_or-take n cs i 0 h)
+pub found : (cs : List ℕ) (v i : ℕ) → Some i ≡ position (is v) cs → (i < length cs) × (i ≡ pool_at cs v)
+found cs v i = go (ltb (position_or_len (is v) cs) (length cs)) refl
+  where
+    go : (b : Bool) → ltb (position_or_len (is v) cs) (length cs) ≡ b → Some i ≡ cond b (Some (position_or_len (is v) cs)) None → (i < length cs) × (i ≡ pool_at cs v)
+    go true l e =
+        let s : i ≡ position_or_len (is v) cs = cc in
+        (let k = ltb-true (position_or_len (is v) cs) (length cs) l in omega (arith, s, k), s ∙ pool_place cs v)
+    go false l e = absurd cc
 
-  pub sought_here : i < n → get_or cs i 0 ≡ v → Sought cs n v i → i ≡ pool_at (take n cs) v
-  sought_here h e s =
-      let z : pool_at (drop i (take n cs)) v ≡ 0 =
-      ap (λ (x : List ℕ). pool_at x v) (next h)
-      ∙ ap (λ (b : Bool). cond b 0 (suc (pool_at (drop (suc i) (take n cs)) v))) (eq-eqb (get_or cs i 0) v e) in
-      omega (arith, s, z)
-
-  pub sought_on : i < n → (get_or cs i 0 ≡ v → ⊥) → Sought cs n v i → Sought cs n v (i + 1)
-  sought_on h e s =
-      let z : pool_at (drop i (take n cs)) v ≡ suc (pool_at (drop (suc i) (take n cs)) v) =
-      ap (λ (x : List ℕ). pool_at x v) (next h)
-      ∙ ap (λ (b : Bool). cond b 0 (suc (pool_at (drop (suc i) (take n cs)) v))) (ne_eqb (get_or cs i 0) v e) in
-      let w : pool_at (drop (i + 1) (take n cs)) v ≡ pool_at (drop (suc i) (take n cs)) v = ap (λ (k : ℕ). pool_at (drop k (take n cs)) v) (add-one i) in
-      omega (arith, s, z, w)
-
-  pub sought_none : n ≡ i → Sought cs n v i → n ≡ pool_at (take n cs) v
-  sought_none e s =
-      let z : drop i (take n cs) ≡ [] = ap (λ (k : ℕ). drop k (take n cs)) (sym e ∙ sym long) ∙ drop-length (take n cs) in
-      let w : pool_at (drop i (take n cs)) v ≡ 0 = ap (λ (x : List ℕ). pool_at x v) z in
-      omega (arith, s, w, e)
+pub missing : (cs : List ℕ) (v : ℕ) → None ≡ position (is v) cs → length cs ≤ pool_at cs v
+missing cs v = go (ltb (position_or_len (is v) cs) (length cs)) refl
+  where
+    go : (b : Bool) → ltb (position_or_len (is v) cs) (length cs) ≡ b → None ≡ cond b (Some (position_or_len (is v) cs)) None → length cs ≤ pool_at cs v
+    go true l e = absurd cc
+    go false l e = let k = ltb-false (position_or_len (is v) cs) (length cs) l in omega (arith, pool_place cs v, k)
 
 -- ---- pooled
 
@@ -76,56 +74,36 @@ at_most (b ∷ bs) v = go (eqb b v) (at_most bs v)
     go true h = omega arith
     go false h = omega (arith, h)
 
-module _ (a : List ℕ) (n v i : ℕ) (l : length a ≡ 256) (k : n ≤ 256) (e : i ≡ pool_at (take n a) v) where
+module _ (a : List ℕ) (n v : ℕ) (l : length a ≡ 256) (k : n ≤ 256) where
   size : length (take n a) ≡ n
   size = length-take-le n a (omega arith)
 
-  pub was_there : i < n → Pools a a n v (At i n)
-  was_there h =
-      let s : pool (take n a) v ≡ take n a = there (take n a) v (omega (arith, e, size)) in
+  pub was_there : (p : Pooled) → p.index < n → p.index ≡ pool_at (take n a) v → p.count ≡ n → Pools a a n v (Some p)
+  was_there p h e c =
+      let s : pool (take n a) v ≡ take n a = there (take n a) v (omega (arith, h, e, size)) in
       record {
-        pooled = λ index count q.
-            let x : i ≡ index = cc in
-            let y : n ≡ count = cc in
-            record {
-              index_is = sym x ∙ e;
-              count_is = sym y ∙ sym size ∙ ap length (sym s);
-              table = ap (λ (j : ℕ). take j a) (sym y) ∙ sym s;
-              index_low = omega (arith, h, x, k);
-              count_low = omega (arith, k, y);
-            };
-        full = λ q. let z : ◌≡◌ {A = ℕ} 0 1 = cc in absurd (omega arith);
+        index_is = e;
+        count_is = c ∙ sym size ∙ ap length (sym s);
+        table = ap (λ (j : ℕ). take j a) c ∙ sym s;
+        index_low = omega (arith, h, k);
+        count_low = omega (arith, k, c);
       }
 
-  longer : n ≤ i → pool (take n a) v ≡ take n a ++ (v ∷ [])
-  longer h = new (take n a) v (omega (arith, e, size))
+  longer : n ≤ pool_at (take n a) v → pool (take n a) v ≡ take n a ++ (v ∷ [])
+  longer h = new (take n a) v (omega (arith, h, size))
 
-  longer_size : n ≤ i → length (pool (take n a) v) ≡ n + 1
+  longer_size : n ≤ pool_at (take n a) v → length (pool (take n a) v) ≡ n + 1
   longer_size h = ap length (longer h) ∙ length-append (take n a) (v ∷ []) ∙ ap (λ (j : ℕ). j + 1) size
 
-  pub one_too_many : n ≤ i → n ≡ 256 → Pools a a n v Full
-  one_too_many h q =
-      record {
-        pooled = λ index count q. let z : ◌≡◌ {A = ℕ} 0 1 = cc in absurd (omega arith);
-        full = λ z. omega (arith, longer_size h, q);
-      }
+  pub one_too_many : n ≤ pool_at (take n a) v → n ≡ 256 → Pools a a n v None
+  one_too_many h q = omega (arith, longer_size h, q)
 
-  -- so it stands at n
-  last : n ≤ i → n ≡ pool_at (take n a) v
-  last h = omega (arith, e, at_most (take n a) v, size)
-
-  pub put_new : n ≤ i → n < 256 → Pools a (set a n v) n v (At n (n + 1))
-  put_new h j =
+  pub put_new : (p : Pooled) → n ≤ pool_at (take n a) v → n < 256 → p.index ≡ n → p.count ≡ n + 1 → Pools a (set a n v) n v (Some p)
+  put_new p h j x y =
       record {
-        pooled = λ index count q.
-            let x : n ≡ index = cc in
-            let y : n + 1 ≡ count = cc in
-            record {
-              index_is = sym x ∙ last h;
-              count_is = sym y ∙ sym (longer_size h);
-              table = ap (λ (m : ℕ). take m (set a n v)) (sym y ∙ add-one n) ∙ take-suc-set a n v (omega (arith, j, l)) ∙ sym (longer h);
-              index_low = omega (arith, j, x);
-              count_low = omega (arith, j, y);
-            };
-        full = λ q. let z : ◌≡◌ {A = ℕ} 0 1 = cc in absurd (omega arith);
+        index_is = x ∙ (omega (arith, h, at_most (take n a) v, size));
+        count_is = y ∙ sym (longer_size h);
+        table = ap (λ (m : ℕ). take m (set a n v)) (y ∙ add-one n) ∙ take-suc-set a n v (omega (arith, j, l)) ∙ sym (longer h);
+        index_low = omega (arith, j, x);
+        count_low = omega (arith, j, y);
       }

@@ -1,10 +1,9 @@
 -- Constants pooled in a table.
 -- Assumes nothing.
-use Rattle.std.specs.Prelude.{◌≡◌, ℕ, ◌≤◌, ◌<◌, List, length, take}
+use Rattle.std.specs.Prelude.{◌≡◌, ℕ, ◌≤◌, ◌<◌, List, length, take, Option, Some, None}
 use Rattle.rules_shared.specs.Limits.{limits}
 use Rattle.rules_deck.specs.Translation.{pool, pool_at}
 use Rattle.take_entries.specs.declared.Pooled.{Pooled}
-use Rattle.take_entries.specs.declared.Pooled.TheVariants.{Full, At}
 
 -- a the table before, with n constants, b after
 pub record PooledAt (a b : List ℕ) (n value index count : ℕ) : Type 0 where
@@ -14,6 +13,6 @@ pub record PooledAt (a b : List ℕ) (n value index count : ℕ) : Type 0 where
   pub index_low : index < limits.constants
   pub count_low : count ≤ limits.constants
 
-pub record Pools (a b : List ℕ) (n value : ℕ) (r : Pooled) : Type 0 where
-  pub pooled : (index count : ℕ) → r ≡ At index count → PooledAt a b n value index count
-  pub full : r ≡ Full → limits.constants < length (pool (take n a) value)
+abbrev pub Pools : List ℕ → List ℕ → ℕ → ℕ → Option Pooled → Type 0
+Pools a b n value (Some p) = PooledAt a b n value p.index p.count
+Pools a b n value None = limits.constants < length (pool (take n a) value)

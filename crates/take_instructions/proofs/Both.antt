@@ -12,8 +12,7 @@ use Rattle.rules_deck.specs.Translation.{Tables, emit, tables_after, word_of, ta
 use Rattle.rules_deck.proofs.TableLaws.{tables_append}
 use Rattle.take_draft.specs.declared.Counts.{Counts}
 use Rattle.take_draft.specs.Kept.{Tabled, tables_fit}
-use Rattle.take_instructions.specs.declared.Emitted.{Emitted}
-use Rattle.take_instructions.specs.declared.Emitted.TheVariants as emitted
+use Rattle.std.specs.Prelude.{Option, Some, None}
 use Rattle.take_instructions.specs.Emits.{Beside, Wrote, EmitsWith, Emits}
 use Rattle.take_instructions.proofs.Fits.{Grown, grown, still_full}
 
@@ -32,7 +31,7 @@ beside_both p q =
     }
 
 pub has_room : {d : ℕ} {T : Tables} {code : List Instr} {w c e w' : List ℕ} {n m : Counts} → Wrote T code w c e w' n m → m.code + (m.dos + d) ≤ limits.code
-    → EmitsWith d T code w c e w' n (emitted.Counts m)
+    → EmitsWith d T code w c e w' n (Some m)
 has_room {d} {T} {code} {w} {c} {e} {w'} {n} {m} h l =
     record {
       wrote = λ k q. let same : m ≡ k = cc in subst (λ (x : Counts). Wrote T code w c e w' n x) same h;
@@ -41,7 +40,7 @@ has_room {d} {T} {code} {w} {c} {e} {w'} {n} {m} h l =
     }
 
 pub no_room_lem : {d : ℕ} {T : Tables} {code : List Instr} {w c e w' : List ℕ} {n : Counts} → tables_fit (tables_of T code) (n.code + length code) (n.dos + d) ≡ false
-    → EmitsWith d T code w c e w' n emitted.Full
+    → EmitsWith d T code w c e w' n None
 no_room_lem h =
     record {
       wrote = λ k q. let z : ◌≡◌ {A = ℕ} 0 1 = cc in absurd (omega arith);
@@ -70,12 +69,12 @@ module _ (T : Tables) (a b : List Instr) where
       still_full (tables_of T a) (tables_of T (a ++ b)) (n.code + length a) (n.code + length (a ++ b)) (n.dos + 0) (n.dos + d)
       (subst (λ (U : Tables). Grown (tables_of T a) U) (sym (tables_append T a b)) (grown (tables_of T a) b)) (omega (arith, length-append a b)) h
 
-  pub full_then : {d : ℕ} {w c₁ e₁ w₁ c₂ e₂ w₂ : List ℕ} {n : Counts} {r : Emitted} → Emits T a w c₁ e₁ w₁ n r → r ≡ emitted.Full
-      → EmitsWith d T (a ++ b) w c₂ e₂ w₂ n emitted.Full
+  pub full_then : {d : ℕ} {w c₁ e₁ w₁ c₂ e₂ w₂ : List ℕ} {n : Counts} {r : Option Counts} → Emits T a w c₁ e₁ w₁ n r → r ≡ None
+      → EmitsWith d T (a ++ b) w c₂ e₂ w₂ n None
   full_then {d} {n = n} h e = no_room_lem (full_both n d (h.full e))
 
   -- one after the other, where the first has room
-  pub emits_both : {d : ℕ} {w c₁ e₁ w₁ c₂ e₂ w₂ : List ℕ} {n m : Counts} {r : Emitted} → Wrote T a w c₁ e₁ w₁ n m
+  pub emits_both : {d : ℕ} {w c₁ e₁ w₁ c₂ e₂ w₂ : List ℕ} {n m : Counts} {r : Option Counts} → Wrote T a w c₁ e₁ w₁ n m
       → EmitsWith d (tables_of T a) b w₁ c₂ e₂ w₂ m r → EmitsWith d T (a ++ b) w c₂ e₂ w₂ n r
   emits_both {d} {n = n} {m} p q =
       record {

@@ -10,8 +10,7 @@ use Rattle.rules_deck.specs.Translation.{Tables, add_exits, tables_after}
 use Rattle.take_draft.specs.declared.Counts.{Counts}
 use Rattle.take_draft.specs.Counts.{with_exits}
 use Rattle.take_draft.specs.Kept.{Tabled, Fit}
-use Rattle.take_instructions.specs.declared.Emitted.{Emitted}
-use Rattle.take_instructions.specs.declared.Emitted.TheVariants as emitted
+use Rattle.std.specs.Prelude.{Option, None}
 use Rattle.take_instructions.specs.Emits.{Grows, Appends}
 use Rattle.take_instructions.specs.Emitting.{EmitsJump, EmitsHalt, EmitsThree, EmitsChoose, EmitsEnter}
 use Rattle.take_instructions.proofs.Fits.{exits_over, code_over}
@@ -20,7 +19,7 @@ use Rattle.take_instructions.proofs.One.{Between, itself, grows_with, grows, one
 
 -- ---- no table
 
-module _ {ws ws' : List ℕ} {n : Counts} {r : Emitted} (f : Fit n) where
+module _ {ws ws' : List ℕ} {n : Counts} {r : Option Counts} (f : Fit n) where
   pub halted : {x : ℕ} → Appends ws ws' n 0 x r → Grows 0 n r × EmitsHalt x ws ws' n r
   halted {x} a = (grows (itself n) f a, λ s T c e t. one (itself n) f a T (HLT x) t refl refl s)
 
@@ -33,7 +32,7 @@ module _ {ws ws' : List ℕ} {n : Counts} {r : Emitted} (f : Fit n) where
     λ d T c e t. one_with (itself n) f a T (DOI n.dos d) t refl refl (omega (arith, f.dos)) 1 (λ m q. omega (arith, h)),
   )
 
-pub not_entered_lem : (ws : List ℕ) (n : Counts) → 4095 ≤ n.code + n.dos → Grows 1 n emitted.Full × EmitsEnter ws ws n emitted.Full
+pub not_entered_lem : (ws : List ℕ) (n : Counts) → 4095 ≤ n.code + n.dos → Grows 1 n None × EmitsEnter ws ws n None
 not_entered_lem ws n h = (no_counts_lem 1 n, λ d T c e t. no_room_lem (code_over T (n.code + 1) (n.dos + 1) (omega (arith, h))))
 
 -- ---- exits
@@ -67,7 +66,7 @@ module _ (n : Counts) where
         exits_count = omega (arith, q, t.exits_count, length-append T.exits ts);
       }
 
-  module _ {ws ws' : List ℕ} {r : Emitted} (f : Fit n) where
+  module _ {ws ws' : List ℕ} {r : Option Counts} (f : Fit n) where
     pub branched : n.exits ≤ 1021 → Appends ws ws' (with_exits n (n.exits + 3)) 12 n.exits r → Grows 0 n r × EmitsThree ws ws' n r
     branched h a =
         let b = exits_between (n.exits + 3) in
@@ -84,13 +83,13 @@ module _ (n : Counts) where
               one b g a T (BRC ts) (exits_tabled T (length ts ∷ ts) (n.exits + count + 1) t size) refl t.exits_count (omega (arith, f.exits)),
         )
 
-  pub not_branched : (ws : List ℕ) → 1021 < n.exits → Grows 0 n emitted.Full × EmitsThree ws ws n emitted.Full
+  pub not_branched : (ws : List ℕ) → 1021 < n.exits → Grows 0 n None × EmitsThree ws ws n None
   not_branched ws h = (
     no_counts_lem 0 n,
     λ x y z T c e t. no_room_lem (exits_over (tables_after T (BR3 x y z)) (n.code + 1) (n.dos + 0) (omega (arith, h, t.exits_count, length-append T.exits (x ∷ y ∷ z ∷ [])))),
   )
 
-  pub not_chosen : (ws : List ℕ) (count : ℕ) → 1024 - n.exits ≤ count → Grows 0 n emitted.Full × EmitsChoose count ws ws n emitted.Full
+  pub not_chosen : (ws : List ℕ) (count : ℕ) → 1024 - n.exits ≤ count → Grows 0 n None × EmitsChoose count ws ws n None
   not_chosen ws count h = (
     no_counts_lem 0 n,
     λ ts k T c e t.

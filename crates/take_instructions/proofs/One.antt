@@ -14,15 +14,14 @@ use Rattle.rules_deck.specs.Translation.{Tables, tables_after, operand, word_of}
 use Rattle.take_draft.specs.declared.Counts.{Counts}
 use Rattle.take_draft.specs.Counts.{with_word}
 use Rattle.take_draft.specs.Kept.{Tabled, Fit}
-use Rattle.take_instructions.specs.declared.Emitted.{Emitted}
-use Rattle.take_instructions.specs.declared.Emitted.TheVariants as emitted
+use Rattle.std.specs.Prelude.{Option, Some, None}
 use Rattle.take_instructions.specs.Emits.{Beside, Grows, EmitsWith, Appends}
 use Rattle.take_instructions.proofs.Fits.{code_over}
 
 -- ---- one word
 
 pub appended : (ws : List ℕ) (n : Counts) (op x w : ℕ) → length ws ≡ 4096 → n.code + n.dos < 4096 → w ≡ op * 2 ^ 24 + x % 2 ^ 24
-    → Appends ws (set ws n.code w) n op x (emitted.Counts (with_word n))
+    → Appends ws (set ws n.code w) n op x (Some (with_word n))
 appended ws n op x w long room is =
     record {
       counts = λ m e. let same : with_word n ≡ m = cc in sym same;
@@ -35,7 +34,7 @@ appended ws n op x w long room is =
       full = λ e. let z : ◌≡◌ {A = ℕ} 0 1 = cc in absurd (omega arith);
     }
 
-pub not_appended : (ws : List ℕ) (n : Counts) (op x : ℕ) → 4096 ≤ n.code + n.dos → Appends ws ws n op x emitted.Full
+pub not_appended : (ws : List ℕ) (n : Counts) (op x : ℕ) → 4096 ≤ n.code + n.dos → Appends ws ws n op x None
 not_appended ws n op x h =
     record {
       counts = λ m e. let z : ◌≡◌ {A = ℕ} 0 1 = cc in absurd (omega arith);
@@ -54,8 +53,8 @@ pub record Between (n k : Counts) : Type 0 where
 pub itself : (n : Counts) → Between n n
 itself n = record { beside = record { names = refl; cells = refl; dos = refl; jumps = refl; statements = refl }; code = refl }
 
-module _ {ws ws' : List ℕ} {n k : Counts} {op x : ℕ} {r : Emitted} (b : Between n k) (f : Fit k) (a : Appends ws ws' k op x r) where
-  besides : (m : Counts) → r ≡ emitted.Counts m → Beside n m
+module _ {ws ws' : List ℕ} {n k : Counts} {op x : ℕ} {r : Option Counts} (b : Between n k) (f : Fit k) (a : Appends ws ws' k op x r) where
+  besides : (m : Counts) → r ≡ Some m → Beside n m
   besides m e =
       let q = a.counts m e in
       record {
@@ -66,7 +65,7 @@ module _ {ws ws' : List ℕ} {n k : Counts} {op x : ℕ} {r : Emitted} (b : Betw
         statements = ap (λ (y : Counts). y.statements) q ∙ b.beside.statements;
       }
 
-  fits : (m : Counts) → r ≡ emitted.Counts m → Fit m
+  fits : (m : Counts) → r ≡ Some m → Fit m
   fits m e =
       subst (λ (y : Counts). Fit y) (sym (a.counts m e))
       (record {
@@ -81,16 +80,16 @@ module _ {ws ws' : List ℕ} {n k : Counts} {op x : ℕ} {r : Emitted} (b : Betw
         jumps = f.jumps;
       })
 
-  rooms : (d : ℕ) → k.code + (k.dos + d) < limits.code → (m : Counts) → r ≡ emitted.Counts m → m.code + (m.dos + d) ≤ limits.code
+  rooms : (d : ℕ) → k.code + (k.dos + d) < limits.code → (m : Counts) → r ≡ Some m → m.code + (m.dos + d) ≤ limits.code
   rooms d h m e =
       let c = ap (λ (y : Counts). y.code) (a.counts m e) in
       let g = ap (λ (y : Counts). y.dos) (a.counts m e) in
       omega (arith, h, c, g)
 
-  roomy : (m : Counts) → r ≡ emitted.Counts m → k.code + (k.dos + 0) < limits.code
+  roomy : (m : Counts) → r ≡ Some m → k.code + (k.dos + 0) < limits.code
   roomy m e = omega (arith, a.room m e)
 
-  pub grows_with : (d : ℕ) → ((m : Counts) → r ≡ emitted.Counts m → k.code + (k.dos + d) < limits.code) → Grows d n r
+  pub grows_with : (d : ℕ) → ((m : Counts) → r ≡ Some m → k.code + (k.dos + d) < limits.code) → Grows d n r
   grows_with d h = record { fit = fits; beside = besides; room = λ m e. rooms d (h m e) m e }
 
   pub grows : Grows 0 n r
@@ -101,7 +100,7 @@ module _ {ws ws' : List ℕ} {n k : Counts} {op x : ℕ} {r : Emitted} (b : Betw
     unfolding word_of
     word_is = ap (λ (y : ℕ). y * 2 ^ 24 + x) o ∙ ap (λ (y : ℕ). operation_number i * 2 ^ 24 + y) p
 
-    pub one_with : (d : ℕ) → ((m : Counts) → r ≡ emitted.Counts m → k.code + (k.dos + d) < limits.code) → EmitsWith d T (i ∷ []) ws c e ws' n r
+    pub one_with : (d : ℕ) → ((m : Counts) → r ≡ Some m → k.code + (k.dos + d) < limits.code) → EmitsWith d T (i ∷ []) ws c e ws' n r
     one_with d h =
         record {
           wrote = λ m q.
@@ -129,7 +128,7 @@ module _ {ws ws' : List ℕ} {n k : Counts} {op x : ℕ} {r : Emitted} (b : Betw
     one = one_with 0 roomy
 
 -- nothing was put
-pub no_counts_lem : (d : ℕ) (n : Counts) → Grows d n emitted.Full
+pub no_counts_lem : (d : ℕ) (n : Counts) → Grows d n None
 no_counts_lem d n =
     record {
       fit = λ m e. let z : ◌≡◌ {A = ℕ} 0 1 = cc in absurd (omega arith);

@@ -1,23 +1,27 @@
 // The kinds of statements, as a plan and a row have them.
 #![tactic(auto)]
 
-pub const ASSIGNMENT: u64 = 0;
+ghost use Rattle.std.specs.Prelude.{◌≡◌};
+ghost use Rattle.take_kinds.specs.Kinds.{word_of};
 
-pub const GO_TO: u64 = 1;
+#[derive(Clone, Copy, PartialEq, Eq, Debug)]
+pub enum Kind {
+    Assignment = 0,
+    GoTo = 1,
+    Computed = 2,
+    If = 3,
+    Do = 4,
+    Continue = 5,
+    Stop = 6,
+    End = 7,
+    Dimension = 8,
+}
 
-pub const COMPUTED: u64 = 2;
-
-pub const IF: u64 = 3;
-
-pub const DO: u64 = 4;
-
-pub const CONTINUE: u64 = 5;
-
-pub const STOP: u64 = 6;
-
-pub const END: u64 = 7;
-
-pub const DIMENSION: u64 = 8;
-
-// A text that is no statement.
-pub const NO_FORM: u64 = 9;
+impl Kind {
+    // As a row has it.
+    pub fn word(self) -> u64
+        ensures { result ≡ word_of self }
+    {
+        self as u64
+    }
+}

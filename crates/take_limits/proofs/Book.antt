@@ -8,6 +8,7 @@ use Prim.Native.Nat.{ℕ, ◌≤◌, min}
 use native.Mathlib.Omega.{arith}
 use lib.Dec.{leb}
 use lib.ListN.{length, take, length-take, length-map}
+use Rattle.std.specs.List.{list_all}
 use borrow.Author.Tests.{leb-true, leb-false, le-leb, lt-leb}
 use Rattle.rules_shared.specs.House.{house1401}
 use Rattle.rules_shared.specs.Lists.{all}
@@ -42,7 +43,7 @@ pub capped_right : (n : Digits) → right_number (capped n) ≡ right_digits n
 unfolding right_number capped
 capped_right n = ap₂ (λ (a b : Bool). a && b) (least_kept (value_of n)) (most_kept (value_of n))
 
-pub all_capped : (ns : List Digits) → all right_number (map capped ns) ≡ all right_digits ns
+pub all_capped : (ns : List Digits) → list_all right_number (map capped ns) ≡ all right_digits ns
 all_capped [] = refl
 all_capped (n ∷ ns) = ap₂ (λ (a b : Bool). a && b) (capped_right n) (all_capped ns)
 
@@ -68,7 +69,7 @@ three_tell : (k : ℕ) (e : Expr) (a b c : Digits) → (right_number (capped a) 
 unfolding form_exits form_last
 three_tell k e a b c = rw (right13_all (lawful1401 k) (ifs e a b c), capped_right a, capped_right b, capped_right c, and_true (right_digits c))
 
-list_tells : (k : ℕ) (ns : List Digits) (v : Name) → all right_number (map capped ns) ≡ right13 (house1401 k) (computed ns v)
+list_tells : (k : ℕ) (ns : List Digits) (v : Name) → list_all right_number (map capped ns) ≡ right13 (house1401 k) (computed ns v)
 unfolding form_exits form_last
 list_tells k ns v = all_capped ns ∙ ap (all right_digits) (sym (append-nil ns)) ∙ sym (right13_all (lawful1401 k) (computed ns v))
 
@@ -85,7 +86,7 @@ pub of_form : (k : ℕ) (f : Form) (items : List ℕ) → take (length (form_wor
 unfolding of_statement statement_of right11 right12 right13 right14 form_names form_constants form_levels form_exits form_last
 of_form k (assign t e) items h = sizes_tell k (assign t e) true refl
 of_form k (go_to n) items h = go_to_alone k n
-of_form k (computed ns v) items h = sizes_tell k (computed ns v) (all right_number (take (length ns) items)) (ap (all right_number) (computed_table ns v items h) ∙ list_tells k ns v)
+of_form k (computed ns v) items h = sizes_tell k (computed ns v) (list_all right_number (take (length ns) items)) (ap (list_all right_number) (computed_table ns v items h) ∙ list_tells k ns v)
 of_form k (ifs e a b c) items h = sizes_tell k (ifs e a b c) _ (three_tell k e a b c)
 of_form k (loop n v p q r) items h = sizes_tell k (loop n v p q r) _ (last_tells k n v p q r)
 of_form k continue items h = refl

@@ -1,117 +1,81 @@
 // 11 to 14: tests of what the reader gives back.
 #![tactic(auto)]
 
-ghost use Rattle.std.specs.Prelude.{◌≡◌, ◌&&◌, ◌≤◌, length, take};
-ghost use Rattle.rules_shared.specs.Lists.{all};
-ghost use Rattle.take_limits.specs.Tests.{right_number, of_number, of_sizes, of_statement, exits_in};
+ghost use Rattle.std.specs.Prelude.{◌≡◌, ◌&&◌, ◌≤◌, length};
+ghost use Rattle.std.specs.List.{list_all};
+ghost use Rattle.take_limits.specs.Tests.{right_number, of_sizes, of_statement, exits_in};
 
 use limits::PARENTHESES;
 use read_cards::Number;
 use read_forms::Statement;
 use read_tokens::Sizes;
+use refusals::Reason;
 
 // Characters of a name.
 const NAME_LENGTH: usize = 6;
 
 // A number that is a word in the table.
+#[tactic(auto, unfolding(crate::specs::Tests::right_number))]
 fn right_word(word: u64) -> bool
     ensures { result ≡ right_number word }
 {
-    if word < 1 {
-        return false;
-    }
-    word <= 99999
+    1 <= word && word <= 99999
 }
 
 fn right_number(n: Number) -> bool
     ensures { result ≡ right_number n.0 }
 {
-    right_word(n.0 as u64)
+    right_word(u64::from(n.0))
 }
 
-fn right_numbers(items: &[u64], count: usize) -> bool
-    requires { count ≤ length items.now }
-    ensures { result ≡ all right_number (take count items.now) }
+fn right_words(words: &[u64]) -> bool
+    ensures { result ≡ list_all right_number words.now }
 {
-    let mut i = 0;
-    while i < count {
-        if !right_word(items[i]) {
-            return false;
-        }
-        i += 1;
-    }
-    true
+    words.iter().all(|&word| right_word(word))
 }
 
-fn of_sizes(k: u32, sizes: Sizes, numbers: bool) -> u32
+#[tactic(auto, unfolding(crate::specs::Tests::of_sizes))]
+fn of_sizes(k: u32, sizes: Sizes, numbers: bool) -> Result<(), Reason>
     ensures { result ≡ of_sizes k sizes numbers }
 {
-    if NAME_LENGTH < sizes.name {
-        return 11;
-    }
-    if 0 < sizes.other {
-        return 11;
+    if NAME_LENGTH < sizes.name || sizes.other {
+        return Err(Reason::Name);
     }
     if (k as usize) < sizes.constant {
-        return 12;
+        return Err(Reason::Constant);
     }
     if !numbers {
-        return 13;
+        return Err(Reason::Number);
     }
     if PARENTHESES < sizes.levels {
-        return 14;
+        return Err(Reason::Parentheses);
     }
-    0
+    Ok(())
 }
 
-fn of_number(n: Number) -> u32
-    ensures { result ≡ of_number (right_number n.0) }
-{
-    if right_number(n) { 0 } else { 13 }
-}
-
-fn right_three(a: Number, b: Number, c: Number) -> bool
-    ensures { result ≡ right_number a.0 && (right_number b.0 && right_number c.0) }
-{
-    if !right_number(a) {
-        return false;
-    }
-    if !right_number(b) {
-        return false;
-    }
-    right_number(c)
-}
-
-// The lowest number, 0 where none of them is wrong.
-pub fn of_statement(k: u32, items: &[u64], s: Statement) -> u32
+// The lowest number, if one of them is wrong.
+#[tactic(auto, unfolding(crate::specs::Tests::of_statement, crate::specs::Tests::exits_in))]
+pub fn of_statement(k: u32, items: &[u64], s: Statement) -> Result<(), Reason>
     requires { exits_in s ≤ length items.now }
     ensures { result ≡ of_statement k items.now s }
 {
     match s {
-        Statement::Assign(a) => {
-            let z = a.sizes;
-            of_sizes(k, z, true)
+        Statement::Assign(a) => of_sizes(k, a.sizes, true),
+        Statement::GoTo(n) => {
+            if right_number(n) {
+                Ok(())
+            } else {
+                Err(Reason::Number)
+            }
         }
-        Statement::GoTo(n) => of_number(n),
-        Statement::Computed(c) => {
-            let z = c.sizes;
-            of_sizes(k, z, right_numbers(items, c.exits))
-        }
-        Statement::If(i) => {
-            let z = i.sizes;
-            of_sizes(k, z, right_three(i.below, i.at, i.above))
-        }
-        Statement::Do(d) => {
-            let z = d.sizes;
-            of_sizes(k, z, right_number(d.last))
-        }
-        Statement::Continue => 0,
-        Statement::Stop => 0,
-        Statement::End => 0,
-        Statement::Dimension(d) => {
-            let z = d.sizes;
-            of_sizes(k, z, true)
-        }
-        Statement::Bad => 0,
+        Statement::Computed(c) => of_sizes(k, c.sizes, right_words(&items[..c.exits])),
+        Statement::If(i) => of_sizes(
+            k,
+            i.sizes,
+            right_number(i.below) && right_number(i.at) && right_number(i.above),
+        ),
+        Statement::Do(d) => of_sizes(k, d.sizes, right_number(d.last)),
+        Statement::Continue | Statement::Stop | Statement::End => Ok(()),
+        Statement::Dimension(d) => of_sizes(k, d.sizes, true),
     }
 }

@@ -1,14 +1,14 @@
 -- Lookups in a table that lists what is held.
 -- Assumes nothing.
 use mathlib.Core.Path.{◌≡◌, refl, sym, ap, ◌∙◌, subst}
-use Prim.Native.Nat.{ℕ, zero, suc, ◌+◌, ◌*◌, ◌≤◌, ◌<◌}
+use Prim.Native.Nat.{ℕ, zero, suc, ◌+◌, ◌*◌, ◌≤◌, ◌<◌, min}
 use native.Mathlib.Omega.{arith}
 use native.Mathlib.Nat.{zero-add, le-mul_of_pos_right, mul-le-mul_right}
 use mathlib.Core.Bool.{Bool, true, false, ◌||◌, cond, false≢true}
 use mathlib.Core.List.{List, [], ◌∷◌, ◌++◌}
 use lib.Dec.{ltb}
 use lib.ListN.{get_or, drop, take-append-drop}
-use borrow.Author.Tests.{le-ltb}
+use borrow.Author.Tests.{le-ltb, lt-ltb}
 use Rattle.rules_shared.specs.Lists.{Each, each_more}
 use Rattle.rules_text.specs.Trees.{Name}
 use Rattle.rules_deck.specs.Deck.{same_name, Dims, width}
@@ -18,7 +18,10 @@ use Rattle.rules_deck.specs.Cells.{arrays_held}
 use Rattle.read_tokens.specs.Words.{name_of, no_name}
 use Rattle.read_tokens.specs.declared.Name as code
 use Rattle.take_draft.specs.Names.{held_words, dims_held, Told, SomeRows, Lists}
-use Rattle.take_name_table.specs.Find.{first_entry}
+use Rattle.take_name_table.specs.declared.Entry.{Entry}
+use Rattle.take_name_table.specs.Find.{first_entry, Finds}
+use Rattle.std.specs.Prelude.{Option, Some, None}
+use Rattle.std.specs.Option.{is_some}
 use Rattle.take_name_table.specs.Lookups.{is_kind, Holds, CellOf, ArrayOf}
 use Rattle.take_name_table.proofs.Spots.{PlainAt, ArrayAt, spot_plain, spot_array, spot_nothing}
 
@@ -59,6 +62,10 @@ holds_is k t n word i e =
     kind true held cells v l tv = (array_spot l v tv).test
     kind false held cells v l tv = (plain_spot l v tv).test
 
+pub holds_found : (k : Bool) (t : List ℕ) (n : ℕ) (word : code.Name) (r : Option ℕ) → Finds t n word k r → Holds t n word k (is_some r)
+holds_found k t n word (Some i) f = subst (λ (b : Bool). Holds t n word k b) (lt-ltb i n f.0) (holds_is k t n word i f.1)
+holds_found k t n word None e = subst (λ (b : Bool). Holds t n word k b) (le-ltb n n (omega arith)) (holds_is k t n word n e)
+
 -- ---- cells
 
 pub cell_low : (v : Name) (held : List Held) → holds (is_the_name v) held ≡ true → first_cell (is_the_name v) held < cell_count held
@@ -73,24 +80,23 @@ cell_low v (array a ∷ held) e = let h = cell_low v held e in omega (arith, h)
 cell_low v (hidden q ∷ held) e = let h = cell_low v held e in omega (arith, h)
 
 -- not found, and so not held
-gone : (i n : ℕ) (b : Bool) → n ≤ i → ltb i n ≡ b → b ≡ true → ⊥
-gone i n b l e p = false≢true (sym (le-ltb i n l) ∙ e ∙ p)
+gone : (n : ℕ) (b : Bool) → ltb n n ≡ b → b ≡ true → ⊥
+gone n b e p = false≢true (sym (le-ltb n n (omega arith)) ∙ e ∙ p)
 
-pub cell_none : (t : List ℕ) (n : ℕ) (word : code.Name) (i : ℕ) → i ≡ first_entry false word n t → n ≤ i → CellOf t n word 0
-cell_none t n word i e le =
+pub cell_none : (t : List ℕ) (n : ℕ) (word : code.Name) → n ≡ first_entry false word n t → CellOf t n word 0
+cell_none t n word e =
     record {
       low = omega arith;
       is = λ held cells v l tv p h.
           let found = ap (λ (j : ℕ). ltb j n) (e ∙ ap (λ (w : code.Name). first_entry false w n t) p) ∙ (plain_spot l v tv).test in
-          absurd (gone i n (holds (is_the_name v) held) le found h);
+          absurd (gone n (holds (is_the_name v) held) found h);
     }
 
-pub cell_found : (t : List ℕ) (n : ℕ) (word : code.Name) (i r : ℕ) → i ≡ first_entry false word n t → (r ≤ 4095) × (get_or t (7 * i + 4) 0 ≤ 4095 → r ≡ get_or t (7 * i + 4) 0)
-    → CellOf t n word r
+pub cell_found : (t : List ℕ) (n : ℕ) (word : code.Name) (i r : ℕ) → i ≡ first_entry false word n t → r ≡ min (get_or t (7 * i + 4) 0) 4095 → CellOf t n word r
 unfolding cell_of
 cell_found t n word i r e g =
     record {
-      low = let h = g.0 in omega (arith, h);
+      low = omega (arith, g);
       is = λ held cells v l tv p h.
           let s = plain_spot l v tv in
           let j : i ≡ first_entry false (name_of v) n t = e ∙ ap (λ (w : code.Name). first_entry false w n t) p in
@@ -98,7 +104,7 @@ cell_found t n word i r e g =
           let low = cell_low v held h in
           let c = l.cells_are in
           let f = l.cells_fit in
-          g.1 (omega (arith, q, low, c, f)) ∙ q;
+          omega (arith, g, q, low, c, f);
     }
 
 -- ---- arrays
@@ -183,19 +189,19 @@ reference_held held e h = go (holds (is_array e.name) held) refl
     go true p = refl
     go false p = absurd (false≢true (sym (reference_none held e p) ∙ h))
 
-pub array_none : (t : List ℕ) (n : ℕ) (word : code.Name) (i : ℕ) → i ≡ first_entry true word n t → n ≤ i → ArrayOf t n word (record { first = 0; rows = 0; columns = 0 })
-array_none t n word i e le =
+pub array_none : (t : List ℕ) (n : ℕ) (word : code.Name) {x : Entry} → (x.first ≡ 0) × ((x.rows ≡ 0) × (x.columns ≡ 0)) → n ≡ first_entry true word n t → ArrayOf t n word x
+array_none t n word z e =
     record {
-      first_low = omega arith;
-      rows_low = omega arith;
-      columns_low = omega arith;
+      first_low = omega (arith, z.0);
+      rows_low = omega (arith, z.1.0);
+      columns_low = omega (arith, z.1.1);
       is = λ held cells x l tv p h.
           let found = ap (λ (j : ℕ). ltb j n) (e ∙ ap (λ (w : code.Name). first_entry true w n t) p) ∙ (array_spot l x.name tv).test in
-          absurd (gone i n (holds (is_array x.name) held) le found (reference_held held x h));
+          absurd (gone n (holds (is_array x.name) held) found (reference_held held x h));
     }
 
 abbrev pub Took : ℕ → ℕ → Type 0
-Took r word = (r ≤ 4096) × (word ≤ 4096 → r ≡ word)
+Took r word = r ≡ min word 4096
 
 pub array_found : (t : List ℕ) (n : ℕ) (word : code.Name) (i f r c : ℕ) → i ≡ first_entry true word n t
     → Took f (get_or t (7 * i + 4) 0) → Took r (get_or t (7 * i + 5) 0) → Took c (get_or t (7 * i + 6) 0)
@@ -203,9 +209,9 @@ pub array_found : (t : List ℕ) (n : ℕ) (word : code.Name) (i f r c : ℕ) �
 unfolding base_of
 array_found t n word i f r c e tf tr tc =
     record {
-      first_low = tf.0;
-      rows_low = tr.0;
-      columns_low = tc.0;
+      first_low = omega (arith, tf);
+      rows_low = omega (arith, tr);
+      columns_low = omega (arith, tc);
       is = λ held cells x l tv p h.
           let held-is = reference_held held x h in
           let s = array_spot l x.name tv in
@@ -217,8 +223,8 @@ array_found t n word i f r c e tf tr tc =
           let qr : get_or t (7 * i + 5) 0 ≡ (dims_held held x.name).rows = ap (λ (y : ℕ). get_or t (7 * y + 5) 0) j ∙ s.rows_are held-is in
           let qc : get_or t (7 * i + 6) 0 ≡ (dims_held held x.name).columns = ap (λ (y : ℕ). get_or t (7 * y + 6) 0) j ∙ s.columns_are held-is in
           record {
-            first_is = tf.1 (let y = low.first_low in omega (arith, y, qf, fits)) ∙ qf;
-            rows_are = tr.1 (let y = low.rows_low in omega (arith, y, qr, fits)) ∙ qr;
-            columns_are = tc.1 (let y = low.columns_low in omega (arith, y, qc, fits)) ∙ qc;
+            first_is = let y = low.first_low in omega (arith, tf, y, qf, fits);
+            rows_are = let y = low.rows_low in omega (arith, tr, y, qr, fits);
+            columns_are = let y = low.columns_low in omega (arith, tc, y, qc, fits);
           };
     }

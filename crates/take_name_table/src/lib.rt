@@ -1,12 +1,18 @@
 // The table of names, seven words an entry: a name's four, its first cell, rows and columns. Lookups, and an entry written.
 #![tactic(auto)]
 
-ghost use Rattle.std.specs.Prelude.{◌≡◌, [], ◌∷◌, ◌++◌, ◌+◌, ◌*◌, ◌≤◌, length, drop};
+mod counted;
+mod listed;
+
+ghost use Rattle.std.specs.Prelude.{[], ◌∷◌, ◌++◌, ◌≡◌, ◌+◌, ◌*◌, ◌≤◌, ◌<◌, length, drop};
 ghost use Rattle.read_tokens.specs.Words.{name_words};
 ghost use Rattle.read_items.specs.Parsed.{Put};
-ghost use Rattle.take_name_table.specs.Find.{of_kind, is_entry, first_entry, item_length};
+ghost use Rattle.take_name_table.specs.Find.{is_entry, Finds, item_length};
 ghost use Rattle.take_name_table.specs.Lookups.{Holds, CellOf, ArrayOf};
 
+pub use counted::Extent;
+use limits::CELLS;
+pub use listed::Names;
 use read_items::{ELEMENT_ITEM, NAME_ITEM};
 use read_tokens::{NAME_WORDS, Name};
 
@@ -26,132 +32,90 @@ pub const ROWS: usize = NAME_WORDS + 1;
 
 pub const COLUMNS: usize = NAME_WORDS + 2;
 
-const CELLS: u64 = limits::CELLS as u64;
-
 // An array's first cell and dimensions; 0 columns for one dimension.
-#[derive(Drop)]
+#[derive(Clone, Copy, Default)]
 pub struct Entry {
     pub first: u32,
     pub rows: u32,
     pub columns: u32,
 }
 
-// How many names and cells there are then, or that there are too many.
-#[derive(Drop)]
-pub enum Grown {
-    Full,
-    Names { names: usize, cells: usize },
-}
-
-fn of_kind(arrays: bool, rows: u64) -> bool
-    ensures { result ≡ of_kind arrays rows }
-{
-    if arrays {
-        return 1 <= rows;
+impl Names<'_> {
+    // Rows tell an array from a plain name.
+    fn is_entry(&self, i: usize, name: Name, arrays: bool) -> bool
+        requires { i < self.now.count }
+        ensures { result ≡ is_entry arrays name (drop (7 * i) self.now.words.now) }
+    {
+        let at = ENTRY_WORDS * i;
+        read_tokens::name_at(self.words, at) == name && (1 <= self.words[at + ROWS]) == arrays
     }
-    rows == 0
-}
 
-fn is_entry(table: &[u64], at: usize, name: Name, arrays: bool) -> bool
-    requires { at + 7 ≤ length table.now }
-    ensures { result ≡ is_entry arrays name (drop at table.now) }
-{
-    if !read_tokens::same_name(read_tokens::name_at(table, at), name) {
-        return false;
-    }
-    of_kind(arrays, table[at + ROWS])
-}
-
-// The index of the first entry of the name as an array, or as a plain name; n where there is none.
-pub fn find(table: &[u64], n: usize, name: Name, arrays: bool) -> usize
-    requires { 7 * n ≤ length table.now }
-    ensures { result ≡ first_entry arrays name n table.now }
-{
-    let mut i = 0;
-    while i < n {
-        if is_entry(table, ENTRY_WORDS * i, name, arrays) {
-            return i;
+    // The index of the first entry of the name as an array, or as a plain name.
+    pub fn find(&self, name: Name, arrays: bool) -> Option<usize>
+        ensures { Finds self.now.words.now self.now.count name arrays result }
+    {
+        for i in 0..self.count {
+            if self.is_entry(i, name, arrays) {
+                return Some(i);
+            }
         }
-        i += 1;
+        None
     }
-    n
-}
 
-pub fn holds(table: &[u64], n: usize, name: Name, arrays: bool) -> bool
-    requires { 7 * n ≤ length table.now }
-    ensures { Holds table.now n name arrays result }
-{
-    find(table, n, name, arrays) < n
-}
-
-// A word that is at most `most`.
-fn small(word: u64, most: u64) -> u32
-    requires { most ≤ 4096 }
-    ensures { (result ≤ most) × (word ≤ most → result ≡ word) }
-{
-    if most < word {
-        return 0;
+    pub fn holds(&self, name: Name, arrays: bool) -> bool
+        ensures { Holds self.now.words.now self.now.count name arrays result }
+    {
+        self.find(name, arrays).is_some()
     }
-    word as u32
-}
 
-// The cell of a plain name that the table holds.
-pub fn cell_of(table: &[u64], n: usize, name: Name) -> u32
-    requires { 7 * n ≤ length table.now }
-    ensures { CellOf table.now n name result }
-{
-    let i = find(table, n, name, false);
-    if n <= i {
-        return 0;
-    }
-    small(table[ENTRY_WORDS * i + FIRST], 4095)
-}
-
-// The array of a reference that passes 16.
-pub fn array_of(table: &[u64], n: usize, name: Name) -> Entry
-    requires { 7 * n ≤ length table.now }
-    ensures { ArrayOf table.now n name result }
-{
-    let i = find(table, n, name, true);
-    if n <= i {
-        return Entry {
-            first: 0,
-            rows: 0,
-            columns: 0,
+    // The cell of a plain name that the table holds; 0 if it does not, since an Option would be one more way out for callers that know it is there.
+    pub fn cell_of(&self, name: Name) -> u32
+        ensures { CellOf self.now.words.now self.now.count name result }
+    {
+        let Some(i) = self.find(name, false) else {
+            return 0;
         };
+        self.words[ENTRY_WORDS * i + FIRST].min(CELLS as u64 - 1) as u32
     }
-    let at = ENTRY_WORDS * i;
-    let first = small(table[at + FIRST], CELLS);
-    let rows = small(table[at + ROWS], CELLS);
-    let columns = small(table[at + COLUMNS], CELLS);
-    Entry {
-        first,
-        rows,
-        columns,
+
+    // The array of a reference that passes 16.
+    pub fn array_of(&self, name: Name) -> Entry
+        ensures { ArrayOf self.now.words.now self.now.count name result }
+    {
+        let Some(i) = self.find(name, true) else {
+            return Entry::default();
+        };
+        let at = ENTRY_WORDS * i;
+        let first = self.words[at + FIRST].min(CELLS as u64) as u32;
+        let rows = self.words[at + ROWS].min(CELLS as u64) as u32;
+        let columns = self.words[at + COLUMNS].min(CELLS as u64) as u32;
+        Entry {
+            first,
+            rows,
+            columns,
+        }
     }
 }
 
+// How many words an item has, by its first.
 pub fn item_length(kind: u64) -> usize
     ensures { result ≡ item_length kind }
 {
-    if kind == 4 {
-        return ELEMENT_ITEM;
+    match kind {
+        4 => ELEMENT_ITEM,
+        2 => NAME_ITEM,
+        1 => 2,
+        _ => 1,
     }
-    if kind == 2 {
-        return NAME_ITEM;
-    }
-    if kind == 1 {
-        return 2;
-    }
-    1
 }
 
-// Writes the entry at index n.
+// Writes the entry at index n, which is a place and no count of what stands in the table.
 pub fn put_entry(table: &mut [u64], n: usize, name: Name, first: u64, rows: u64, columns: u64)
     requires { 7 * n + 7 ≤ length table.old }
     ensures { Put table.old table.new (7 * n) (name_words name ++ (first ∷ rows ∷ columns ∷ [])) (7 * n + 7) }
 {
-    let a = read_items::put_name(table, ENTRY_WORDS * n, name);
-    let b = read_items::put_two(table, a, first, rows);
-    table[b] = columns;
+    let at = ENTRY_WORDS * n;
+    table[at..at + ENTRY_WORDS].copy_from_slice(&[
+        name.0, name.1, name.2, name.3, first, rows, columns,
+    ]);
 }

@@ -1,8 +1,10 @@
 -- What drafting one more statement of a deck ensures.
 -- Assumes nothing.
-use Rattle.std.specs.Prelude.{◌≡◌, ℕ, suc, ◌+◌, ◌≤◌, ◌<◌, List, [], ◌∷◌, length, drop}
+use Rattle.std.specs.Prelude.{◌≡◌, ℕ, suc, ◌+◌, ◌≤◌, ◌<◌, Option, Some, None, Result, Ok, Err, List, [], ◌∷◌, length, drop}
 use Rattle.rules_shared.specs.House.{house1401}
 use Rattle.rules_shared.specs.Refusals.{refusal}
+use Rattle.refusals.specs.declared.Reason.{Reason}
+use Rattle.refusals.specs.Numbers.{number_of}
 use Rattle.rules_text.specs.Trees.{Form, Statement}
 use Rattle.rules_text.specs.Cards.{Punched, cards_of, text_of, grouped}
 use Rattle.rules_deck.specs.Judge.{Taken, takes}
@@ -12,8 +14,7 @@ use Rattle.take_draft.specs.declared.Counts.{Counts}
 use Rattle.take_draft.specs.Draft.{Draft, drafts}
 use Rattle.take_draft.specs.Kept.{Words, Fit, Room, Kept, Matches}
 use Rattle.take_parts.specs.Fresh.{Fresh}
-use Rattle.take_next.specs.declared.Step.{Step}
-use Rattle.take_next.specs.declared.Step.TheVariants as step
+use Rattle.take_next.specs.declared.Kept as code
 
 abbrev pub punched_as : Punched → Form → Statement
 punched_as p f = record { number = p.number; form = f }
@@ -43,17 +44,17 @@ pub record Keeps (k q : ℕ) (t : Taken) (D : Draft) (p : Punched) (lent : Words
   pub fit : Fit n
   pub counted : n.statements ≡ suc q
 
--- the first statement from a card on; n counts those before it, m those and it
-pub data Steps (k : ℕ) (deck : List ℕ) (card : ℕ) (t : Taken) (D : Draft) (n : Counts) (lent : Words) : Step → Type 0 where
-  ended : to_come deck card ≡ [] → Kept D lent n → Steps k deck card t D n lent step.End
-  refused : (number : ℕ) (p : Punched) (more : List Punched) → to_come deck card ≡ p ∷ more
-      → ((rest : Taken → Read) → read_text (house1401 k) n.statements p.number t rest (text_of p.raw) ≡ not_read (refusal number (suc n.statements) 0))
-      → Steps k deck card t D n lent (step.Refused number)
-  taken : (p : Punched) (next : ℕ) (m : Counts) → to_come deck card ≡ p ∷ to_come deck next → card < next → next ≤ length (cards_of deck)
-      → Keeps k n.statements t D p lent m
-      → Steps k deck card t D n lent (step.Kept next m)
+-- the first statement from a card on; n counts those before it, those of r it too
+pub data Steps (k : ℕ) (deck : List ℕ) (card : ℕ) (t : Taken) (D : Draft) (n : Counts) (lent : Words) : Result (Option code.Kept) Reason → Type 0 where
+  ended : to_come deck card ≡ [] → Kept D lent n → Steps k deck card t D n lent (Ok None)
+  refused : (e : Reason) (p : Punched) (more : List Punched) → to_come deck card ≡ p ∷ more
+      → ((rest : Taken → Read) → read_text (house1401 k) n.statements p.number t rest (text_of p.raw) ≡ not_read (refusal (number_of e) (suc n.statements) 0))
+      → Steps k deck card t D n lent (Err e)
+  taken : (p : Punched) (r : code.Kept) → to_come deck card ≡ p ∷ to_come deck r.next → card < r.next → r.next ≤ length (cards_of deck)
+      → Keeps k n.statements t D p lent r.counts
+      → Steps k deck card t D n lent (Ok (Some r))
 
 -- after any draft that the tables hold before; with the tables afterwards
-abbrev pub Continues : (k : ℕ) (deck : List ℕ) (card : ℕ) (n : Counts) (lent lent' : Words) → Step → Type 0
+abbrev pub Continues : (k : ℕ) (deck : List ℕ) (card : ℕ) (n : Counts) (lent lent' : Words) → Result (Option code.Kept) Reason → Type 0
 Continues k deck card n lent lent' r =
     (D : Draft) (t : Taken) → Kept D lent n → Matches t D → Fresh n.statements D → Steps k deck card t D n lent' r

@@ -14,8 +14,7 @@ use Rattle.take_draft.specs.Names.{dims_held, Lists, Known}
 use Rattle.take_draft.specs.Kept.{Tabled, Fit}
 use Rattle.take_name_table.specs.Find.{item_length}
 use Rattle.take_name_table.proofs.Fronts.{front, none_left, Ahead, step_on, lent}
-use Rattle.take_instructions.specs.declared.Emitted.{Emitted}
-use Rattle.take_instructions.specs.declared.Emitted.TheVariants as emitted
+use Rattle.std.specs.Prelude.{Option, Some, None}
 use Rattle.take_instructions.specs.Emits.{Beside, Grows, Wrote, Emits}
 use Rattle.take_operands.specs.Operands.{EmitsItem, EmitsItems}
 use Rattle.take_instructions.proofs.Both.{beside_both, wrote_both, emits_both, full_then, has_room}
@@ -34,7 +33,6 @@ pub record Rest (held : List Held) (T : Tables) (items c e w : List ℕ) (at : �
 pub record Emitting (items names c₀ e₀ w₀ : List ℕ) (n : Counts) (c e w : List ℕ) (at : ℕ) (m : Counts) : Type 0 where
   pub within : at ≤ length items
   pub worded : Worded (drop at items)
-  pub kept : (length c ≡ length c₀) × ((length e ≡ length e₀) × (length w ≡ length w₀))
   pub fit : Fit m
   pub beside : Beside n m
   pub part : (held : List Held) (is : List Item) (T : Tables) → Lists held names n.names n.cells → Tabled T c₀ e₀ n → items ≡ items_words is → Known held is
@@ -47,7 +45,6 @@ module _ (items names c₀ e₀ w₀ : List ℕ) (n : Counts) where
       record {
         within = omega arith;
         worded = w;
-        kept = (refl, (refl, refl));
         fit = f;
         beside = b;
         part = λ held is T l t q k.
@@ -67,7 +64,7 @@ module _ (items names c₀ e₀ w₀ : List ℕ) (n : Counts) where
         subst (λ (x : ℕ). Lists held names x m.cells) (sym p.beside.names)
         (subst (λ (x : ℕ). Lists held names n.names x) (sym p.beside.cells) l)
 
-    pub emit_end : length items ≤ at → Grows 0 n (emitted.Counts m) × EmitsItems items names c₀ e₀ w₀ c e w n (emitted.Counts m)
+    pub emit_end : length items ≤ at → Grows 0 n (Some m) × EmitsItems items names c₀ e₀ w₀ c e w n (Some m)
     emit_end h =
         let room : m.code + (m.dos + 0) ≤ limits.code = omega (arith, p.fit.code) in (
           record {
@@ -79,13 +76,13 @@ module _ (items names c₀ e₀ w₀ : List ℕ) (n : Counts) where
               let g = p.part held is T l t q k in
               let none = none_left (drop at items) g.left g.are (let d = length-drop at items in omega (arith, d, h)) in
               let code = g.same ∙ ap (λ (x : List Item). g.done ++ items_code held (dims_held held) x) none ∙ append-nil g.done in
-              subst (λ (x : List Instr). Emits T x w₀ c e w n (emitted.Counts m)) (sym code) (has_room g.wrote room),
+              subst (λ (x : List Instr). Emits T x w₀ c e w n (Some m)) (sym code) (has_room g.wrote room),
         )
 
     -- of the words from here on, as they are lent
-    pub emit_full : {c' e' w' : List ℕ} {r : Emitted} → at < length items → EmitsItem (take (length items - at) (drop at items)) names c e w c' e' w' m r → r ≡ emitted.Full
-        → Grows 0 n emitted.Full × EmitsItems items names c₀ e₀ w₀ c' e' w' n emitted.Full
-    emit_full {c'} {e'} {w'} {r} h f z = (
+    pub emit_full : {c' e' w' : List ℕ} {r : Option Counts} → at < length items → EmitsItem (take (length items - at) (drop at items)) names c e w c' e' w' m None → r ≡ None
+        → Grows 0 n r × EmitsItems items names c₀ e₀ w₀ c' e' w' n r
+    emit_full {c'} {e'} {w'} {r} h f z = subst (λ (x : Option Counts). Grows 0 n x × EmitsItems items names c₀ e₀ w₀ c' e' w' n x) (sym z) (
       no_counts_lem 0 n,
       λ held is T l t q k.
           let g = p.part held is T l t q k in
@@ -96,23 +93,21 @@ module _ (items names c₀ e₀ w₀ : List ℕ) (n : Counts) where
           let more = items_code held (dims_held held) fr.rest in
           let one = f held fr.first (items_words fr.rest) (tables_of T g.done) (lists l) g.wrote.tables (lent items at ∙ fr.are) (known_first known) in
           let both = emits_both T g.done (i ∷ []) g.wrote one in
-          let full = full_then T (g.done ++ (i ∷ [])) more both z in
+          let full = full_then T (g.done ++ (i ∷ [])) more both refl in
           let code = g.same ∙ ap (λ (x : List Item). g.done ++ items_code held (dims_held held) x) fr.both ∙ sym (append_assoc g.done (i ∷ []) more) in
-          subst (λ (x : List Instr). Emits T x w₀ c' e' w' n emitted.Full) (sym code) full,
+          subst (λ (x : List Instr). Emits T x w₀ c' e' w' n None) (sym code) full,
     )
 
-    pub emit_on : {c' e' w' : List ℕ} {r : Emitted} {k : ℕ} {m' : Counts} → at < length items
-        → Grows 0 m r × EmitsItem (take (length items - at) (drop at items)) names c e w c' e' w' m r → r ≡ emitted.Counts m'
-        → (length c' ≡ length c) × ((length e' ≡ length e) × (length w' ≡ length w)) → k ≡ item_length (get_or items at 0) → Ahead items at
+    pub emit_on : {c' e' w' : List ℕ} {k : ℕ} {m' : Counts} → at < length items
+        → Grows 0 m (Some m') × EmitsItem (take (length items - at) (drop at items)) names c e w c' e' w' m (Some m') → k ≡ item_length (get_or items at 0) → Ahead items at
         → Emitting items names c₀ e₀ w₀ n c' e' w' (at + k) m'
-    emit_on {c'} {e'} {w'} {r} {k} {m'} h f z long ek ah =
+    emit_on {c'} {e'} {w'} {k} {m'} h f ek ah =
         subst (λ (j : ℕ). Emitting items names c₀ e₀ w₀ n c' e' w' (at + j) m') (sym ek)
         (record {
           within = ah.within;
           worded = ah.worded;
-          kept = (long.0 ∙ p.kept.0, (long.1.0 ∙ p.kept.1.0, long.1.1 ∙ p.kept.1.1));
-          fit = f.0.fit m' z;
-          beside = beside_both p.beside (f.0.beside m' z);
+          fit = f.0.fit m' refl;
+          beside = beside_both p.beside (f.0.beside m' refl);
           part = λ held is T l t q kn.
               let g = p.part held is T l t q kn in
               let d = length-drop at items in
@@ -127,6 +122,6 @@ module _ (items names c₀ e₀ w₀ : List ℕ) (n : Counts) where
                 are = step_on items at g.left h fr;
                 known = known_rest known;
                 same = g.same ∙ ap (λ (x : List Item). g.done ++ items_code held (dims_held held) x) fr.both ∙ sym (append_assoc g.done (i ∷ []) more);
-                wrote = wrote_both T g.done (i ∷ []) g.wrote (one.wrote m' z);
+                wrote = wrote_both T g.done (i ∷ []) g.wrote (one.wrote m' refl);
               };
         })

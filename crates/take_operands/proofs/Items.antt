@@ -20,7 +20,7 @@ use Rattle.take_draft.specs.Names.{dims_held}
 use Rattle.take_draft.specs.Kept.{Fit}
 use Rattle.take_name_table.specs.Find.{item_length}
 use Rattle.take_name_table.proofs.Fronts.{front, front_long}
-use Rattle.take_instructions.specs.declared.Emitted.{Emitted}
+use Rattle.std.specs.Prelude.{Option}
 use Rattle.take_instructions.specs.Emits.{Appends}
 use Rattle.take_operands.specs.Operands.{subscript_at, ElementAt, EmitsConstant, EmitsRefer, EmitsLoad, EmitsItem}
 use Rattle.take_instructions.proofs.One.{itself, one}
@@ -53,7 +53,7 @@ pub subscript_is : (items : List ℕ) (at : ℕ) {name : code.Name} → name ≡
     → ◌≡◌ {A = Subscript} (record { times = get_or items at 0; name = name; minus = get_or items (at + 5) 0; addend = get_or items (at + 6) 0 }) (subscript_at items at)
 subscript_is items at e = ap (λ (n : code.Name). record { times = get_or items at 0; name = n; minus = get_or items (at + 5) 0; addend = get_or items (at + 6) 0 }) e
 
-pub load_as : {names ws ws' : List ℕ} {n : Counts} {r : Emitted} {x y : code.Name} → x ≡ y → EmitsLoad x names ws ws' n r → EmitsLoad y names ws ws' n r
+pub load_as : {names ws ws' : List ℕ} {n : Counts} {r : Option Counts} {x y : code.Name} → x ≡ y → EmitsLoad x names ws ws' n r → EmitsLoad y names ws ws' n r
 load_as {names} {ws} {ws'} {n} {r} {x} {y} e h = subst (λ (w : code.Name). EmitsLoad w names ws ws' n r) e h
 
 pub element_is : {items : List ℕ} {name : code.Name} {a b : Subscript} → name ≡ name_at items 1 → a ≡ subscript_at items 6 → b ≡ subscript_at items 13
@@ -69,7 +69,7 @@ element_is {items} {name} {a} {b} n p q v s more e =
 kind_is : {x : ℕ} (y k : ℕ) → x ≡ y % 2 ^ 32 → y ≡ k → k < 256 → x ≡ k
 kind_is y k e q h = let s : y < 4294967296 = omega (arith, q, h) in e ∙ mod-eq_of_lt s ∙ q
 
-module _ {items names constants elements ws ws' : List ℕ} {n : Counts} {r : Emitted} where
+module _ {items names constants elements ws ws' : List ℕ} {n : Counts} {r : Option Counts} where
   pub item_constant : {constants' : List ℕ} → get_or items 0 0 ≡ 1 → EmitsConstant (get_or items 1 0) constants ws constants' ws' n r → EmitsItem items names constants elements ws constants' elements ws' n r
   item_constant z f held (value c) more T l t e k = f c T elements t (ap (λ (x : List ℕ). get_or x 1 0) e) (each_head k.exact)
   item_constant z f held (plain v) more T l t e k = absurd (let q : get_or items 0 0 ≡ 2 = ap (λ (x : List ℕ). get_or x 0 0) e in omega (arith, q, z))

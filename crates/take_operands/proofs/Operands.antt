@@ -22,10 +22,9 @@ use Rattle.take_draft.specs.Parts.{Item, item_names, item_constants, item_plain,
 use Rattle.take_draft.specs.Names.{dims_held, Exact, Known}
 use Rattle.take_draft.specs.Kept.{Tabled, Fit}
 use Rattle.take_name_table.specs.Lookups.{CellOf}
-use Rattle.take_entries.specs.declared.Pooled.{Pooled}
-use Rattle.take_entries.specs.Pooling.{PooledAt, Pools}
+use Rattle.take_entries.specs.Pooling.{PooledAt}
 use Rattle.take_entries.specs.Places.{KnownItem, PutsElement}
-use Rattle.take_instructions.specs.declared.Emitted.{Emitted}
+use Rattle.std.specs.Prelude.{Option, None}
 use Rattle.take_instructions.specs.Emits.{Grows, Appends}
 use Rattle.take_operands.specs.Operands.{EmitsConstant, EmitsRefer, EmitsStore, EmitsLoad}
 use Rattle.take_instructions.proofs.Fits.{constants_over, elements_over}
@@ -34,12 +33,10 @@ use Rattle.take_instructions.proofs.One.{Between, itself, grows, one, no_counts_
 use Rattle.rules_object.specs.Object as object
 use Rattle.rules_text.specs.Trees as trees
 use Rattle.read_elements.specs.declared.Target.TheVariants as target
-use Rattle.take_entries.specs.declared.Pooled.TheVariants as pooled
-use Rattle.take_instructions.specs.declared.Emitted.TheVariants as emitted
 
 -- ---- plain names
 
-module _ {ws ws' : List ℕ} {n : Counts} {r : Emitted} (f : Fit n) where
+module _ {ws ws' : List ℕ} {n : Counts} {r : Option Counts} (f : Fit n) where
   pub loaded : {names : List ℕ} {word : code.Name} {x : ℕ} → CellOf names n.names word x → Appends ws ws' n 2 x r → Grows 0 n r × EmitsLoad word names ws ws' n r
   loaded {names} {word} {x} g a = (
     grows (itself n) f a,
@@ -70,7 +67,7 @@ module _ (n : Counts) (a : List ℕ) where
         jumps = f.jumps;
       }
 
-  pub pooled_one : {b ws ws' : List ℕ} {value word index count : ℕ} {r : Emitted} → word ≡ value % 2 ^ 32 → Fit n → PooledAt a b n.constants word index count
+  pub pooled_one : {b ws ws' : List ℕ} {value word index count : ℕ} {r : Option Counts} → word ≡ value % 2 ^ 32 → Fit n → PooledAt a b n.constants word index count
       → Appends ws ws' (with_constants n count) 1 index r → Grows 0 n r × EmitsConstant value a ws b ws' n r
   pooled_one {b} {ws} {ws'} {value} {word} {index} {count} {r} w f p q =
       let g = pooled_fit f p in
@@ -92,15 +89,17 @@ module _ (n : Counts) (a : List ℕ) where
             }) refl place (omega (arith, p.index_low)),
       )
 
-  pub pooled_none : {b ws : List ℕ} {value word : ℕ} {r : Pooled} → word ≡ value % 2 ^ 32 → Pools a b n.constants word r → r ≡ pooled.Full → Grows 0 n emitted.Full × EmitsConstant value a ws b ws n emitted.Full
-  pooled_none {b} {ws} {value} {word} {r} w p z = (
-    no_counts_lem 0 n,
-    λ c T e t v x.
-        let k : word ≡ value_of c = value_is c w v x in
-        let same : pool (take n.constants a) word ≡ pool T.constants (value_of c) =
-        ap (λ (l : List ℕ). pool l word) t.constants_are ∙ ap (pool T.constants) k in
-        no_room_lem (constants_over (tables_after T (CON (value_of c))) (n.code + 1) (n.dos + 0) (let h = p.full z in omega (arith, h, ap length same))),
-  )
+  pub pooled_none : {b ws : List ℕ} {value word : ℕ} {r : Option Counts} → word ≡ value % 2 ^ 32 → 256 < length (pool (take n.constants a) word) → r ≡ None
+      → Grows 0 n r × EmitsConstant value a ws b ws n r
+  pooled_none {b} {ws} {value} {word} w p z =
+      subst (λ (r : Option Counts). Grows 0 n r × EmitsConstant value a ws b ws n r) (sym z) (
+        no_counts_lem 0 n,
+        λ c T e t v x.
+            let k : word ≡ value_of c = value_is c w v x in
+            let same : pool (take n.constants a) word ≡ pool T.constants (value_of c) =
+            ap (λ (l : List ℕ). pool l word) t.constants_are ∙ ap (pool T.constants) k in
+            no_room_lem (constants_over (tables_after T (CON (value_of c))) (n.code + 1) (n.dos + 0) (omega (arith, p, ap length same))),
+      )
 
 -- ---- elements
 
@@ -124,7 +123,7 @@ module _ (n : Counts) where
         jumps = f.jumps;
       }
 
-  pub referred : {names a b ws ws' : List ℕ} {op : ℕ} {x : Element} {r : Emitted} → Fit n → (n.elements ≡ 256 → ⊥) → PutsElement names n.names x a b n.elements
+  pub referred : {names a b ws ws' : List ℕ} {op : ℕ} {x : Element} {r : Option Counts} → Fit n → (n.elements ≡ 256 → ⊥) → PutsElement names n.names x a b n.elements
       → Appends ws ws' (with_elements n (n.elements + 1)) op n.elements r → Grows 0 n r × EmitsRefer op x names a ws b ws' n r
   referred {names} {a} {b} {ws} {ws'} {op} {x} {r} f h p q =
       let g = referred_fit f h in
@@ -146,7 +145,7 @@ module _ (n : Counts) where
             })) y.number (t.elements_count ∙ sym y.index) (omega (arith, f.elements)),
       )
 
-  pub not_referred : {names a ws : List ℕ} {op : ℕ} {x : Element} → n.elements ≡ 256 → Grows 0 n emitted.Full × EmitsRefer op x names a ws a ws n emitted.Full
+  pub not_referred : {names a ws : List ℕ} {op : ℕ} {x : Element} → n.elements ≡ 256 → Grows 0 n None × EmitsRefer op x names a ws a ws n None
   not_referred {names} {a} {ws} {op} {x} h = (
     no_counts_lem 0 n,
     λ held v s T c i l t z k y.
@@ -175,7 +174,7 @@ known_rest {held} {i} k =
       arrays = (each_both (item_references i) k.arrays).1;
     }
 
-module _ {n : Counts} {names ws ws' a : List ℕ} {x : Target} {r : Emitted} where
+module _ {n : Counts} {names ws ws' a : List ℕ} {x : Target} {r : Option Counts} where
   pub stored_cell : {word : code.Name} {y : ℕ} → Fit n → x ≡ target.Cell word → CellOf names n.names word y → Appends ws ws' n 3 y r → Grows 0 n r × EmitsStore x names a ws a ws' n r
   unfolding target_value
   stored_cell {word} {y} f z g p = (grows (itself n) f p, emits)

@@ -20,37 +20,38 @@ use Rattle.take_draft.specs.declared.Counts.{Counts}
 use Rattle.take_draft.specs.Counts.{with_do}
 use Rattle.take_draft.specs.Parts.{form_first}
 use Rattle.take_draft.specs.Names.{Told, Lists, Known}
-use Rattle.take_draft.specs.Draft.{kind_of, loop_words, entries_of}
+use Rattle.take_draft.specs.Draft.{loop_words, entries_of}
 use Rattle.take_draft.specs.Kept.{Fit}
 use Rattle.take_name_table.specs.Lookups.{CellOf}
 use Rattle.take_name_table.proofs.Growth.{cells_append}
-use Rattle.take_instructions.specs.declared.Emitted.TheVariants as emitted
+use Rattle.std.specs.Prelude.{Some, None}
+use Rattle.take_kinds.specs.declared.Kind.TheVariants.{Do}
 use Rattle.take_plans.specs.declared.Plan.{Plan}
 use Rattle.take_plans.specs.Plans.{form_plan}
 use Rattle.take_plans.proofs.ByKind.{at_do}
 use Rattle.take_marks.specs.Marks.{cell_name}
 use Rattle.take_code.specs.Endings.{does_of}
-use Rattle.take_code.proofs.Ends.{does_do, of_kind_lem}
+use Rattle.take_code.proofs.Ends.{does_as, of_kind_lem}
 use Rattle.take_parts.specs.Steps.{Counted, Entered, Enters}
 use Rattle.take_parts.proofs.HiddenCells.{appear_fresh, limit_last}
 
 -- ---- the counts
 
-pub counted_other : {p : Plan} {m : Counts} → (p.kind ≡ 4 → ⊥) → Fit m → Counted p m (emitted.Counts m)
+pub counted_other : {p : Plan} {m : Counts} → (p.kind ≡ Do → ⊥) → Fit m → Counted p m (Some m)
 counted_other {p} {m} z h =
     record {
       other = λ l e k. cc;
       one = λ l e k. absurd (z k);
       fit = λ l e. let same : m ≡ l = cc in subst Fit same h;
-      full = λ e. let w : ◌≡◌ {A = ℕ} 0 1 = cc in absurd (omega arith);
+      full = λ e. absurd cc;
     }
 
-pub counted_full : {p : Plan} {m : Counts} → p.kind ≡ 4 → 64 ≤ m.dos → Counted p m emitted.Full
+pub counted_full : {p : Plan} {m : Counts} → p.kind ≡ Do → 64 ≤ m.dos → Counted p m None
 counted_full z h =
     record {
-      other = λ l e k. let w : ◌≡◌ {A = ℕ} 0 1 = cc in absurd (omega arith);
-      one = λ l e k. let w : ◌≡◌ {A = ℕ} 0 1 = cc in absurd (omega arith);
-      fit = λ l e. let w : ◌≡◌ {A = ℕ} 0 1 = cc in absurd (omega arith);
+      other = λ l e k. absurd cc;
+      one = λ l e k. absurd cc;
+      fit = λ l e. absurd cc;
       full = λ e. (z, h);
     }
 
@@ -68,14 +69,14 @@ fit_do h l c =
       jumps = h.jumps;
     }
 
-pub counted_one : {p : Plan} {m k : Counts} → p.kind ≡ 4 → m.dos < 64 → Fit m → m.code + (m.dos + does_of p) ≤ limits.code → k ≡ with_do m → Counted p m (emitted.Counts k)
+pub counted_one : {p : Plan} {m k : Counts} → p.kind ≡ Do → m.dos < 64 → Fit m → m.code + (m.dos + does_of p) ≤ limits.code → k ≡ with_do m → Counted p m (Some k)
 counted_one {p} {m} {k} z h f c w =
-    let fits : Fit (with_do m) = fit_do f h (subst (λ (d : ℕ). m.code + (m.dos + d) ≤ limits.code) (does_do p z) c) in
+    let fits : Fit (with_do m) = fit_do f h (subst (λ (d : ℕ). m.code + (m.dos + d) ≤ limits.code) (does_as p Do z) c) in
     record {
       other = λ l e x. absurd (x z);
       one = λ l e x. let same : k ≡ l = cc in sym same ∙ w;
       fit = λ l e. let same : k ≡ l = cc in subst Fit (sym w ∙ same) fits;
-      full = λ e. let y : ◌≡◌ {A = ℕ} 0 1 = cc in absurd (omega arith);
+      full = λ e. absurd cc;
     }
 
 -- ---- no DO
@@ -84,20 +85,21 @@ record NoDo (held : List Held) (q j : ℕ) (f : Form) : Type 0 where
   entries : entries_of held q f ≡ []
   loops : loop_words q j f ≡ []
 
-no_do_lem : (held : List Held) (q j : ℕ) (f : Form) → (kind_of f ≡ 4 → ⊥) → NoDo held q j f
+no_do_lem : (held : List Held) (q j : ℕ) (f : Form) → ((form_plan f).kind ≡ Do → ⊥) → NoDo held q j f
+unfolding form_plan
+no_do_lem held q j (loop n v a b c) z = absurd (z refl)
 no_do_lem held q j (assign t e) z = record { entries = refl; loops = refl }
 no_do_lem held q j (go_to n) z = record { entries = refl; loops = refl }
 no_do_lem held q j (computed ns v) z = record { entries = refl; loops = refl }
 no_do_lem held q j (ifs e a b c) z = record { entries = refl; loops = refl }
-no_do_lem held q j (loop n v a b c) z = absurd (z refl)
 no_do_lem held q j continue z = record { entries = refl; loops = refl }
 no_do_lem held q j stop z = record { entries = refl; loops = refl }
 no_do_lem held q j end z = record { entries = refl; loops = refl }
 no_do_lem held q j (dimension arrays) z = record { entries = refl; loops = refl }
 
-pub enters_other : {p : Plan} {names dos loops : List ℕ} {m : Counts} → (p.kind ≡ 4 → ⊥) → Enters p names dos loops dos loops m (emitted.Counts m)
+pub enters_other : {p : Plan} {names dos loops : List ℕ} {m : Counts} → (p.kind ≡ Do → ⊥) → Enters p names dos loops dos loops m (Some m)
 enters_other {p} {names} {dos} {loops} {m} z f held e l k h =
-    let w = no_do_lem (brings m.statements f held) m.statements m.jumps f (λ x. z (sym (of_kind_lem p f e p.kind refl) ∙ x)) in
+    let w = no_do_lem (brings m.statements f held) m.statements m.jumps f (λ x. z (ap (λ (y : Plan). y.kind) e ∙ x)) in
     record {
       dos_are = λ i s. let same : m ≡ i = cc in
           ap (λ (c : Counts). take (4 * c.dos) dos) (sym same) ∙ sym (append-nil (take (4 * m.dos) dos))
@@ -106,11 +108,11 @@ enters_other {p} {names} {dos} {loops} {m} z f held e l k h =
           ap (λ (c : Counts). take (2 * c.dos) loops) (sym same) ∙ sym (append-nil (take (2 * m.dos) loops)) ∙ ap (λ (x : List ℕ). take (2 * m.dos) loops ++ x) (sym w.loops);
     }
 
-pub enters_full : {p : Plan} {names dos loops dos' loops' : List ℕ} {m : Counts} → Enters p names dos loops dos' loops' m emitted.Full
+pub enters_full : {p : Plan} {names dos loops dos' loops' : List ℕ} {m : Counts} → Enters p names dos loops dos' loops' m None
 enters_full f held e l k h =
     record {
-      dos_are = λ i s. let w : ◌≡◌ {A = ℕ} 0 1 = cc in absurd (omega arith);
-      loops_are = λ i s. let w : ◌≡◌ {A = ℕ} 0 1 = cc in absurd (omega arith);
+      dos_are = λ i s. absurd cc;
+      loops_are = λ i s. absurd cc;
     }
 
 -- ---- a DO
@@ -122,13 +124,13 @@ variable_word n v a b c e = ap (λ (y : Plan). cell_name y.target) e
 abbrev EntersAs : Plan → List ℕ → List ℕ → List ℕ → List ℕ → List ℕ → Counts → Counts → List Held → Form → Type 0
 EntersAs p names dos loops dos' loops' m k held f =
     p ≡ form_plan f → Lists (brings m.statements f held) names m.names m.cells → Known (brings m.statements f held) (form_first f)
-    → Entered m.statements f held dos loops dos' loops' m (emitted.Counts k)
+    → Entered m.statements f held dos loops dos' loops' m (Some k)
 
-pub enters_one : {p : Plan} {names dos loops dos' loops' : List ℕ} {m k : Counts} {word : code.Name} {variable a b : ℕ} → p.kind ≡ 4 → word ≡ cell_name p.target → CellOf names m.names word variable
+pub enters_one : {p : Plan} {names dos loops dos' loops' : List ℕ} {m k : Counts} {word : code.Name} {variable a b : ℕ} → p.kind ≡ Do → word ≡ cell_name p.target → CellOf names m.names word variable
     → Put dos dos' (4 * m.dos) (variable ∷ (m.cells - 2) ∷ (m.cells - 2 + 1) ∷ 0 ∷ []) a → Put loops loops' (2 * m.dos) (m.statements ∷ m.jumps ∷ []) b → k ≡ with_do m
-    → Enters p names dos loops dos' loops' m (emitted.Counts k)
+    → Enters p names dos loops dos' loops' m (Some k)
 enters_one {p} {names} {dos} {loops} {dos'} {loops'} {m} {k} {word} {variable} {a} {b} z w c u x y f held e l g h =
-    at_do (EntersAs p names dos loops dos' loops' m k held) make f (of_kind_lem p f e 4 z) e l g
+    at_do (EntersAs p names dos loops dos' loops' m k held) make f (of_kind_lem p f e Do z) e l g
   where
     q : ℕ
     q = m.statements

@@ -1,11 +1,11 @@
 -- The parts of the table that a plan names, and 15 and 16 of them.
 -- Assumes nothing.
 use mathlib.Core.Path.{◌≡◌, refl, sym, ap, ◌∙◌}
-use Prim.Native.Nat.{ℕ, ◌*◌, ◌-◌, ◌≤◌}
+use Prim.Native.Nat.{ℕ, ◌*◌, ◌≤◌}
 use native.Mathlib.Omega.{arith}
 use mathlib.Core.Bool.{Bool, true, false}
 use mathlib.Core.List.{List}
-use lib.ListN.{length, take, drop, length-take}
+use lib.ListN.{length, take, length-take}
 use Rattle.rules_shared.specs.House.{house1401}
 use Rattle.rules_shared.specs.Lists.{Each}
 use Rattle.rules_text.specs.Trees.{Array, array_names, Form, assign, go_to, computed, ifs, loop, continue, stop, end, dimension, form_names}
@@ -14,7 +14,6 @@ use Rattle.rules_deck.specs.Judge.{right_arrays, right15}
 use Rattle.rules_deck.proofs.BodySeven.{each_here}
 use Rattle.rules_deck.proofs.RightDeck.{each_among}
 use Rattle.read_forms.specs.Statements.{all_words}
-use Rattle.take_draft.specs.Draft.{kind_of}
 use Rattle.take_draft.specs.Parts.{items_names, form_first, form_items, Worded}
 use Rattle.take_draft.specs.Names.{Told}
 use Rattle.take_draft.proofs.FormLaws.{form_right16, first_names, items_names_lem}
@@ -23,27 +22,25 @@ use Rattle.take_arrays.proofs.News.{words_length}
 use Rattle.take_cells.specs.Operands.{RightBoth}
 use Rattle.take_plans.specs.declared.Plan.{Plan}
 use Rattle.take_plans.specs.Plans.{form_plan, listed_words, Plans, Readied}
-use Rattle.take_plans.proofs.ByKind.{plan_kind, at_dimension}
+use Rattle.take_plans.proofs.ByKind.{at_dimension}
+use Rattle.take_kinds.specs.declared.Kind.TheVariants.{Dimension}
 use Rattle.take_plan_names.specs.Naming.{RightArrays, RightOperands}
 
 -- ---- parts of the table
 
-pub front_part : (l : List ℕ) (n : ℕ) → take (n - 0) (drop 0 l) ≡ take n l
-front_part l n = let z : n - 0 ≡ n = omega arith in rw z
-
 pub first_worded : {p : Plan} {first items : List ℕ} → Readied p first items → Worded first
 first_worded h = record { items = form_first h.form; are = h.first_are }
 
-pub items_worded : {p : Plan} {first items : List ℕ} → Readied p first items → Worded (take (p.count - 0) (drop 0 items))
-items_worded {p} {first} {items} h = record { items = form_items h.form; are = front_part items p.count ∙ h.plans.operands }
+pub items_worded : {p : Plan} {first items : List ℕ} → Readied p first items → Worded (take p.count items)
+items_worded {p} {first} {items} h = record { items = form_items h.form; are = h.plans.operands }
 
-pub kind_of_lem : {f : Form} {items : List ℕ} {p : Plan} → Plans f items p → kind_of f ≡ p.kind
-kind_of_lem {f} h = sym (ap (λ (x : Plan). x.kind) h.plan ∙ plan_kind f)
+pub kind_of_lem : {f : Form} {items : List ℕ} {p : Plan} → Plans f items p → (form_plan f).kind ≡ p.kind
+kind_of_lem h = sym (ap (λ (x : Plan). x.kind) h.plan)
 
 abbrev pub ArraysIn : List ℕ → Plan → Form → Type 0
 ArraysIn items p f = Plans f items p → take (7 * p.listed) items ≡ listed_words f
 
-pub arrays_in_lem : (items : List ℕ) (p : Plan) (f : Form) → kind_of f ≡ 8 → ArraysIn items p f
+pub arrays_in_lem : (items : List ℕ) (p : Plan) (f : Form) → (form_plan f).kind ≡ Dimension → ArraysIn items p f
 unfolding form_plan listed_words
 arrays_in_lem items p =
     at_dimension (ArraysIn items p)
@@ -55,7 +52,7 @@ arrays_in_lem items p =
 abbrev ArraysRoom : List ℕ → Plan → Form → Type 0
 ArraysRoom items p f = Plans f items p → 7 * p.listed ≤ length items
 
-room_in : (items : List ℕ) (p : Plan) (f : Form) → kind_of f ≡ 8 → ArraysRoom items p f
+room_in : (items : List ℕ) (p : Plan) (f : Form) → (form_plan f).kind ≡ Dimension → ArraysRoom items p f
 unfolding form_plan listed_words
 room_in items p =
     at_dimension (ArraysRoom items p)
@@ -64,11 +61,11 @@ room_in items p =
     omega (arith, words_length arrays, length-take (length (all_words arrays)) items, ap length h.listed))
 
 -- a DIMENSION's words are within the table
-pub arrays_room : {p : Plan} {first items : List ℕ} → Readied p first items → p.kind ≡ 8 → 7 * p.listed ≤ length items
+pub arrays_room : {p : Plan} {first items : List ℕ} → Readied p first items → p.kind ≡ Dimension → 7 * p.listed ≤ length items
 arrays_room {p} {first} {items} h z = room_in items p h.form (kind_of_lem h.plans ∙ z) h.plans
 
-pub part_long : (items : List ℕ) (m : ℕ) → m ≤ length items → m ≡ length (take (m - 0) (drop 0 items))
-part_long items m h = omega (arith, length-take m items, ap length (front_part items m))
+pub part_long : (items : List ℕ) (m : ℕ) → m ≤ length items → length (take m items) ≡ m
+part_long items m h = omega (arith, length-take m items)
 
 -- ---- names are told
 
@@ -80,8 +77,8 @@ told_items f t = each_among (items_names (form_items f)) (λ v a. each_here t (i
 
 -- ---- 15
 
-other_15 : (digits : ℕ) (held : List Held) (f : Form) → (kind_of f ≡ 8 → ⊥) → true ≡ right15 (house1401 digits) held f
-unfolding right15
+other_15 : (digits : ℕ) (held : List Held) (f : Form) → ((form_plan f).kind ≡ Dimension → ⊥) → true ≡ right15 (house1401 digits) held f
+unfolding right15 form_plan
 other_15 digits held (assign t e) z = refl
 other_15 digits held (go_to n) z = refl
 other_15 digits held (computed ns v) z = refl
@@ -92,23 +89,23 @@ other_15 digits held stop z = refl
 other_15 digits held end z = refl
 other_15 digits held (dimension arrays) z = absurd (z refl)
 
-pub no_arrays : {p : Plan} {items table : List ℕ} {n : ℕ} → (p.kind ≡ 8 → ⊥) → RightArrays p items table n true
+pub no_arrays : {p : Plan} {items table : List ℕ} {n : ℕ} → (p.kind ≡ Dimension → ⊥) → RightArrays p items table n true
 no_arrays z digits f held cells h l t = other_15 digits held f (λ e. z (sym (kind_of_lem h) ∙ e))
 
 abbrev pub Arrays15 : ℕ → List Held → List ℕ → Bool → Form → Type 0
 Arrays15 digits held words r f = ((arrays : List Array) → words ≡ all_words arrays → Each Told (array_names arrays) → r ≡ right_arrays false held arrays) → words ≡ listed_words f → Each Told (form_names f) → r ≡ right15 (house1401 digits) held f
 
-form_15 : (digits : ℕ) (held : List Held) (words : List ℕ) (r : Bool) (f : Form) → kind_of f ≡ 8 → Arrays15 digits held words r f
+form_15 : (digits : ℕ) (held : List Held) (words : List ℕ) (r : Bool) (f : Form) → (form_plan f).kind ≡ Dimension → Arrays15 digits held words r f
 unfolding right15 listed_words form_names
 form_15 digits held words r = at_dimension (Arrays15 digits held words r) (λ arrays g e t. g arrays e t)
 
-pub some_arrays : {p : Plan} {items table : List ℕ} {n : ℕ} {r : Bool} → p.kind ≡ 8 → Dimensions (take (7 * p.listed - 0) (drop 0 items)) table n r → RightArrays p items table n r
+pub some_arrays : {p : Plan} {items table : List ℕ} {n : ℕ} {r : Bool} → p.kind ≡ Dimension → Dimensions (take (7 * p.listed) items) table n r → RightArrays p items table n r
 some_arrays {p} {items} {table} {n} {r} z d digits f held cells h l t =
-    let k : kind_of f ≡ 8 = kind_of_lem h ∙ z in
-    form_15 digits held (take (7 * p.listed - 0) (drop 0 items)) r f k (λ arrays e u. d held cells arrays l e u) (front_part items (7 * p.listed) ∙ arrays_in_lem items p f k h) t
+    let k : (form_plan f).kind ≡ Dimension = kind_of_lem h ∙ z in
+    form_15 digits held (take (7 * p.listed) items) r f k (λ arrays e u. d held cells arrays l e u) (arrays_in_lem items p f k h) t
 
 -- ---- 16
 
-pub both_16 : {p : Plan} {first items table : List ℕ} {n : ℕ} {r : Bool} → RightBoth first (take (p.count - 0) (drop 0 items)) table n r → RightOperands p first items table n r
+pub both_16 : {p : Plan} {first items table : List ℕ} {n : ℕ} {r : Bool} → RightBoth first (take p.count items) table n r → RightOperands p first items table n r
 both_16 {p} {first} {items} b f held cells h e l t =
-    b held cells (form_first f) (form_items f) l e (front_part items p.count ∙ h.operands) (told_first f t) (told_items f t) ∙ sym (form_right16 held f)
+    b held cells (form_first f) (form_items f) l e (h.operands) (told_first f t) (told_items f t) ∙ sym (form_right16 held f)

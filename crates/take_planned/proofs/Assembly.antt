@@ -18,8 +18,8 @@ use Rattle.take_draft.specs.Names.{Lists}
 use Rattle.take_draft.specs.Draft.{kind_of, set_word, jump_words, own_words, loop_words, entries_of, Draft, drafts}
 use Rattle.take_draft.specs.Kept.{Words, Fit, Kept, Matches}
 use Rattle.take_draft.proofs.Matching.{own_words_lem, jump_count}
-use Rattle.take_instructions.specs.declared.Emitted.{Emitted}
-use Rattle.take_instructions.specs.declared.Emitted.TheVariants as emitted
+use Rattle.std.specs.Prelude.{Option, Some}
+use Rattle.take_kinds.specs.Kinds.{word_of}
 use Rattle.take_plans.specs.declared.Plan.{Plan}
 use Rattle.take_plans.specs.Plans.{Plans}
 use Rattle.take_plans.proofs.ByKind.{plan_kind}
@@ -47,7 +47,7 @@ module _ {D : Draft} {lent : Words} {n : Counts} (kept : Kept D lent n) (f : For
       let b : length (numbers_of p items) ≡ length (jump_words f) = ap length numbers in
       omega (arith, s.jumps)
 
-  module _ {a : Emitted} (ea : a ≡ emitted.Counts m)
+  module _ {a : Option Counts} (ea : a ≡ Some m)
       (filled : Filled n.statements f D.held D.tables lent.code lent'.names lent'.constants lent'.elements lent'.code n a) where
     pub fit_after : {t : Taken} → Matches t D → Fit l → Fit n → n.statements < 400 → Fit r
     fit_after M h g few =
@@ -68,15 +68,15 @@ module _ {D : Draft} {lent : Words} {n : Counts} (kept : Kept D lent n) (f : For
         }
 
     row_is : words ≡ m.code - n.code
-        → number ∷ p.kind ∷ set_of p ∷ words ∷ length (numbers_of p items) ∷ [] ≡ number ∷ kind_of f ∷ set_word f ∷ own_words f ∷ length (jump_words f) ∷ []
+        → number ∷ word_of p.kind ∷ set_of p ∷ words ∷ length (numbers_of p items) ∷ [] ≡ number ∷ kind_of f ∷ set_word f ∷ own_words f ∷ length (jump_words f) ∷ []
     row_is w =
-        let kind : p.kind ≡ kind_of f = ap (λ (x : Plan). x.kind) plans.plan ∙ plan_kind f in
+        let kind : word_of p.kind ≡ kind_of f = ap (λ (x : Plan). word_of x.kind) plans.plan ∙ plan_kind f in
         let g : set_of p ≡ set_word f = ap set_of plans.plan ∙ set_word_lem f in
         let o : words ≡ own_words f = omega (arith, filled.code_count m ea, own_words_lem n.dos (later_of D n f) f) in
         let c : length (numbers_of p items) ≡ length (jump_words f) = ap length numbers in
         cc
 
-    pub kept_after : words ≡ m.code - n.code → {b : Emitted} → b ≡ emitted.Counts l → Entered n.statements f D.held lent.dos lent.loops lent'.dos lent'.loops m b
+    pub kept_after : words ≡ m.code - n.code → {b : Option Counts} → b ≡ Some l → Entered n.statements f D.held lent.dos lent.loops lent'.dos lent'.loops m b
         → Kept (drafts n.statements (punched f number) D) lent' r
     unfolding drafts
     kept_after w {b} eb entered =
@@ -103,8 +103,8 @@ module _ {D : Draft} {lent : Words} {n : Counts} (kept : Kept D lent n) (f : For
               ∙ ap (λ (x : List Instr). D.code ++ emit D.tables x) (same_code kept f number);
           code_count = omega (arith, filled.code_count m ea, code_long kept f number);
           rows_are =
-              marks.rows_are ∙ ap (λ (x : ℕ). take (5 * x) lent.rows ++ (number ∷ p.kind ∷ set_of p ∷ words ∷ length (numbers_of p items) ∷ [])) (s.statements ∙ ms)
-              ∙ ap (λ (x : List ℕ). x ++ (number ∷ p.kind ∷ set_of p ∷ words ∷ length (numbers_of p items) ∷ [])) kept.rows_are ∙ ap (λ (x : List ℕ). D.rows ++ x) (row_is w);
+              marks.rows_are ∙ ap (λ (x : ℕ). take (5 * x) lent.rows ++ (number ∷ word_of p.kind ∷ set_of p ∷ words ∷ length (numbers_of p items) ∷ [])) (s.statements ∙ ms)
+              ∙ ap (λ (x : List ℕ). x ++ (number ∷ word_of p.kind ∷ set_of p ∷ words ∷ length (numbers_of p items) ∷ [])) kept.rows_are ∙ ap (λ (x : List ℕ). D.rows ++ x) (row_is w);
           jumps_are =
               marks.jumps_are ∙ ap (λ (x : ℕ). take x lent.jumps ++ numbers_of p items) (s.jumps ∙ mj) ∙ ap (λ (x : List ℕ). x ++ numbers_of p items) kept.jumps_are
               ∙ ap (λ (x : List ℕ). D.jumps ++ x) numbers;

@@ -3,11 +3,11 @@
 use mathlib.Core.Path.{◌≡◌, refl, sym, ap, ◌∙◌, subst}
 use Prim.Native.Nat.{ℕ, ◌+◌}
 use native.Mathlib.Omega.{arith}
-use mathlib.Core.Bool.{Bool, true, false}
+use mathlib.Core.Bool.{true}
 use mathlib.Core.List.{List, [], ◌∷◌, ◌++◌, map, append-nil}
-use lib.Dec.{eqb, leb}
+use lib.Dec.{leb}
 use lib.ListN.{length, take, length-map}
-use borrow.Author.Tests.{eqb-true, eqb-false, leb-true}
+use borrow.Author.Tests.{leb-true}
 use Rattle.rules_shared.specs.House.{House}
 use Rattle.rules_shared.specs.Lists.{all, Each, each_none, each_more}
 use Rattle.rules_text.specs.Trees.{Target, cell, element, Form, assign, go_to, computed, ifs, loop, continue, stop, end, dimension, form_exits, form_last}
@@ -19,15 +19,14 @@ use Rattle.read_tokens.specs.Words.{capped, name_of}
 use Rattle.read_elements.specs.Values.{target_value}
 use Rattle.take_draft.specs.declared.Counts.{Counts}
 use Rattle.take_draft.specs.Counts.{with_do}
-use Rattle.take_draft.specs.Draft.{kind_of, set_word, jump_words}
+use Rattle.take_draft.specs.Draft.{set_word, jump_words}
 use Rattle.take_draft.proofs.ReadForm.{right_number, right13_capped, numbers_exact}
-use Rattle.take_instructions.specs.declared.Emitted.{Emitted}
-use Rattle.take_instructions.specs.declared.Emitted.TheVariants as emitted
+use Rattle.std.specs.Prelude.{Option, Some}
+use Rattle.take_kinds.specs.declared.Kind.TheVariants.{Do}
 use Rattle.take_plans.specs.declared.Plan.{Plan}
 use Rattle.take_plans.specs.Plans.{form_plan, listed_words, Plans}
 use Rattle.take_plans.proofs.ByKind.{at_do}
 use Rattle.take_marks.specs.Marks.{numbers_of, Low, cell_name, set_of}
-use Rattle.take_code.proofs.Ends.{of_kind_lem}
 use Rattle.take_parts.specs.Steps.{Counted}
 
 -- ---- a DO counted
@@ -43,30 +42,19 @@ pub record After (f : Form) (m l : Counts) : Type 0 where
   pub statements : l.statements ≡ m.statements
   pub dos : l.dos ≡ m.dos + length (form_last f)
 
-abbrev pub OneLast : Form → Type 0
+abbrev OneLast : Form → Type 0
 OneLast f = length (form_last f) ≡ 1
 
-pub one_last : (f : Form) → kind_of f ≡ 4 → OneLast f
+pub one_last : (f : Form) → (form_plan f).kind ≡ Do → OneLast f
 unfolding form_last
 one_last = at_do OneLast (λ n v a b c. refl)
 
-no_last : (f : Form) → (kind_of f ≡ 4 → ⊥) → length (form_last f) ≡ 0
-unfolding form_last
-no_last (assign t e) z = refl
-no_last (go_to n) z = refl
-no_last (computed ns v) z = refl
-no_last (ifs e a b c) z = refl
-no_last (loop n v a b c) z = absurd (z refl)
-no_last continue z = refl
-no_last stop z = refl
-no_last end z = refl
-no_last (dimension arrays) z = refl
-
-pub after : {p : Plan} {m l : Counts} {r : Emitted} (f : Form) → p ≡ form_plan f → Counted p m r → r ≡ emitted.Counts l → After f m l
-after {p} {m} {l} {r} f e c s = go (eqb p.kind 4) refl
+pub after : {p : Plan} {m l : Counts} {r : Option Counts} (f : Form) → p ≡ form_plan f → Counted p m r → r ≡ Some l → After f m l
+unfolding form_plan form_last
+after {p} {m} {l} {r} f e c s = go f e
   where
-    same : l ≡ m → length (form_last f) ≡ 0 → After f m l
-    same x z =
+    same : (g : Form) → l ≡ m → length (form_last g) ≡ 0 → After g m l
+    same g x z =
         record {
           names = ap (λ (n : Counts). n.names) x;
           cells = ap (λ (n : Counts). n.cells) x;
@@ -79,8 +67,8 @@ after {p} {m} {l} {r} f e c s = go (eqb p.kind 4) refl
           dos = let y = ap (λ (n : Counts). n.dos) x in omega arith;
         }
 
-    more : l ≡ with_do m → length (form_last f) ≡ 1 → After f m l
-    more x z =
+    more : (g : Form) → l ≡ with_do m → length (form_last g) ≡ 1 → After g m l
+    more g x z =
         record {
           names = ap (λ (n : Counts). n.names) x;
           cells = ap (λ (n : Counts). n.cells) x;
@@ -93,9 +81,16 @@ after {p} {m} {l} {r} f e c s = go (eqb p.kind 4) refl
           dos = let y : l.dos ≡ m.dos + 1 = ap (λ (n : Counts). n.dos) x in omega arith;
         }
 
-    go : (b : Bool) → eqb p.kind 4 ≡ b → After f m l
-    go true t = let k = eqb-true p.kind 4 t in more (c.one l s k) (one_last f (of_kind_lem p f e 4 k))
-    go false t = same (c.other l s (eqb-false p.kind 4 t)) (no_last f (λ k. eqb-false p.kind 4 t (sym (of_kind_lem p f e p.kind refl) ∙ k)))
+    go : (g : Form) → p ≡ form_plan g → After g m l
+    go (assign t x) q = same (assign t x) (c.other l s (λ z. absurd (let y = sym z ∙ ap (λ (x : Plan). x.kind) q in cc))) refl
+    go (go_to n) q = same (go_to n) (c.other l s (λ z. absurd (let y = sym z ∙ ap (λ (x : Plan). x.kind) q in cc))) refl
+    go (computed ns v) q = same (computed ns v) (c.other l s (λ z. absurd (let y = sym z ∙ ap (λ (x : Plan). x.kind) q in cc))) refl
+    go (ifs x i j k) q = same (ifs x i j k) (c.other l s (λ z. absurd (let y = sym z ∙ ap (λ (x : Plan). x.kind) q in cc))) refl
+    go (loop n v i j k) q = more (loop n v i j k) (c.one l s (ap (λ (x : Plan). x.kind) q)) refl
+    go continue q = same continue (c.other l s (λ z. absurd (let y = sym z ∙ ap (λ (x : Plan). x.kind) q in cc))) refl
+    go stop q = same stop (c.other l s (λ z. absurd (let y = sym z ∙ ap (λ (x : Plan). x.kind) q in cc))) refl
+    go end q = same end (c.other l s (λ z. absurd (let y = sym z ∙ ap (λ (x : Plan). x.kind) q in cc))) refl
+    go (dimension arrays) q = same (dimension arrays) (c.other l s (λ z. absurd (let y = sym z ∙ ap (λ (x : Plan). x.kind) q in cc))) refl
 
 -- ---- the plan's marks
 

@@ -17,11 +17,12 @@ use Rattle.rules_deck.specs.Translation.{Held, brings, Tables, emit, tables_of, 
 use Rattle.rules_deck.specs.Judge.{Taken, takes, right18, form_exit_words, name_count}
 use Rattle.take_draft.specs.declared.Counts.{Counts}
 use Rattle.take_draft.specs.Names.{names_fit}
-use Rattle.take_draft.specs.Draft.{kind_of, entries_of, draft_code, Draft, drafts}
+use Rattle.take_draft.specs.Draft.{entries_of, draft_code, Draft, drafts}
 use Rattle.take_draft.specs.Kept.{Words, Tabled, tables_fit, Fit, Kept, Matches}
 use Rattle.take_draft.proofs.Matching.{emit_length, entries_count, matches_next, right18_fits}
-use Rattle.take_instructions.specs.declared.Emitted.{Emitted}
-use Rattle.take_instructions.specs.declared.Emitted.TheVariants as emitted
+use Rattle.std.specs.Prelude.{Option, Some, None}
+use Rattle.take_kinds.specs.declared.Kind.TheVariants.{Do}
+use Rattle.take_plans.specs.Plans.{form_plan}
 use Rattle.take_parts.specs.Steps.{Filled}
 use Rattle.take_planned.proofs.Counting.{After, one_last}
 
@@ -99,12 +100,12 @@ module _ {D : Draft} {lent : Words} {n : Counts} (kept : Kept D lent n) (f : For
 
   -- ---- 18
 
-  module _ {t : Taken} (M : Matches t D) {names' constants' elements' code' : List ℕ} {r : Emitted}
+  module _ {t : Taken} (M : Matches t D) {names' constants' elements' code' : List ℕ} {r : Option Counts}
       (filled : Filled n.statements f D.held D.tables lent.code names' constants' elements' code' n r) where
-    pub full_18 : r ≡ emitted.Full → right18 (takes n.statements f t) ≡ false
+    pub full_18 : r ≡ None → right18 (takes n.statements f t) ≡ false
     full_18 e = test_18 t M ∙ inner_false (names_fit (later_of D n f)) (leb (n.dos + length (form_last f)) 64) (tables_fit (tables_of D.tables (more_of D n f)) (n.code + length (more_of D n f)) (n.dos + length (form_last f))) (filled.full e)
 
-    pub fits_18 : {m l : Counts} → r ≡ emitted.Counts m → m.dos ≡ n.dos → After f m l → Fit l → right18 (takes n.statements f t) ≡ true
+    pub fits_18 : {m l : Counts} → r ≡ Some m → m.dos ≡ n.dos → After f m l → Fit l → right18 (takes n.statements f t) ≡ true
     fits_18 {m} {l} e d s h =
         let lists = filled.lists m e in
         let tabled = filled.tables m e in
@@ -120,5 +121,5 @@ module _ {D : Draft} {lent : Words} {n : Counts} (kept : Kept D lent n) (f : For
         test_18 t M ∙ all_true (leb (name_count (later_of D n f)) 100) (leb (cell_count (later_of D n f)) 4096) (leb (n.dos + length (form_last f)) 64) (leb (length T.constants) 256)
         (leb (length T.elements) 256) (leb (length T.exits) 1024) (leb (n.code + length (more_of D n f) + (n.dos + length (form_last f))) 4096) a₁ a₂ a₃ a₄ a₅ a₆ a₇
 
-  pub dos_18 : {t : Taken} → Matches t D → kind_of f ≡ 4 → 64 ≤ n.dos → right18 (takes n.statements f t) ≡ false
+  pub dos_18 : {t : Taken} → Matches t D → (form_plan f).kind ≡ Do → 64 ≤ n.dos → right18 (takes n.statements f t) ≡ false
   dos_18 {t} M z h = test_18 t M ∙ middle_false (names_fit (later_of D n f)) (leb (n.dos + length (form_last f)) 64) (tables_fit (tables_of D.tables (more_of D n f)) (n.code + length (more_of D n f)) (n.dos + length (form_last f))) (lt-leb (n.dos + length (form_last f)) 64 (omega (arith, one_last f z)))

@@ -14,19 +14,20 @@ use Rattle.rules_deck.specs.Judge.{Taken, right15, right16}
 use Rattle.take_draft.specs.declared.Counts.{Counts}
 use Rattle.take_draft.specs.Parts.{items_words, form_first}
 use Rattle.take_draft.specs.Names.{Lists, Known}
-use Rattle.take_draft.specs.Draft.{kind_of, Draft}
+use Rattle.take_draft.specs.Draft.{Draft}
 use Rattle.take_draft.specs.Kept.{Words, Fit, Kept, Matches}
 use Rattle.take_draft.proofs.Matching.{jump_count}
 use Rattle.take_name_table.proofs.Growth.{cells_append}
-use Rattle.take_instructions.specs.declared.Emitted.{Emitted}
-use Rattle.take_instructions.specs.declared.Emitted.TheVariants as emitted
+use Rattle.std.specs.Prelude.{Option, Some, None}
+use Rattle.std.specs.Prelude.{Err}
+use Rattle.refusals.specs.declared.Reason.TheVariants.{Dimension, Element, Table}
+use Rattle.take_kinds.specs.declared.Kind.TheVariants.{Computed, Do}
 use Rattle.take_plans.specs.declared.Plan.{Plan}
 use Rattle.take_plans.specs.Plans.{form_plan, listed_words, Plans}
 use Rattle.take_plans.proofs.ByKind.{at_do, at_computed}
 use Rattle.take_marks.specs.Marks.{Jumping}
 use Rattle.take_plan_names.specs.Naming.{RightArrays, RightOperands}
 use Rattle.take_code.proofs.Ends.{of_kind_lem}
-use Rattle.take_planned.specs.declared.Outcome.TheVariants as outcome
 use Rattle.take_planned.specs.Judged.{Judged}
 use Rattle.take_parts.specs.Fresh.{Fresh}
 use Rattle.take_parts.specs.Steps.{Passed, Right, Onward, Filled, Fills, Entering, Counted, Entered, Enters}
@@ -73,12 +74,12 @@ module _ {p : Plan} {first items : List ℕ} {lent : Words} {n : Counts} where
       pub rightly : Right k n.statements f D.held
       rightly = right_of n.statements D.held g.passed right15_is right16_is
 
-      pub filled_of : {names' constants' elements' code' : List ℕ} {r : Emitted} → Fills p first items lent.names lent.constants lent.elements lent.code names' constants' elements' code' n r
+      pub filled_of : {names' constants' elements' code' : List ℕ} {r : Option Counts} → Fills p first items lent.names lent.constants lent.elements lent.code names' constants' elements' code' n r
           → Filled n.statements f D.held D.tables lent.code names' constants' elements' code' n r
       filled_of s = s k n.statements f D.held D.tables g.plans g.first_are g.kept.held g.kept.tables rightly
 
-      pub entered_of : {names' constants' elements' code' dos' loops' : List ℕ} {r s : Emitted} {m : Counts}
-          → Filled n.statements f D.held D.tables lent.code names' constants' elements' code' n r → r ≡ emitted.Counts m → m.statements ≡ n.statements
+      pub entered_of : {names' constants' elements' code' dos' loops' : List ℕ} {r : Option Counts} {s : Option Counts} {m : Counts}
+          → Filled n.statements f D.held D.tables lent.code names' constants' elements' code' n r → r ≡ Some m → m.statements ≡ n.statements
           → Enters p names' lent.dos lent.loops dos' loops' m s → Entered n.statements f D.held lent.dos lent.loops dos' loops' m s
       entered_of {names'} {dos' = dos'} {loops'} {s = s} {m} w e q x =
           subst (λ (i : ℕ). Entered i f D.held lent.dos lent.loops dos' loops' m s) q
@@ -92,22 +93,19 @@ module _ {p : Plan} {first items : List ℕ} {lent : Words} {n : Counts} where
 abbrev TwoCells : ℕ → List Held → List ℕ → ℕ → ℕ → Form → Type 0
 TwoCells q held names c cells f = Lists (brings q f held) names c cells → 2 ≤ cells
 
-two_cells : (q : ℕ) (held : List Held) (names : List ℕ) (c cells : ℕ) (f : Form) → kind_of f ≡ 4 → TwoCells q held names c cells f
+two_cells : (q : ℕ) (held : List Held) (names : List ℕ) (c cells : ℕ) (f : Form) → (form_plan f).kind ≡ Do → TwoCells q held names c cells f
 two_cells q held names c cells =
     at_do (TwoCells q held names c cells)
     (λ n v i j o l. omega (arith, l.cells_are, cells_append (appear held (form_plain (Form.loop n v i j o))) (hidden q ∷ [])))
 
-pub entering : {p : Plan} {dos loops items code : List ℕ} {names' constants' elements' code' : List ℕ} {n m : Counts} {r : Emitted} {f : Form} (D : Draft) → Plans f items p
-    → Filled n.statements f D.held D.tables code names' constants' elements' code' n r → Onward p n r → r ≡ emitted.Counts m → Fit n
-    → length names' ≡ 700 → length dos ≡ 256 → length loops ≡ 128 → n.statements < 400 → Entering p names' dos loops m
-entering {p} {names' = names'} {n = n} {m} {r} {f} D pl w o e h a b c few =
+pub entering : {p : Plan} {items code : List ℕ} {names' constants' elements' code' : List ℕ} {n m : Counts} {r : Option Counts} {f : Form} (D : Draft) → Plans f items p
+    → Filled n.statements f D.held D.tables code names' constants' elements' code' n r → Onward p n r → r ≡ Some m → Fit n
+    → n.statements < 400 → Entering p m
+entering {p} {names' = names'} {n = n} {m} {r} {f} D pl w o e h few =
     record {
-      names_long = a;
-      dos_long = b;
-      loops_long = c;
       fit = o.fit m e;
       room = o.room m e;
-      cells = λ z. two_cells n.statements D.held names' m.names m.cells f (of_kind_lem p f pl.plan 4 z) (w.lists m e);
+      cells = λ z. two_cells n.statements D.held names' m.names m.cells f (of_kind_lem p f pl.plan Do z) (w.lists m e);
       jumps = omega (arith, o.jumps m e, h.jumps, h.exits);
     }
 
@@ -129,7 +127,7 @@ matched D = record { held = refl; constants = refl; elements = refl; exits = ref
 abbrev ListedRoom : Plan → List ℕ → Form → Type 0
 ListedRoom p items f = Plans f items p → p.listed ≤ length items
 
-listed_room : (p : Plan) (items : List ℕ) (f : Form) → kind_of f ≡ 2 → ListedRoom p items f
+listed_room : (p : Plan) (items : List ℕ) (f : Form) → (form_plan f).kind ≡ Computed → ListedRoom p items f
 unfolding form_plan listed_words
 listed_room p items =
     at_computed (ListedRoom p items)
@@ -139,12 +137,12 @@ listed_room p items =
 
 module _ {p : Plan} {first items : List ℕ} {lent : Words} {n : Counts} {k : ℕ} {f : Form} {D : Draft}
     (g : Given p first items lent n k f D)
-    {names' constants' elements' code' : List ℕ} {r : Emitted} {m : Counts} (w : Filled n.statements f D.held D.tables lent.code names' constants' elements' code' n r)
-    (e : r ≡ emitted.Counts m) (o : Onward p n r) where
+    {names' constants' elements' code' : List ℕ} {r : Option Counts} {m : Counts} (w : Filled n.statements f D.held D.tables lent.code names' constants' elements' code' n r)
+    (e : r ≡ Some m) (o : Onward p n r) where
   pub code_grows : n.code ≤ m.code
   code_grows = omega (arith, w.code_count m e)
 
-  module _ {s : Emitted} {l : Counts} (c : Counted p m s) (x : s ≡ emitted.Counts l) where
+  module _ {s : Option Counts} {l : Counts} (c : Counted p m s) (x : s ≡ Some l) where
     later : After f m l
     later = after f g.plans.plan c x
 
@@ -152,7 +150,7 @@ module _ {p : Plan} {first items : List ℕ} {lent : Words} {n : Counts} {k : �
     jumping h few long =
         record {
           low = low_numbers (lawful1401 k) f g.plans g.passed.right_13;
-          listed = λ z. listed_room p items f (of_kind_lem p f g.plans.plan 2 z) g.plans;
+          listed = λ z. listed_room p items f (of_kind_lem p f g.plans.plan Computed z) g.plans;
           room =
               omega (
                 arith,
@@ -175,7 +173,7 @@ module _ {p : Plan} {first items : List ℕ} {lent : Words} {n : Counts} {k : �
 module _ {p : Plan} (number : ℕ) {first items : List ℕ} {lent : Words} {n : Counts}
     (lent'' : Words) {a : Bool} (ra : RightArrays p items lent.names n.names a) where
   pub refused_15 : a ≡ false → (D : Draft) → Kept D lent n
-      → ComesPlanned p number first items n.statements D lent'' (outcome.Refused 15)
+      → ComesPlanned p number first items n.statements D lent'' (Err Dimension)
   unfolding Judged
   refused_15 e D kept k f t pl fa pa M fr =
       let g : Given p first items lent n k f D = record { plans = pl; first_are = fa; passed = pa; kept = kept; fresh = fr } in
@@ -183,27 +181,27 @@ module _ {p : Plan} (number : ℕ) {first items : List ℕ} {lent : Words} {n : 
 
   module _ (ea : a ≡ true) {b : Bool} (rb : RightOperands p first items lent.names n.names b) where
     pub refused_16 : b ≡ false → (D : Draft) → Kept D lent n
-        → ComesPlanned p number first items n.statements D lent'' (outcome.Refused 16)
+        → ComesPlanned p number first items n.statements D lent'' (Err Element)
     unfolding Judged
     refused_16 e D kept k f t pl fa pa M fr =
         let g : Given p first items lent n k f D = record { plans = pl; first_are = fa; passed = pa; kept = kept; fresh = fr } in
         judged_16 n.statements t pa (as_15 g M (sym (is_15 g ra) ∙ ea)) (as_16 g M (sym (is_16 g rb) ∙ e))
 
-    module _ (eb : b ≡ true) {names' constants' elements' code' : List ℕ} {r : Emitted} (fills : Fills p first items lent.names lent.constants lent.elements lent.code names' constants' elements' code' n r) where
-      pub no_room_lem : r ≡ emitted.Full → (D : Draft) → Kept D lent n
-          → ComesPlanned p number first items n.statements D lent'' (outcome.Refused 18)
+    module _ (eb : b ≡ true) {names' constants' elements' code' : List ℕ} {r : Option Counts} (fills : Fills p first items lent.names lent.constants lent.elements lent.code names' constants' elements' code' n r) where
+      pub no_room_lem : r ≡ None → (D : Draft) → Kept D lent n
+          → ComesPlanned p number first items n.statements D lent'' (Err Table)
       unfolding Judged
       no_room_lem e D kept k f t pl fa pa M fr =
           let g : Given p first items lent n k f D = record { plans = pl; first_are = fa; passed = pa; kept = kept; fresh = fr } in
           judged_18 n.statements t pa (as_15 g M (sym (is_15 g ra) ∙ ea)) (as_16 g M (sym (is_16 g rb) ∙ eb))
           (full_18 kept f number M (filled_of g ra ea rb eb fills) e)
 
-      module _ {m : Counts} (e : r ≡ emitted.Counts m) (o : Onward p n r) {s : Emitted} (c : Counted p m s) where
-        pub too_many : s ≡ emitted.Full → (D : Draft) → Kept D lent n
-            → ComesPlanned p number first items n.statements D lent'' (outcome.Refused 18)
+      module _ {m : Counts} (e : r ≡ Some m) (o : Onward p n r) {s : Option Counts} (c : Counted p m s) where
+        pub too_many : s ≡ None → (D : Draft) → Kept D lent n
+            → ComesPlanned p number first items n.statements D lent'' (Err Table)
         unfolding Judged
         too_many x D kept k f t pl fa pa M fr =
             let g : Given p first items lent n k f D = record { plans = pl; first_are = fa; passed = pa; kept = kept; fresh = fr } in
             let many = c.full x in
             judged_18 n.statements t pa (as_15 g M (sym (is_15 g ra) ∙ ea)) (as_16 g M (sym (is_16 g rb) ∙ eb))
-            (dos_18 kept f number M (of_kind_lem p f pl.plan 4 many.0) (omega (arith, o.dos m e, many.1)))
+            (dos_18 kept f number M (of_kind_lem p f pl.plan Do many.0) (omega (arith, o.dos m e, many.1)))

@@ -8,11 +8,10 @@ use mathlib.Core.List.{List}
 use Rattle.take_draft.specs.declared.Counts.{Counts}
 use Rattle.take_draft.specs.Draft.{Draft}
 use Rattle.take_draft.specs.Kept.{Words, Fit, Kept}
-use Rattle.take_instructions.specs.declared.Emitted.{Emitted}
-use Rattle.take_instructions.specs.declared.Emitted.TheVariants as emitted
+use Rattle.std.specs.Prelude.{Option, Some}
+use Rattle.std.specs.Prelude.{Ok}
 use Rattle.take_plans.specs.declared.Plan.{Plan}
 use Rattle.take_plan_names.specs.Naming.{RightArrays, RightOperands}
-use Rattle.take_planned.specs.declared.Outcome.TheVariants as outcome
 use Rattle.take_planned.specs.Judged.{Judged}
 use Rattle.take_parts.specs.Steps.{Onward, Fills, Counted, Enters, Marked}
 use Rattle.take_planned.specs.Planned.{ComesPlanned}
@@ -23,13 +22,13 @@ use Rattle.take_planned.proofs.Assembly.{fit_after, kept_after, r_statements}
 use Rattle.take_planned.proofs.Outcomes.{Given, is_15, is_16, as_15, as_16, filled_of, entered_of}
 
 module _ {p : Plan} {number : ℕ} {first items : List ℕ} {lent lent' : Words} {n m l r : Counts}
-    {a b : Bool} {u v : Emitted} {words : ℕ} where
+    {a b : Bool} {u : Option Counts} {v : Option Counts} {words : ℕ} where
   pub is_taken : RightArrays p items lent.names n.names a → a ≡ true → RightOperands p first items lent.names n.names b → b ≡ true
-      → Onward p n u → Fills p first items lent.names lent.constants lent.elements lent.code lent'.names lent'.constants lent'.elements lent'.code n u → u ≡ emitted.Counts m
-      → Counted p m v → Enters p lent'.names lent.dos lent.loops lent'.dos lent'.loops m v → v ≡ emitted.Counts l
+      → Onward p n u → Fills p first items lent.names lent.constants lent.elements lent.code lent'.names lent'.constants lent'.elements lent'.code n u → u ≡ Some m
+      → Counted p m v → Enters p lent'.names lent.dos lent.loops lent'.dos lent'.loops m v → v ≡ Some l
       → words ≡ m.code - n.code → Marked p number words items lent.rows lent.jumps lent'.rows lent'.jumps l r → Fit n → n.statements < 400
       → (D : Draft) → Kept D lent n
-      → ComesPlanned p number first items n.statements D lent' (outcome.Taken r)
+      → ComesPlanned p number first items n.statements D lent' (Ok r)
   unfolding Judged
   is_taken ra ea rb eb o fills eu c enters ev w marks fit few D kept k f t pl fa pa M fr =
       let g : Given p first items lent n k f D = record { plans = pl; first_are = fa; passed = pa; kept = kept; fresh = fr } in

@@ -2,19 +2,14 @@
 #![tactic(auto)]
 
 ghost use Rattle.take_draft.specs.Draft.{Draft};
-ghost use Rattle.take_draft.specs.Kept.{as_words, Kept};
+ghost use Rattle.take_draft.specs.Kept.{words_of, Kept};
 ghost use Rattle.take_planned.specs.Planned.{Planning, ComesPlanned};
 
 use read_cards::Number;
-use take_draft::Counts;
-use take_instructions::Emitted;
+use refusals::Reason;
+use take_draft::{Counts, Tables};
+use take_name_table::Names;
 use take_plans::Plan;
-
-#[derive(Drop)]
-pub enum Outcome {
-    Refused(u32),
-    Taken(Counts),
-}
 
 // 15, 16 and 18, in this order.
 pub fn take_planned(
@@ -22,32 +17,37 @@ pub fn take_planned(
     number: Number,
     first: &[u64],
     items: &[u64],
-    names: &mut [u64],
-    constants: &mut [u32],
-    elements: &mut [u32],
-    dos: &mut [u32],
-    loops: &mut [u32],
-    code: &mut [u32],
-    rows: &mut [u64],
-    jumps: &mut [u32],
+    t: &mut Tables,
     n: Counts,
-) -> Outcome
-    requires { Planning p first.now items.now (as_words names.old constants.old elements.old dos.old loops.old code.old rows.old jumps.old) n }
-    ensures { (D : Draft) → Kept D (as_words names.old constants.old elements.old dos.old loops.old code.old rows.old jumps.old) n → ComesPlanned p number.0 first.now items.now n.statements D (as_words names.new constants.new elements.new dos.new loops.new code.new rows.new jumps.new) result }
+) -> Result<Counts, Reason>
+    requires { Planning p first.now items.now (words_of t.old) n }
+    ensures { (D : Draft) → Kept D (words_of t.old) n → ComesPlanned p number.0 first.now items.now n.statements D (words_of t.new) result }
 {
-    if !take_plan_names::right_arrays(p, first, items, names, n.names) {
-        return Outcome::Refused(15);
-    }
-    if !take_plan_names::right_operands(p, first, items, names, n.names) {
-        return Outcome::Refused(16);
-    }
-    let Emitted::Counts(m) = take_parts::fill(p, first, items, names, constants, elements, code, n)
-    else {
-        return Outcome::Refused(18);
+    let names = Names {
+        words: t.names,
+        count: n.names,
     };
-    let Emitted::Counts(l) = take_parts::enter_do(p, names, dos, loops, m) else {
-        return Outcome::Refused(18);
+    if !take_plan_names::right_arrays(p, first, items, &names) {
+        return Err(Reason::Dimension);
+    }
+    if !take_plan_names::right_operands(p, first, items, &names) {
+        return Err(Reason::Element);
+    }
+    let Some(m) = take_parts::fill(p, first, items, t.names, t.constants, t.elements, t.code, n)
+    else {
+        return Err(Reason::Table);
+    };
+    let Some(l) = take_parts::enter_do(p, t.names, t.dos, t.loops, m) else {
+        return Err(Reason::Table);
     };
     let words = (m.code - n.code) as u64;
-    Outcome::Taken(take_parts::mark(p, number, words, items, rows, jumps, l))
+    Ok(take_parts::mark(
+        p,
+        number,
+        words,
+        items,
+        t.rows.as_mut_slice(),
+        t.jumps.as_mut_slice(),
+        l,
+    ))
 }

@@ -17,7 +17,7 @@ use Rattle.take_draft.specs.Parts.{items_of, item_words, items_words, parameter_
 use Rattle.take_draft.proofs.FormParts.{words_append, flat_items}
 use Rattle.take_draft.proofs.FormLaws.{target_words_lem, parameter_words_lem}
 use Rattle.take_plans.specs.declared.Plan.{Plan}
-use Rattle.take_plans.proofs.Arms.{parameter_room}
+use Rattle.take_plans.proofs.Room.{parameter_room}
 use Rattle.take_plans.specs.Plans.{three_words, plan_of, Laid, Planned, form_plan, listed_words, Plans, first_words}
 
 pub first_form : (f : Form) → first_words (form_plan f) ≡ items_words (form_first f)

@@ -1,3 +1,3 @@
 pub mod ByKind
-pub mod Arms
+pub mod Room
 pub mod Forms

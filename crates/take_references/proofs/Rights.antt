@@ -1,13 +1,13 @@
 -- 16 of one operand, and of operands one after the other.
 -- Assumes nothing.
 use mathlib.Core.Path.{◌≡◌, refl, sym, ap, ◌∙◌, subst}
-use Prim.Native.Nat.{ℕ, ◌+◌, ◌*◌, ◌≤◌, ◌<◌}
+use Prim.Native.Nat.{ℕ, zero, suc, ◌+◌, ◌*◌, ◌≤◌, ◌<◌}
 use native.Mathlib.Omega.{arith}
-use mathlib.Core.Bool.{Bool, true, false, ◌&&◌, not, cond}
+use mathlib.Core.Bool.{Bool, true, false, ◌&&◌, not, cond, beq}
 use mathlib.Core.List.{List, ◌∷◌, ◌++◌}
 use lib.Dec.{eqb, leb, ltb}
 use lib.ListN.{length, get_or, drop, length-drop}
-use borrow.Author.Tests.{ne_eqb, le-ltb, lt-ltb}
+use borrow.Author.Tests.{ne_eqb, le-leb, le-ltb, lt-ltb}
 use Rattle.rules_shared.specs.Lists.{all, Each, each_more}
 use Rattle.rules_shared.proofs.EachLaws.{each_both}
 use Rattle.rules_text.specs.Trees.{Name, Subscript, constant, linear, Subscripts, one, two, subscript_names, subscripts_names}
@@ -38,11 +38,14 @@ swap false b c d = refl
 
 -- ---- subscripts counted
 
-pub count_one : (c d : ℕ) → c ≡ 1 → eqb d 0 ≡ right_words c d
-count_one c d e = ap (λ (x : ℕ). right_words x d) (sym e)
-
-pub count_two : (c d : ℕ) → (c ≡ 1 → ⊥) → leb 1 d ≡ right_words c d
-count_two c d n = ap (λ (b : Bool). cond b (eqb d 0) (leb 1 d)) (sym (ne_eqb c 1 n))
+pub counted_as : (c d : ℕ) → beq (eqb c 1) (eqb d 0) ≡ right_words c d
+counted_as c d = go (eqb c 1) d
+  where
+    go : (b : Bool) (d : ℕ) → beq b (eqb d 0) ≡ cond b (eqb d 0) (leb 1 d)
+    go true zero = refl
+    go true (suc d) = rw (ne_eqb (suc d) 0 (λ z. omega (arith, z))) refl
+    go false zero = refl
+    go false (suc d) = rw (ne_eqb (suc d) 0 (λ z. omega (arith, z)), le-leb 1 (suc d) (omega arith)) refl
 
 -- ---- an element
 
@@ -101,9 +104,9 @@ module _ (items t : List ℕ) (n i : ℕ) (is : i ≡ first_entry true (name_at 
   counted : (v : Name) (s : Subscripts) (more : List ℕ) → items ≡ item_words (place v s) ++ more → (c : ℕ) → right_words (get_or items 5 0) c ≡ right_words (subscripts_value s).count c
   counted v s more e c = ap (λ (x : List ℕ). right_words (get_or x 5 0) c) e
 
-  pub place_none : n ≤ i → RightPlace items t n false
+  pub place_none : i ≡ n → RightPlace items t n false
   place_none h held cells v s more l e (each_more tv ts) =
-      sym (ap (λ (b : Bool). (b && true) && all (bare held) (subscripts_names s)) (reference_no l v s i tv (named v s more e) h))
+      sym (ap (λ (b : Bool). (b && true) && all (bare held) (subscripts_names s)) (reference_no l v s i tv (named v s more e) (omega (arith, h))))
 
   pub place_count : i < n → right_words (get_or items 5 0) (get_or t (7 * i + 6) 0) ≡ false → RightPlace items t n false
   place_count h w held cells v s more l e (each_more tv ts) =
@@ -125,27 +128,12 @@ module _ (items t : List ℕ) (n i : ℕ) (is : i ≡ first_entry true (name_at 
 -- ---- any item, by its first word
 
 module _ (items t : List ℕ) (n : ℕ) where
-  pub right_plain : (r : Bool) → get_or items 0 0 ≡ 2 → Holds t n (name_at items 1) true r → RightItem items t n (not r)
-  right_plain r k h held cells (value c) more l e told = absurd (let z = kind_is (value c) more e 2 k in omega (arith, z))
-  right_plain r k h held cells (plain v) more l e (each_more tv none) =
-      ap not (h.is held cells v l tv (ap (λ (x : List ℕ). name_at x 1) e)) ∙ sym (and_true (bare held v) true refl)
-  right_plain r k h held cells (place v s) more l e told = absurd (let z = kind_is (place v s) more e 2 k in omega (arith, z))
-  right_plain r k h held cells negate more l e told = absurd (let z = kind_is negate more e 2 k in omega (arith, z))
-  right_plain r k h held cells (apply o) more l e told = absurd (no_operand o more 2 (omega arith) (kind_is (apply o) more e 2 k))
-
   pub right_element_lem : (r : Bool) → get_or items 0 0 ≡ 4 → RightPlace items t n r → RightItem items t n r
   right_element_lem r k h held cells (value c) more l e told = absurd (let z = kind_is (value c) more e 4 k in omega (arith, z))
   right_element_lem r k h held cells (plain v) more l e told = absurd (let z = kind_is (plain v) more e 4 k in omega (arith, z))
   right_element_lem r k h held cells (place v s) more l e told = h held cells v s more l e told
   right_element_lem r k h held cells negate more l e told = absurd (let z = kind_is negate more e 4 k in omega (arith, z))
   right_element_lem r k h held cells (apply o) more l e told = absurd (no_operand o more 4 (omega arith) (kind_is (apply o) more e 4 k))
-
-  pub right_other : (get_or items 0 0 ≡ 2 → ⊥) → (get_or items 0 0 ≡ 4 → ⊥) → RightItem items t n true
-  right_other k₂ k₄ held cells (value c) more l e told = refl
-  right_other k₂ k₄ held cells (plain v) more l e told = absurd (k₂ (ap (λ (x : List ℕ). get_or x 0 0) e))
-  right_other k₂ k₄ held cells (place v s) more l e told = absurd (k₄ (ap (λ (x : List ℕ). get_or x 0 0) e))
-  right_other k₂ k₄ held cells negate more l e told = refl
-  right_other k₂ k₄ held cells (apply o) more l e told = refl
 
 -- ---- operands one after the other
 

@@ -1,7 +1,8 @@
 -- One statement that was read: refused by 11 to 18, or taken into the draft.
 -- Assumes nothing.
-use Rattle.std.specs.Prelude.{◌≡◌, List, ℕ, ◌≤◌, ◌<◌, length, take}
+use Rattle.std.specs.Prelude.{◌≡◌, List, ℕ, ◌≤◌, ◌<◌, Result, length, take}
 use Rattle.std.proofs.Math.Option.{some}
+use Rattle.refusals.specs.declared.Reason.{Reason}
 use Rattle.rules_text.specs.Trees.{Form}
 use Rattle.rules_text.specs.Grammar.{form_of}
 use Rattle.rules_deck.specs.Judge.{Taken}
@@ -10,7 +11,6 @@ use Rattle.read_forms.specs.Statements.{form_words, statement_of}
 use Rattle.take_draft.specs.declared.Counts.{Counts}
 use Rattle.take_draft.specs.Draft.{Draft}
 use Rattle.take_draft.specs.Kept.{Words, Fit, Room, Kept, Matches}
-use Rattle.take_planned.specs.declared.Outcome.{Outcome}
 use Rattle.take_parts.specs.Fresh.{Fresh}
 use Rattle.take_planned.specs.Judged.{Judged}
 
@@ -38,7 +38,7 @@ pub record Ready (s : Statement) (number k : ℕ) (items : List ℕ) (lent : Wor
   pub fresh : Fresh n.statements draft
 
 -- the statement at position q, after what the draft D has
-abbrev pub Comes : Statement → ℕ → ℕ → List ℕ → ℕ → Draft → Words → Outcome → Type 0
+abbrev pub Comes : Statement → ℕ → ℕ → List ℕ → ℕ → Draft → Words → Result Counts Reason → Type 0
 Comes s number k items q D lent r =
     (R : Reading s items) (t : Taken) → Matches t D → Fresh q D
     → Judged k q (record { number = number; form = R.form }) t D lent r

@@ -1,36 +1,41 @@
 -- Answers one after the other.
 -- Assumes nothing.
-use mathlib.Core.Path.{◌≡◌, sym, ◌∙◌}
+use mathlib.Core.Path.{◌≡◌, sym, ap, ◌∙◌, subst}
 use Prim.Native.Nat.{ℕ, suc}
 use native.Mathlib.Omega.{arith}
 use mathlib.Core.List.{List}
-use mathlib.Core.Option.{Option}
+use mathlib.Core.Option.{Option, none, some}
+use Rattle.std.specs.Prelude.{Result, Ok, Err}
+use Rattle.std.specs.Result.{IsErrAnd}
+use Rattle.refusals.specs.declared.Refusal as code
 use Rattle.rules_shared.specs.Refusals.{Refusal, or_else}
 use Rattle.rules_deck.specs.Whole.{refused_at}
-use Rattle.rules_deck.proofs.TestLaws.{else_both, not_refused}
+use Rattle.rules_deck.proofs.TestLaws.{not_refused}
 use Rattle.read_cards.specs.declared.Number.{Number}
 use Rattle.whole_tables.specs.Rows.{start_of}
 use Rattle.whole_numbers.specs.declared.Resolved.{Resolved}
 use Rattle.whole_numbers.specs.Numbers.{first_from, misplaced_end, number_right, jumps_known, Resolves}
 use Rattle.whole_numbers.proofs.Resolving.{all_resolved}
-use Rattle.whole_deck.specs.declared.Verdict.{Verdict}
-use Rattle.whole_deck.specs.Whole.{refusal_of}
 use Rattle.whole_deck.specs.Parts.{numbers_refused, ByNumber}
 
--- three answers in order of number
-pub three : (a b c x y : Verdict) (o p q : Option Refusal) → refusal_of a ≡ o → refusal_of b ≡ p → refusal_of c ≡ q
-    → refusal_of x ≡ or_else (refusal_of b) (refusal_of c) → refusal_of y ≡ or_else (refusal_of a) (refusal_of x) → refusal_of y ≡ or_else o (or_else p q)
-three a b c x y o p q ea eb ec ex ey = rw (ey, ex, ea, eb, ec)
+-- an error is passed on as it is
+pub passed_on : {A : Type 0} (P : Result A code.Refusal → Type 0) (r : code.Refusal) (o : Result A code.Refusal) → IsErrAnd o (λ e. e ≡ r) → P (Err r) → P o
+passed_on P r (Ok x) e h = absurd e
+passed_on P r (Err s) e h = subst (λ (x : code.Refusal). P (Err x)) (sym e) h
 
-pub by_number : (rows : List ℕ) (numbers : List Number) (count : ℕ) (jumps : List Number) (found : Resolved) (v : Verdict) → Resolves numbers count jumps (start_of rows count) found
-    → refusal_of v ≡ numbers_refused rows numbers count jumps → ByNumber rows numbers count jumps (record { verdict = v; places = found.places })
+pub here : {o : Option Refusal} {x : Refusal} (p : Option Refusal) → some x ≡ o → or_else o p ≡ some x
+here {o} {x} p e = ap (λ (o : Option Refusal). or_else o p) (sym e)
+
+pub there : {o p r : Option Refusal} → none ≡ o → p ≡ r → or_else o p ≡ r
+there {o} {p} {r} e h = ap (λ (o : Option Refusal). or_else o p) (sym e) ∙ h
+
+pub by_number : (rows : List ℕ) (numbers : List Number) (count : ℕ) (jumps : List Number) (found : Resolved) → Resolves numbers count jumps (start_of rows count) found
+    → none ≡ refused_at 20 (misplaced_end rows count) → none ≡ refused_at 21 (first_from (number_right rows numbers count) suc count 0) → none ≡ refused_at 22 (first_from (jumps_known rows numbers count jumps) suc count 0)
+    → ByNumber rows numbers count jumps (Ok found.places)
 unfolding numbers_refused
-by_number rows numbers count jumps found v s e =
-    record {
-      says = e;
-      done = λ passed k h.
-          let x = else_both (refused_at 20 (misplaced_end rows count)) _ (sym e ∙ passed) in
-          let y = else_both (refused_at 21 (first_from (number_right rows numbers count) suc count 0)) _ x.1 in
-          let all = all_resolved rows numbers count jumps found s (not_refused 22 (first_from (jumps_known rows numbers count jumps) suc count 0) y.1) in
-          s.done k (omega arith);
-    }
+by_number rows numbers count jumps found s a b c = (
+  there a (there b (sym c)),
+  λ k h.
+      let all = all_resolved rows numbers count jumps found s (not_refused 22 (first_from (jumps_known rows numbers count jumps) suc count 0) (sym c)) in
+      s.done k (omega arith),
+)

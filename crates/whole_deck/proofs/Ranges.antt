@@ -19,12 +19,12 @@ use Rattle.take_draft.specs.Names.{Told}
 use Rattle.take_draft.specs.Draft.{kind_of, set_word, jump_words}
 use Rattle.take_draft.specs.Sketch.{deck_rows, deck_jumps, loops_from}
 use Rattle.read_cards.specs.declared.Sequence.{Sequence}
-use Rattle.whole_tables.specs.declared.Loops.{Loops}
+use Rattle.whole_tables.specs.declared.DoRange.{DoRange}
 use Rattle.whole_tables.specs.Rows.{kind_at, set_at, start_of, do_index, last_index}
-use Rattle.whole_tables.specs.Tables.{place_in, LoopsOf}
+use Rattle.whole_tables.specs.Tables.{place_in, do_at, last_at, LoopsOf}
 use Rattle.whole_numbers.specs.Numbers.{all_from, first_from, count_from}
 use Rattle.whole_numbers.proofs.Tests.{all_same, all_true}
-use Rattle.whole_ranges.specs.Ranges.{do_at, last_at, covers, apart, do_right, stays_out, jump_stays, exits_at, jumps_right, set_right}
+use Rattle.whole_ranges.specs.Ranges.{covers, apart, do_right, stays_out, jump_stays, exits_at, jumps_right, set_right}
 use Rattle.whole_range.specs.Range.{covering, may_end_kind, uncrossed, outside, leaves}
 use Rattle.whole_deck.specs.Whole.{SetsTold}
 use Rattle.take_draft.proofs.NameWords.{word_test, some_word}
@@ -126,8 +126,8 @@ module _ (deck : List Statement) (rows : List ℕ) (count : ℕ) (many : count �
 
   -- once every number has its place
   module _ (places : List Sequence) (placed : (k : ℕ) → k < length (deck_jumps deck) → place_in places k ≡ suc (position_of deck (get_or (deck_jumps deck) k 0)))
-      (table : Loops) (looped : LoopsOf loops dos places table) where
-    many_dos : length (dos_of deck) ≡ table.count
+      (table : List DoRange) (looped : LoopsOf loops dos places table) where
+    many_dos : length (dos_of deck) ≡ length table
     many_dos = dos_many ∙ sym looped.counted
 
     pub starts_is : (i : ℕ) → i < dos → do_at table i ≡ suc (do_of_deck i).position
@@ -172,13 +172,13 @@ module _ (deck : List Statement) (rows : List ℕ) (count : ℕ) (many : count �
           let b : depth deck (dos_of deck) (do_of_deck i).position ≡ count_from (covers table (suc (do_of_deck i).position)) (length (dos_of deck)) 0 =
           depth_zero deck (dos_of deck) (do_of_deck i).position (covers table (suc (do_of_deck i).position)) (λ k g. covers_is (do_of_deck i).position k (below k g)) in
           let c : ltb (do_at table i) (last_at table i) ≡ ltb (do_of_deck i).position (last_of deck (do_of_deck i)) = rw (starts_is i h, last_is i h, leb-suc-suc (suc (do_of_deck i).position) (last_of deck (do_of_deck i))) in
-          let d : count_from (covers table (do_at table i)) table.count 0 ≡ depth deck (dos_of deck) (do_of_deck i).position =
-          ap (λ (s : ℕ). count_from (covers table s) table.count 0) (starts_is i h) ∙ ap (λ (n : ℕ). count_from (covers table (suc (do_of_deck i).position)) n 0) (sym many_dos) ∙ sym b in
-          let e : all_from (apart table (do_at table i) (last_at table i)) table.count 0 ≡ all (λ outer. not (crosses deck (do_of_deck i) outer)) (dos_of deck) =
+          let d : count_from (covers table (do_at table i)) (length table) 0 ≡ depth deck (dos_of deck) (do_of_deck i).position =
+          ap (λ (s : ℕ). count_from (covers table s) (length table) 0) (starts_is i h) ∙ ap (λ (n : ℕ). count_from (covers table (suc (do_of_deck i).position)) n 0) (sym many_dos) ∙ sym b in
+          let e : all_from (apart table (do_at table i) (last_at table i)) (length table) 0 ≡ all (λ outer. not (crosses deck (do_of_deck i) outer)) (dos_of deck) =
           ap (λ (n : ℕ). all_from (apart table (do_at table i) (last_at table i)) n 0) (sym many_dos) ∙ sym a in
           rw (c, may_is i h, e, d)
 
-      pub first23_is : first_from (do_right rows table) (do_at table) table.count 0 ≡ first_wrong_do deck (dos_of deck)
+      pub first23_is : first_from (do_right rows table) (do_at table) (length table) 0 ≡ first_wrong_do deck (dos_of deck)
       first23_is =
           sym (dos_zero deck (dos_of deck) (do_right rows table) (do_at table) (λ i h. do_right_is i (below i h)) (λ i h. starts_is i (below i h))
           ∙ ap (λ (n : ℕ). first_from (do_right rows table) (do_at table) n 0) many_dos)
@@ -197,7 +197,7 @@ module _ (deck : List Statement) (rows : List ℕ) (count : ℕ) (many : count �
           let a : all (λ d. not (in_range deck d (position_of deck n)) || in_range deck d q) (dos_of deck) ≡ all_from (stays_out table (suc q) (suc (position_of deck n))) (length (dos_of deck)) 0 =
           all_zero (λ d. not (in_range deck d (position_of deck n)) || in_range deck d q) (dos_of deck) no_do (stays_out table (suc q) (suc (position_of deck n)))
           (λ i b. out_is n i (below i b)) in
-          ap (λ (t : ℕ). all_from (stays_out table (suc q) t) table.count 0) target ∙ ap (λ (m : ℕ). all_from (stays_out table (suc q) (suc (position_of deck n))) m 0) (sym many_dos) ∙ sym a
+          ap (λ (t : ℕ). all_from (stays_out table (suc q) t) (length table) 0) target ∙ ap (λ (m : ℕ). all_from (stays_out table (suc q) (suc (position_of deck n))) m 0) (sym many_dos) ∙ sym a
         where
           out_is : (n i : ℕ) → i < dos → stays_out table (suc q) (suc (position_of deck n)) i ≡ (not (in_range deck (do_of_deck i) (position_of deck n)) || in_range deck (do_of_deck i) q)
           out_is n i b = rw (covered (position_of deck n) i b, covered q i b)

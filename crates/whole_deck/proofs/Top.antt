@@ -1,6 +1,6 @@
 -- The deck as a whole, from its two parts.
 -- Assumes nothing.
-use mathlib.Core.Path.{◌≡◌, refl, sym, ap, ◌∙◌}
+use mathlib.Core.Path.{◌≡◌, refl, sym, ap, ◌∙◌, subst}
 use Prim.Native.Nat.{ℕ, zero, suc, ◌*◌, ◌≤◌, ◌<◌}
 use native.Mathlib.Omega.{arith}
 use mathlib.Core.Bool.{Bool, true, false}
@@ -19,14 +19,16 @@ use Rattle.rules_shared.specs.Lists.{Each, each_more}
 use Rattle.rules_deck.proofs.TestLaws.{clash}
 use Rattle.read_cards.specs.declared.Number.{Number}
 use Rattle.take_draft.specs.Sketch.{deck_jumps}
-use Rattle.whole_tables.specs.declared.Loops.{Loops}
+use Rattle.whole_tables.specs.declared.DoRange.{DoRange}
+use Rattle.std.specs.Prelude.{Ok, Err}
+use Rattle.refusals.specs.declared.Refusal as code
+use Rattle.refusals.specs.Answers.{refusal_of}
+use Rattle.read_cards.specs.declared.Sequence.{Sequence}
 use Rattle.whole_tables.specs.Rows.{start_of, last_index}
-use Rattle.whole_tables.specs.Tables.{number_in, place_in, Wanted, RowsFit, NumbersOf, LoopsFit, LoopsOf}
+use Rattle.whole_tables.specs.Tables.{number_in, place_in, Wanted, RowsFit, NumbersOf, LoopsFit, LoopsOf, do_at, last_at}
 use Rattle.whole_numbers.specs.Numbers.{place_of}
-use Rattle.whole_ranges.specs.Ranges.{do_at, last_at, Ranged}
-use Rattle.whole_deck.specs.declared.Verdict.{Verdict}
-use Rattle.whole_deck.specs.declared.Placed.{Placed}
-use Rattle.whole_deck.specs.Whole.{Sketched, Whole, Stands, refusal_of, Judged, LowNumber}
+use Rattle.whole_ranges.specs.Ranges.{Ranged}
+use Rattle.whole_deck.specs.Whole.{Sketched, Whole, Stands, Judged, LowNumber}
 use Rattle.whole_deck.specs.Parts.{numbers_refused, ByNumber, ranges_refused}
 use Rattle.whole_deck.proofs.ByIndex.{placed}
 use Rattle.whole_deck.proofs.Rows.{statement_at, number_is, start_is}
@@ -101,16 +103,21 @@ module _ (rows : List ℕ) (count : ℕ) (loops : List ℕ) (dos : ℕ) (before 
         let c = first22_is deck rows count s.statements s.rows_are numbers ns wanted at_entry in
         rw (a, b, c)
 
+    pub numbers_fit : RowsFit rows (length numbers) × ((length wanted ≡ start_of rows (length numbers)) × (length wanted ≤ 1424))
+    numbers_fit =
+        let f = w.few_jumps in
+        (subst (RowsFit rows) (sym ns.counted) punched, (ws.counted ∙ sym all_starts ∙ ap (start_of rows) (sym ns.counted), omega (arith, ws.counted)))
+
     -- once 22 has passed
-    module _ (r : Placed) (n : ByNumber rows numbers count wanted r) (passed : refusal_of r.verdict ≡ none) where
-      has_place : (k : ℕ) → k < length (deck_jumps deck) → Stands deck (get_or (deck_jumps deck) k 0) (place_in r.places k)
+    module _ (places : List Sequence) (n : ByNumber rows numbers count wanted (Ok places)) where
+      has_place : (k : ℕ) → k < length (deck_jumps deck) → Stands deck (get_or (deck_jumps deck) k 0) (place_in places k)
       has_place k h =
           let m = jumps_many in
           let a = all_starts in
-          stands deck (get_or (deck_jumps deck) k 0) (place_in r.places k)
-          (sym (place_is deck rows count s.statements s.rows_are numbers ns (get_or (deck_jumps deck) k 0)) ∙ ap (place_of numbers count) (sym (at_entry k h)) ∙ n.done passed k (omega arith))
+          stands deck (get_or (deck_jumps deck) k 0) (place_in places k)
+          (sym (place_is deck rows count s.statements s.rows_are numbers ns (get_or (deck_jumps deck) k 0)) ∙ ap (place_of numbers count) (sym (at_entry k h)) ∙ n.1 k (omega arith))
 
-      at_exit : (k : ℕ) → k < length (deck_jumps deck) → place_in r.places k ≡ suc (position_of deck (get_or (deck_jumps deck) k 0))
+      at_exit : (k : ℕ) → k < length (deck_jumps deck) → place_in places k ≡ suc (position_of deck (get_or (deck_jumps deck) k 0))
       at_exit k h = (has_place k h).is
 
       last_low : (i : ℕ) → i < dos → last_of deck (do_of_deck deck rows count s.statements s.rows_are loops dos loops_long s.loops_are s.told i) < length deck
@@ -139,7 +146,7 @@ module _ (rows : List ℕ) (count : ℕ) (loops : List ℕ) (dos : ℕ) (before 
               let f = w.few_jumps in
               omega arith
 
-      module _ (table : Loops) (looped : LoopsOf loops dos r.places table) where
+      module _ (table : List DoRange) (looped : LoopsOf loops dos places table) where
         pub ranged : Ranged rows count table
         ranged =
             let a = all_starts in
@@ -158,7 +165,7 @@ module _ (rows : List ℕ) (count : ℕ) (loops : List ℕ) (dos : ℕ) (before 
             }
           where
             starts_at : (i : ℕ) → i < dos → do_at table i ≡ suc (do_of_deck deck rows count s.statements s.rows_are loops dos loops_long s.loops_are s.told i).position
-            starts_at i h = starts_is deck rows count s.statements s.rows_are loops dos loops_long s.loops_are s.told r.places at_exit table looped i h
+            starts_at i h = starts_is deck rows count s.statements s.rows_are loops dos loops_long s.loops_are s.told places at_exit table looped i h
 
             within : (i : ℕ) → i < dos → do_at table i ≤ count
             within i h =
@@ -169,33 +176,36 @@ module _ (rows : List ℕ) (count : ℕ) (loops : List ℕ) (dos : ℕ) (before 
             ends_at : (i : ℕ) → i < dos
                 → (last_at table i ≡ suc (last_of deck (do_of_deck deck rows count s.statements s.rows_are loops dos loops_long s.loops_are s.told i)))
                 × (last_of deck (do_of_deck deck rows count s.statements s.rows_are loops dos loops_long s.loops_are s.told i) < length deck)
-            ends_at i h = (last_is deck rows count s.statements s.rows_are loops dos loops_long s.loops_are s.told r.places at_exit table looped i h, last_low i h)
+            ends_at i h = (last_is deck rows count s.statements s.rows_are loops dos loops_long s.loops_are s.told places at_exit table looped i h, last_low i h)
 
-        ranges_are : ranges_refused rows count table r.places
+        ranges_are : ranges_refused rows count table places
             ≡ or_else (refused_at 23 (first_wrong_do deck (dos_of deck))) (or_else (refused_at 24 (first_wrong (right24 deck) 0 deck)) (refused_at 25 (first_wrong (right25 deck) 0 deck)))
         unfolding ranges_refused
         ranges_are =
-            let a = first23_is deck rows count s.statements s.rows_are loops dos loops_long s.loops_are s.told r.places at_exit table looped last_low in
-            let b = first24_is deck rows count s.statements s.rows_are loops dos loops_long s.loops_are s.told r.places at_exit table looped in
-            let c = first25_is deck rows count s.statements s.rows_are loops dos loops_long s.loops_are s.told r.places at_exit table looped in
+            let a = first23_is deck rows count s.statements s.rows_are loops dos loops_long s.loops_are s.told places at_exit table looped last_low in
+            let b = first24_is deck rows count s.statements s.rows_are loops dos loops_long s.loops_are s.told places at_exit table looped in
+            let c = first25_is deck rows count s.statements s.rows_are loops dos loops_long s.loops_are s.told places at_exit table looped in
             rw (a, b, c)
 
-        pub judged_ranges : (v : Verdict) → refusal_of v ≡ ranges_refused rows count table r.places → Judged deck (record { verdict = v; places = r.places })
+        whole_is : judge_deck deck ≡ ranges_refused rows count table places
         unfolding judge_deck
-        judged_ranges v e =
-            let a : or_else (refused_at 20 (refused20 deck)) (or_else (refused_at 21 (first_wrong (right21 deck) 0 deck)) (refused_at 22 (first_wrong (right22 deck) 0 deck))) ≡ none = sym numbers_are ∙ sym n.says ∙ passed in
-            let whole = six (refused_at 20 (refused20 deck)) (refused_at 21 (first_wrong (right21 deck) 0 deck)) (refused_at 22 (first_wrong (right22 deck) 0 deck)) (refused_at 23 (first_wrong_do deck (dos_of deck))) (refused_at 24 (first_wrong (right24 deck) 0 deck)) (refused_at 25 (first_wrong (right25 deck) 0 deck)) in
-            record {
-              says = e ∙ ranges_are ∙ ap (λ (o : Option Refusal). or_else o (or_else (refused_at 23 (first_wrong_do deck (dos_of deck))) (or_else (refused_at 24 (first_wrong (right24 deck) 0 deck)) (refused_at 25 (first_wrong (right25 deck) 0 deck))))) (sym a) ∙ whole;
-              placed = λ o. has_place;
-            }
+        whole_is =
+            let a : or_else (refused_at 20 (refused20 deck)) (or_else (refused_at 21 (first_wrong (right21 deck) 0 deck)) (refused_at 22 (first_wrong (right22 deck) 0 deck))) ≡ none = sym numbers_are ∙ n.0 in
+            let rest = or_else (refused_at 23 (first_wrong_do deck (dos_of deck))) (or_else (refused_at 24 (first_wrong (right24 deck) 0 deck)) (refused_at 25 (first_wrong (right25 deck) 0 deck))) in
+            sym (six (refused_at 20 (refused20 deck)) (refused_at 21 (first_wrong (right21 deck) 0 deck)) (refused_at 22 (first_wrong (right22 deck) 0 deck)) (refused_at 23 (first_wrong_do deck (dos_of deck))) (refused_at 24 (first_wrong (right24 deck) 0 deck)) (refused_at 25 (first_wrong (right25 deck) 0 deck)))
+            ∙ ap (λ (o : Option Refusal). or_else o rest) a ∙ sym ranges_are
+
+        pub judged_right : none ≡ ranges_refused rows count table places → Judged deck (Ok places)
+        judged_right e = (whole_is ∙ sym e, has_place)
+
+        pub judged_ranges : (r : code.Refusal) → some (refusal_of r) ≡ ranges_refused rows count table places → Judged deck (Err r)
+        judged_ranges r e = whole_is ∙ sym e
 
     -- refused by 20 to 22
-    pub judged_numbers : (r : Placed) (x : Refusal) → ByNumber rows numbers count wanted r → refusal_of r.verdict ≡ some x → Judged deck r
+    pub judged_numbers : (r : code.Refusal) → ByNumber rows numbers count wanted (Err r) → Judged deck (Err r)
     unfolding judge_deck
-    judged_numbers r x n e =
-        let a : or_else (refused_at 20 (refused20 deck)) (or_else (refused_at 21 (first_wrong (right21 deck) 0 deck)) (refused_at 22 (first_wrong (right22 deck) 0 deck))) ≡ some x = sym numbers_are ∙ sym n.says ∙ e in
+    judged_numbers r e =
+        let a : or_else (refused_at 20 (refused20 deck)) (or_else (refused_at 21 (first_wrong (right21 deck) 0 deck)) (refused_at 22 (first_wrong (right22 deck) 0 deck))) ≡ some (refusal_of r) = sym numbers_are ∙ e in
         let rest = or_else (refused_at 23 (first_wrong_do deck (dos_of deck))) (or_else (refused_at 24 (first_wrong (right24 deck) 0 deck)) (refused_at 25 (first_wrong (right25 deck) 0 deck))) in
-        let whole = six (refused_at 20 (refused20 deck)) (refused_at 21 (first_wrong (right21 deck) 0 deck)) (refused_at 22 (first_wrong (right22 deck) 0 deck)) (refused_at 23 (first_wrong_do deck (dos_of deck))) (refused_at 24 (first_wrong (right24 deck) 0 deck)) (refused_at 25 (first_wrong (right25 deck) 0 deck)) in
-        let says : some x ≡ judge_deck deck = ap (λ (o : Option Refusal). or_else o rest) (sym a) ∙ whole in
-        record { says = e ∙ says; placed = λ o. absurd (clash (says ∙ o)) }
+        sym (six (refused_at 20 (refused20 deck)) (refused_at 21 (first_wrong (right21 deck) 0 deck)) (refused_at 22 (first_wrong (right22 deck) 0 deck)) (refused_at 23 (first_wrong_do deck (dos_of deck))) (refused_at 24 (first_wrong (right24 deck) 0 deck)) (refused_at 25 (first_wrong (right25 deck) 0 deck)))
+        ∙ ap (λ (o : Option Refusal). or_else o rest) a

@@ -1,9 +1,11 @@
 -- What the tables hold of a deck, and the answer for the deck as a whole.
 -- Assumes nothing.
-use Rattle.std.specs.Prelude.{◌≡◌, ℕ, suc, ◌*◌, ◌≤◌, ◌<◌, List, length, take, get_or}
-use Rattle.std.proofs.Math.Option.{Option, none, some}
+use Rattle.std.specs.Prelude.{◌≡◌, ℕ, suc, ◌*◌, ◌≤◌, ◌<◌, List, length, take, get_or, Result, Ok, Err}
+use Rattle.std.proofs.Math.Option.{none, some}
 use Rattle.rules_shared.specs.Limits.{limits}
-use Rattle.rules_shared.specs.Refusals.{Refusal, refusal}
+use Rattle.refusals.specs.declared.Refusal.{Refusal}
+use Rattle.refusals.specs.Answers.{refusal_of}
+use Rattle.read_cards.specs.declared.Sequence.{Sequence}
 use Rattle.rules_shared.specs.Lists.{Each}
 use Rattle.rules_text.specs.Trees.{Statement}
 use Rattle.rules_deck.specs.Deck.{position_of}
@@ -11,9 +13,6 @@ use Rattle.rules_deck.specs.Whole.{form_sets, judge_deck}
 use Rattle.take_draft.specs.Names.{Told}
 use Rattle.take_draft.specs.Sketch.{deck_rows, deck_jumps, loops_from}
 use Rattle.whole_tables.specs.Tables.{place_in}
-use Rattle.whole_deck.specs.declared.Verdict.{Verdict}
-use Rattle.whole_deck.specs.declared.Placed.{Placed}
-use Rattle.whole_deck.specs.declared.Verdict.TheVariants.{Right, Refused}
 
 -- the names that a statement sets are told by their words
 abbrev pub SetsTold : Statement → Type 0
@@ -48,12 +47,7 @@ pub record Stands (deck : List Statement) (n place : ℕ) : Type 0 where
   pub is : place ≡ suc (position_of deck n)
   pub low : position_of deck n < length deck
 
--- the answer as the book says it
-unfoldable pub refusal_of : Verdict → Option Refusal
-refusal_of Right = none
-refusal_of (Refused number place) = some (refusal number place.0 0)
-
 -- the answer is the book's, and each number of a deck that is right has its statement's place
-pub record Judged (deck : List Statement) (r : Placed) : Type 0 where
-  pub says : refusal_of r.verdict ≡ judge_deck deck
-  pub placed : judge_deck deck ≡ none → (k : ℕ) → k < length (deck_jumps deck) → Stands deck (get_or (deck_jumps deck) k 0) (place_in r.places k)
+abbrev pub Judged : List Statement → Result (List Sequence) Refusal → Type 0
+Judged deck (Ok places) = (judge_deck deck ≡ none) × ((k : ℕ) → k < length (deck_jumps deck) → Stands deck (get_or (deck_jumps deck) k 0) (place_in places k))
+Judged deck (Err r) = judge_deck deck ≡ some (refusal_of r)

@@ -16,8 +16,7 @@ use Rattle.read_cards.specs.declared.Number.{Number}
 use Rattle.read_cards.specs.declared.Sequence.{Sequence}
 use Rattle.whole_tables.specs.Rows.{jumps_at, start_of}
 use Rattle.whole_tables.specs.Tables.{number_in, place_in}
-use Rattle.whole_numbers.specs.declared.Found.{Found}
-use Rattle.whole_numbers.specs.declared.Found.TheVariants.{Nothing, At}
+use Rattle.std.specs.Prelude.{Option, Some, None}
 use Rattle.whole_numbers.specs.declared.Resolved.{Resolved}
 use Rattle.whole_numbers.proofs.Tests.{all_true, one_false}
 use Rattle.whole_numbers.proofs.Starts.{start_below}
@@ -26,17 +25,15 @@ use Rattle.whole_numbers.specs.Numbers.{all_from, first_from, found_of, place_of
 module _ (numbers : List Number) (count : ℕ) (jumps : List Number) (many : ℕ) where
   -- those below k are placed
   pub record Resolving (places : List Sequence) (k : ℕ) : Type 0 where
-    pub within : k ≤ many
     pub long : length places ≡ 1424
     pub done : (i : ℕ) → i < k → place_of numbers count (number_in jumps i) ≡ some (place_in places i)
 
-  module _ (places : List Sequence) (k : ℕ) (p : Resolving places k) (f : Found) (said : found_of f ≡ place_of numbers count (number_in jumps k)) where
-    pub resolves_more : (place : Sequence) → f ≡ At place → k < many → many ≤ 1424 → Resolving (set places k place) (k + 1)
-    unfolding found_of
-    resolves_more place e h room =
+  module _ (places : List Sequence) (k : ℕ) (p : Resolving places k) (f : Option Sequence) (said : found_of f ≡ place_of numbers count (number_in jumps k)) where
+    pub resolves_more : (place : Sequence) → f ≡ Some place → k < 1424 → Resolving (set places k place) (k + 1)
+    resolves_more place e room =
         let kept = p.long in
         let is : place_of numbers count (number_in jumps k) ≡ some place.0 = sym said ∙ ap found_of e in
-        record { within = omega arith; long = length-set places k place ∙ p.long; done = λ i l. at i (dec_le k i) l is (omega arith) }
+        record { long = length-set places k place ∙ p.long; done = λ i l. at i (dec_le k i) l is (omega arith) }
       where
         at : (i : ℕ) → Dec (k ≤ i) → i < k + 1 → place_of numbers count (number_in jumps k) ≡ some place.0 → k < length places
             → place_of numbers count (number_in jumps i) ≡ some (place_in (set places k place) i)
@@ -47,9 +44,8 @@ module _ (numbers : List Number) (count : ℕ) (jumps : List Number) (many : ℕ
             let g : i < k = lt_of_not-le y in
             p.done i g ∙ ap (λ (s : Sequence). some s.0) (sym (get_or-set_other places k i place (record { 0 = 0 }) (λ q. omega arith)))
 
-    pub resolves_stops : f ≡ Nothing → Resolves numbers count jumps many (record { places = places; known = k })
-    unfolding found_of
-    resolves_stops e = record { within = p.within; done = p.done; stops = λ h. sym said ∙ ap found_of e }
+    pub resolves_stops : f ≡ None → k ≤ many → Resolves numbers count jumps many (record { places = places; known = k })
+    resolves_stops e h = record { within = h; done = p.done; stops = λ h. sym said ∙ ap found_of e }
 
   pub resolves_ends : (places : List Sequence) (k : ℕ) → Resolving places k → many ≤ k → Resolves numbers count jumps many (record { places = places; known = many })
   resolves_ends places k p h = record { within = omega arith; done = λ i l. p.done i (omega arith); stops = λ l. absurd (omega arith) }

@@ -3,11 +3,12 @@
 use Rattle.std.specs.Prelude.{◌≡◌, ℕ, zero, suc, ◌+◌, ◌≤◌, ◌<◌, Bool, true, false, ◌&&◌, ◌||◌, not, cond, List, eqb, leb}
 use Rattle.std.proofs.Math.Option.{Option, none, some}
 use Rattle.rules_shared.specs.Refusals.{or_else}
+use Rattle.std.specs.Prelude as std
+use Rattle.refusals.specs.Answers.{maybe}
 use Rattle.read_cards.specs.declared.Number.{Number}
+use Rattle.read_cards.specs.declared.Sequence.{Sequence}
 use Rattle.whole_tables.specs.Rows.{kind_at, jumps_at, start_of}
 use Rattle.whole_tables.specs.Tables.{number_in, place_in}
-use Rattle.whole_numbers.specs.declared.Found.{Found}
-use Rattle.whole_numbers.specs.declared.Found.TheVariants.{Nothing, At}
 use Rattle.whole_numbers.specs.declared.Resolved.{Resolved}
 
 -- ---- tests of n positions, from i on
@@ -27,9 +28,8 @@ count_from test zero i = 0
 count_from test (suc n) i = cond (test i) (suc (count_from test n (suc i))) (count_from test n (suc i))
 
 -- an answer as the book says it
-unfoldable pub found_of : Found → Option ℕ
-found_of Nothing = none
-found_of (At place) = some place.0
+abbrev pub found_of : std.Option Sequence → Option ℕ
+found_of = maybe (λ place. place.0)
 
 -- ---- the place of the first statement with number n
 

@@ -7,7 +7,7 @@ use mathlib.Core.Bool.{Bool, true, false, cond}
 use mathlib.Core.List.{List}
 use lib.Dec.{eqb}
 use Rattle.read_cards.specs.declared.Sequence.{Sequence}
-use Rattle.whole_tables.specs.declared.Loops.{Loops}
+use Rattle.whole_tables.specs.declared.DoRange.{DoRange}
 use Rattle.whole_tables.specs.Rows.{kind_at, jumps_at, start_of}
 use Rattle.whole_numbers.specs.Numbers.{all_from}
 use Rattle.whole_ranges.specs.Ranges.{jump_stays, exits_at, jumps_right}
@@ -20,7 +20,7 @@ exits_few rows q = by (eqb (kind_at rows q) 4)
     by true = omega arith
     by false = omega arith
 
-module _ (rows : List ℕ) (loops : Loops) (places : List Sequence) (q : ℕ) where
+module _ (rows : List ℕ) (loops : List DoRange) (places : List Sequence) (q : ℕ) where
   pub jumps_told : (at size here : ℕ) → at ≡ start_of rows q → size ≡ exits_at rows q → here ≡ suc q
       → all_from (jump_stays loops places here) ((at + size) - at) at ≡ jumps_right rows loops places q
   unfolding jumps_right

@@ -6,8 +6,8 @@ use native.Mathlib.Nat.{lt_of_not-le}
 use native.Mathlib.Decide.{dec_le}
 use native.Mathlib.Omega.{arith}
 use mathlib.Core.List.{List}
-use lib.ListN.{length, get_or, set}
-use lib.Seq.{get_or-set_same, get_or-set_other}
+use lib.ListN.{length, get_or, set, take}
+use lib.Seq.{get_or-set_same, get_or-set_other, get_or-take}
 
 module _ {A : Type 0} (of : A → ℕ) (none : A) (source : ℕ → ℕ) where
   -- the first i entries are those of the source
@@ -27,3 +27,7 @@ module _ {A : Type 0} (of : A → ℕ) (none : A) (source : ℕ → ℕ) where
       at k (no y) h =
           let l : k < i = lt_of_not-le y in
           ap of (get_or-set_other table i k a none (λ q. omega arith)) ∙ f.are k l
+
+  -- the first n, once they are filled
+  pub front : (table : List A) (n : ℕ) → Filled table n → (k : ℕ) → k < n → of (get_or (take n table) k none) ≡ source k
+  front table n f k h = ap of (get_or-take n table k none h) ∙ f.are k h

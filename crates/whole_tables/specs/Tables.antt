@@ -4,7 +4,7 @@ use Rattle.std.specs.Prelude.{◌≡◌, ℕ, suc, ◌*◌, ◌^◌, ◌≤◌, 
 use Rattle.rules_shared.specs.Limits.{limits}
 use Rattle.read_cards.specs.declared.Number.{Number}
 use Rattle.read_cards.specs.declared.Sequence.{Sequence}
-use Rattle.whole_tables.specs.declared.Loops.{Loops}
+use Rattle.whole_tables.specs.declared.DoRange.{DoRange}
 use Rattle.whole_tables.specs.Rows.{number_at, do_index, last_index}
 
 -- the statement number at an index
@@ -15,6 +15,13 @@ number_in table i = (get_or table i (record { 0 = 0 })).0
 abbrev pub place_in : List Sequence → ℕ → ℕ
 place_in table i = (get_or table i (record { 0 = 0 })).0
 
+-- a DO's sequence number, and its last statement's
+abbrev pub do_at : List DoRange → ℕ → ℕ
+do_at loops i = (get_or loops i (record { first = record { 0 = 0 }; last = record { 0 = 0 } })).first.0
+
+abbrev pub last_at : List DoRange → ℕ → ℕ
+last_at loops i = (get_or loops i (record { first = record { 0 = 0 }; last = record { 0 = 0 } })).last.0
+
 -- ---- statement numbers
 
 pub record RowsFit (rows : List ℕ) (count : ℕ) : Type 0 where
@@ -23,9 +30,11 @@ pub record RowsFit (rows : List ℕ) (count : ℕ) : Type 0 where
   pub low : (q : ℕ) → q < count → number_at rows q < 2 ^ 32
 
 pub record NumbersOf (rows : List ℕ) (count : ℕ) (table : List Number) : Type 0 where
+  pub counted : length table ≡ count
   pub are : (q : ℕ) → q < count → number_in table q ≡ number_at rows q
 
 pub record Wanted (words : List ℕ) (many : ℕ) (table : List Number) : Type 0 where
+  pub counted : length table ≡ many
   pub are : (k : ℕ) → k < many → number_in table k ≡ get_or words k 0
 
 -- ---- DOs
@@ -36,7 +45,7 @@ pub record LoopsFit (words : List ℕ) (dos : ℕ) : Type 0 where
   pub starts : (i : ℕ) → i < dos → do_index words i < limits.statements
   pub lasts : (i : ℕ) → i < dos → last_index words i < 1424
 
-pub record LoopsOf (words : List ℕ) (dos : ℕ) (places : List Sequence) (r : Loops) : Type 0 where
-  pub counted : r.count ≡ dos
-  pub starts : (i : ℕ) → i < dos → place_in r.at i ≡ suc (do_index words i)
-  pub lasts : (i : ℕ) → i < dos → place_in r.last i ≡ place_in places (last_index words i)
+pub record LoopsOf (words : List ℕ) (dos : ℕ) (places : List Sequence) (table : List DoRange) : Type 0 where
+  pub counted : length table ≡ dos
+  pub starts : (i : ℕ) → i < dos → do_at table i ≡ suc (do_index words i)
+  pub lasts : (i : ℕ) → i < dos → last_at table i ≡ place_in places (last_index words i)

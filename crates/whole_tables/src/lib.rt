@@ -1,7 +1,7 @@
 // A deck's statement numbers and sequence numbers in tables of their own types, by value, made from the words that drafting keeps.
 #![tactic(auto)]
 
-ghost use Rattle.std.specs.Prelude.{◌≡◌, suc, ◌+◌, ◌*◌, ◌^◌, ◌≤◌, ◌<◌, length};
+ghost use Rattle.std.specs.Prelude.{◌≡◌, suc, ◌+◌, ◌*◌, ◌^◌, ◌≤◌, ◌<◌, length, take};
 ghost use Rattle.whole_tables.specs.Rows.{number_at, kind_at, set_at, jumps_at, sets_at};
 ghost use Rattle.whole_tables.specs.Tables.{RowsFit, NumbersOf, Wanted, LoopsFit, LoopsOf};
 
@@ -67,13 +67,11 @@ pub fn jumps_of(rows: &[u64], q: usize) -> usize
 // Each statement's number, 0 where none is punched.
 pub fn numbers(rows: &[u64], count: usize) -> [Number; STATEMENTS]
     requires { RowsFit rows.now count }
-    ensures { NumbersOf rows.now count result }
+    ensures { NumbersOf rows.now count (take count result) }
 {
     let mut table = [Number(0); STATEMENTS];
-    let mut q: usize = 0;
-    while q < count {
+    for q in 0..count {
         table[q] = number_of(rows, q);
-        q += 1;
     }
     table
 }
@@ -81,42 +79,38 @@ pub fn numbers(rows: &[u64], count: usize) -> [Number; STATEMENTS]
 // The numbers that statements jump to, a DO's last among them.
 pub fn wanted(words: &[u32], many: usize) -> [Number; JUMPS]
     requires { (many ≤ 1424) × (many ≤ length words.now) }
-    ensures { Wanted words.now many result }
+    ensures { Wanted words.now many (take many result) }
 {
     let mut table = [Number(0); JUMPS];
-    let mut k: usize = 0;
-    while k < many {
+    for k in 0..many {
         table[k] = Number(words[k]);
-        k += 1;
     }
     table
 }
 
-// The DOs and their last statements.
-#[derive(Clone, Copy)]
-pub struct Loops {
-    pub at: [Sequence; DOS],
-    pub last: [Sequence; DOS],
-    pub count: usize,
+// A DO, and the last statement of its range.
+#[derive(Clone, Copy, PartialEq, Eq, Debug)]
+pub struct DoRange {
+    pub first: Sequence,
+    pub last: Sequence,
 }
 
 // Two words a DO: its position, and the index of its last statement among the jumps.
-pub fn loops_of(words: &[u32], dos: usize, places: [Sequence; JUMPS]) -> Loops
+pub fn loops_of(words: &[u32], dos: usize, places: &[Sequence; JUMPS]) -> [DoRange; DOS]
     requires { LoopsFit words.now dos }
-    ensures { LoopsOf words.now dos places result }
+    ensures { LoopsOf words.now dos places.now (take dos result) }
 {
-    let mut at = [Sequence(0); DOS];
-    let mut last = [Sequence(0); DOS];
-    let mut i: usize = 0;
-    while i < dos {
-        at[i] = sequence_of(words[2 * i] as usize);
+    let none = DoRange {
+        first: Sequence(0),
+        last: Sequence(0),
+    };
+    let mut table = [none; DOS];
+    for i in 0..dos {
         let k = words[2 * i + 1] as usize;
-        last[i] = places[k];
-        i += 1;
+        table[i] = DoRange {
+            first: sequence_of(words[2 * i] as usize),
+            last: places[k],
+        };
     }
-    Loops {
-        at: at,
-        last: last,
-        count: dos,
-    }
+    table
 }

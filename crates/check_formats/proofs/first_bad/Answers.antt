@@ -1,48 +1,17 @@
 -- `check_formats::first_bad` meets its contract. Assumes nothing.
-use mathlib.Core.Path.{refl, sym, ◌∙◌}
-use native.Mathlib.Omega.{arith}
+use mathlib.Core.Path.{sym, ap, ◌∙◌}
+use Rattle.rules_formats.specs.Words.{is_end}
 use Rattle.rules_object.specs.Check.{right_format}
-use Rattle.object_contents.specs.Layout.{object_at}
-use Rattle.check_formats.specs.Formats.{place_of}
-use Rattle.check_formats.proofs.Firsts.{first_starts, first_more, first_stops, first_ends}
+use Rattle.object_contents.specs.Book.{book_of}
+use Rattle.check_formats.proofs.Firsts.{first_more}
+use Rattle.check_formats.proofs.Words.{begins_next, goes_on}
 use Rattle.check_formats.proofs.first_bad.Goals as goal
-
-pub loop-i-init : goal.loop-i-init
-loop-i-init c =
-    let test = right_format (object_at c.args.e c.args.o.now) in
-    let n = c.args.e.format_count in
-    (omega arith, refl, first_starts test n 0 refl)
-
-pub format_right-requires : goal.format_right-requires
-format_right-requires c =
-    (c.requires, c.loop-i-test.true, c.loop-i.invariant.1)
-
-pub returns-then-not-format_right : goal.returns-then-not-format_right
-unfolding place_of
-returns-then-not-format_right c =
-    let test = right_format (object_at c.args.e c.args.o.now) in
-    let n = c.args.e.format_count in
-    let i = c.loop-i.i in
-    let inv = c.loop-i.invariant in
-    sym (inv.2 ∙ first_stops test n i c.loop-i-test.true (sym c.format_right.ensures ∙ c.if-not-format_right.true))
-
-pub start_after-start-requires : goal.start_after-start-requires
-start_after-start-requires c =
-    (c.requires, c.loop-i-test.true, c.loop-i.invariant.1)
+use Rattle.check_formats.proofs.first_bad.Goals.{then-is_end, else-is_end}
 
 pub loop-i-preserved : goal.loop-i-preserved
 loop-i-preserved c =
-    let test = right_format (object_at c.args.e c.args.o.now) in
-    let n = c.args.e.format_count in
+    let o = book_of c.args.o.now in
     let i = c.loop-i.i in
-    let inv = c.loop-i.invariant in
-    (omega arith, c.start_after-start.ensures, inv.2 ∙ first_more test n i c.loop-i-test.true (sym c.format_right.ensures ∙ c.if-not-format_right.false))
-
-pub returns : goal.returns
-unfolding place_of
-returns c =
-    let test = right_format (object_at c.args.e c.args.o.now) in
-    let n = c.args.e.format_count in
-    let i = c.loop-i.i in
-    let inv = c.loop-i.invariant in
-    sym (inv.2 ∙ first_ends test n i c.loop-i-test.false)
+    let end = sym (c.is_end.ensures ∙ ap is_end c.format_word.ensures) in
+    let later = c.loop-i.invariant.1 ∙ first_more (right_format o) c.args.o.now.layout.format_count i c.loop-i-test.true (sym c.format_right.ensures ∙ c.if-not-format_right.false) in
+    elim c.if-is_end.branch [ then-is_end w ↦ (w.start-is ∙ begins_next o i (end ∙ w.if-is_end.true), later) | else-is_end w ↦ (w.start-is ∙ c.loop-i.invariant.0 ∙ goes_on o i (end ∙ w.if-is_end.false), later) ]

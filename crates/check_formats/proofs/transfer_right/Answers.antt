@@ -1,17 +1,17 @@
 -- `check_formats::transfer_right` meets its contract. Assumes nothing.
-use mathlib.Core.Path.{◌∙◌}
-use Rattle.check_formats.proofs.Says.{no_format, transfer_says}
+use native.Mathlib.Omega.{arith}
+use Rattle.std.proofs.lemmas.Bool.Decides.{nat_tests}
+use Rattle.check_formats.proofs.Says.{transfer_says}
 use Rattle.check_formats.proofs.transfer_right.Goals as goal
 
-pub returns-then-e-format : goal.returns-then-e-format
-returns-then-e-format c =
-    let a = c.args in
-    let format = c.index-format.ensures ∙ c.load.ensures in
-    no_format a.e a.o.now a.i c.requires.1 c.index-format.result format c.if-e-format.true
+pub returns-then-count-eq0 : goal.returns-then-count-eq0
+returns-then-count-eq0 c =
+    rw (transfer_says c.args.o.now.layout c.args.o.now.bytes.now c.args.i c.requires _ _ _ c.load-format.ensures c.load-first.ensures c.load-count.ensures) (grind (arith, nat_tests))
 
-pub returns : goal.returns
-returns c =
-    let a = c.args in
-    let format = c.index-format.ensures ∙ c.load.ensures in
-    transfer_says a.e a.o.now a.i c.requires.1 c.index-format.result c.index-first.result c.index-count.result c.begins_format.result c.has_number.result
-    format (c.index-first.ensures ∙ c.load-2.ensures) (c.index-count.ensures ∙ c.load-3.ensures) c.if-e-format.false c.begins_format.ensures c.has_number.ensures
+pub returns-else-count-eq0 : goal.returns-else-count-eq0
+returns-else-count-eq0 c =
+    rw (transfer_says c.args.o.now.layout c.args.o.now.bytes.now c.args.i c.requires _ _ _ c.load-format.ensures c.load-first.ensures c.load-count.ensures) (grind (arith, nat_tests))
+
+pub returns-else-first-count : goal.returns-else-first-count
+returns-else-first-count c =
+    rw (transfer_says c.args.o.now.layout c.args.o.now.bytes.now c.args.i c.requires _ _ _ c.load-format.ensures c.load-first.ensures c.load-count.ensures) (grind (arith, nat_tests))

@@ -2,7 +2,6 @@
 use native.Mathlib.Omega.{arith}
 use Rattle.rules_object.proofs.Fills.{nevers_some, past, over, clash, same, new}
 use Rattle.check_meeting.specs.Meeting.{Goes}
-use borrow.Author.Rules.{rules}
 use Rattle.check_meeting.proofs.meet.Goals as goal
 
 pub returns-then-n-t : goal.returns-then-n-t

@@ -1,25 +1,14 @@
 -- `check_operands::brc_right` meets its contract. Assumes nothing.
-use mathlib.Core.Path.{◌∙◌}
-use Rattle.object_contents.proofs.Entries.{exit_inside}
-use Rattle.check_operands.proofs.Exits.{brc_room, brc_in, brc_not, brc_out}
+use native.Mathlib.Omega.{arith}
+use Rattle.std.proofs.lemmas.Bool.Decides.{nat_tests}
+use Rattle.check_operands.proofs.Exits.{brc_says, brc_out}
 use Rattle.check_operands.proofs.brc_right.Goals as goal
 
-pub load-requires : goal.load-requires
-load-requires c =
-    exit_inside _ _ c.requires.0 c.args.x c.if-x-e.true
+pub returns-then-e-x : goal.returns-then-e-x
+returns-then-e-x c = brc_out c.args.e.now c.args.o.now c.args.x c.if-e-x.true
 
-pub targets_right-requires : goal.targets_right-requires
-targets_right-requires c =
-    (c.requires.0, brc_room c.args.x c.index-n.result c.args.e.exit_count c.if-n-x.true)
+pub returns-then-x-n : goal.returns-then-x-n
+returns-then-x-n c = rw (brc_says c.args.e.now c.args.o.now c.args.x c.load-n.result c.if-e-x.false c.load-n.ensures) (grind (arith, nat_tests))
 
-pub returns-then-n-x : goal.returns-then-n-x
-returns-then-n-x c =
-    c.targets_right.ensures ∙ brc_in c.args.e c.args.o.now c.args.x c.index-n.result c.if-x-e.true (c.index-n.ensures ∙ c.load.ensures) c.if-n-x.true
-
-pub returns-else-n-x : goal.returns-else-n-x
-returns-else-n-x c =
-    brc_not c.args.e c.args.o.now c.args.x c.index-n.result c.if-x-e.true (c.index-n.ensures ∙ c.load.ensures) c.if-n-x.false
-
-pub returns-else-x-e : goal.returns-else-x-e
-returns-else-x-e c =
-    brc_out c.args.e c.args.o.now c.args.x c.if-x-e.false
+pub returns-else-x-n : goal.returns-else-x-n
+returns-else-x-n c = rw (brc_says c.args.e.now c.args.o.now c.args.x c.load-n.result c.if-e-x.false c.load-n.ensures) (grind (arith, nat_tests))

@@ -5,8 +5,8 @@ use Rattle.check_operands.proofs.entry_right.Goals as goal
 
 pub used_right-requires : goal.used_right-requires
 used_right-requires c =
-    record { rule_value = c.requires.rule_value; placed = (c.requires.placed.0, word_is _ c.args.w _ _ c.operation.ensures.0 (c.index.ensures ∙ c.operand.ensures.0) ∙ c.requires.placed.1) }
+    word_is _ c.args.w _ _ c.operation.ensures.0 c.operand.ensures.0 ∙ c.requires
 
 pub returns : goal.returns
 returns c =
-    c.used_right.ensures ∙ entry_is _ c.args.w _ _ c.operation.ensures.0 (c.index.ensures ∙ c.operand.ensures.0)
+    c.used_right.ensures ∙ entry_is _ c.args.w _ _ c.operation.ensures.0 c.operand.ensures.0

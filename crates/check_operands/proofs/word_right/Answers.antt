@@ -5,4 +5,4 @@ use Rattle.check_operands.proofs.word_right.Goals as goal
 
 pub returns : goal.returns
 returns c =
-    c.operand_right.ensures ∙ word_is _ c.args.w _ _ c.operation.ensures.0 (c.index.ensures ∙ c.operand.ensures.0)
+    c.operand_right.ensures ∙ word_is _ c.args.w _ _ c.operation.ensures.0 c.operand.ensures.0

@@ -16,37 +16,16 @@ body_is : (e : Layout) (s : List ℕ) (i : ℕ) → i < e.do_count → word_at s
 unfolding loop_at
 body_is e s i l = sym (ap (λ (d : Loop). d.body) (do_at_lem e s i no_loop l))
 
-pub overflow_mul-i : goal.overflow_mul-i
-overflow_mul-i c =
-    let e = c.args.e in
-    let s = c.args.o.now in
-    let i = c.args.i in
-    omega (arith, c.well_formed, do_inside e s c.requires.0 i c.requires.1)
-
-pub overflow_add-e : goal.overflow_add-e
-overflow_add-e c =
-    let e = c.args.e in
-    let s = c.args.o.now in
-    let i = c.args.i in
-    omega (arith, c.well_formed, do_inside e s c.requires.0 i c.requires.1)
-
-pub overflow_add-e-2 : goal.overflow_add-e-2
-overflow_add-e-2 c =
-    let e = c.args.e in
-    let s = c.args.o.now in
-    let i = c.args.i in
-    omega (arith, c.well_formed, do_inside e s c.requires.0 i c.requires.1)
-
 pub load-requires : goal.load-requires
 load-requires c =
-    let e = c.args.e in
-    let s = c.args.o.now in
+    let e = c.args.o.now.layout in
+    let s = c.args.o.now.bytes.now in
     let i = c.args.i in
-    omega (arith, do_inside e s c.requires.0 i c.requires.1)
+    omega (arith, do_inside e s c.args.o.now.placed i c.requires)
 
 pub returns : goal.returns
 returns c =
-    let e = c.args.e in
-    let s = c.args.o.now in
+    let e = c.args.o.now.layout in
+    let s = c.args.o.now.bytes.now in
     let i = c.args.i in
-    c.index.ensures ∙ c.load.ensures ∙ body_is e s i c.requires.1
+    c.load.ensures ∙ body_is e s i c.requires

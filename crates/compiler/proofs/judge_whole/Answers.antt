@@ -1,44 +1,50 @@
 -- `compiler::judge_whole` meets its contract. Assumes nothing.
-use Prim.Native.Nat.{ℕ}
+use mathlib.Core.Path.{◌≡◌}
 use native.Mathlib.Omega.{arith}
-use lib.ListN.{length-replicate}
+use Rattle.rules_shared.specs.House.{house1401}
+use Rattle.rules_deck.specs.Compile.{read, judge_read, write_read}
 use Rattle.whole_deck.proofs.Drafted.{sketched, whole}
-use Rattle.compiler.proofs.Stages.{told, low, whole_refused, placed, finished, whole_object, whole_short, low_word}
+use Rattle.whole_deck.proofs.Answers.{passed_on}
+use Rattle.compiler.specs.Compiled.{answer}
+use Rattle.compiler.proofs.Stages.{told, low, whole_refused, placed, finished, whole_right}
 use Rattle.compiler.proofs.judge_whole.Goals as goal
 
-pub judge-judged-requires : goal.judge-judged-requires
-judge-judged-requires c =
+pub judge-requires : goal.judge-requires
+judge-requires c =
     let d = c.requires.deck in
     let h = c.requires.held in
     whole d _ _ h.room h.fit h.kept (told h) (low h)
+
+pub returns-in_err-places : goal.returns-in_err-places
+returns-in_err-places c =
+    λ d h.
+    passed_on (λ o. answer o c.args.output.now ≡ write_read (house1401 c.args.k) c.args.output.now (judge_read (read d))) _ c.from_residual.result c.from_residual.ensures.1
+    (whole_refused h c.args.output.now _ (c.in_err-places.ensures d (sketched d _ _ h.room h.fit h.kept (told h) (low h))))
 
 pub put_positions-requires : goal.put_positions-requires
 put_positions-requires c =
     let d = c.requires.deck in
     let h = c.requires.held in
-    (placed h c.judge-judged.result (c.judge-judged.ensures d (sketched d _ _ h.room h.fit h.kept (told h) (low h))) c.in-Right.is, length-replicate {A = ℕ} 1424 0)
+    placed h _ (c.in_ok-places.ensures d (sketched d _ _ h.room h.fit h.kept (told h) (low h)))
 
 pub finish-requires : goal.finish-requires
 finish-requires c =
     let d = c.requires.deck in
     let h = c.requires.held in
-    record { deck = d; are = finished h c.judge-judged.result (c.judge-judged.ensures d (sketched d _ _ h.room h.fit h.kept (told h) (low h))) c.in-Right.is c.put_positions.ensures }
+    record { deck = d; are = finished h _ (c.in_ok-places.ensures d (sketched d _ _ h.room h.fit h.kept (told h) (low h))) c.put_positions.ensures }
 
 pub overflow_cast-result : goal.overflow_cast-result
 overflow_cast-result c =
-    omega (arith, low_word c.finish.ensures.1 c.in-Bytes.is)
+    omega (arith, c.in-Ok.ensures.1)
 
-pub returns-in-Refused : goal.returns-in-Refused
-returns-in-Refused c =
+pub returns-in-Ok : goal.returns-in-Ok
+returns-in-Ok c =
     λ d h.
-    whole_refused h c.args.output.now c.judge-judged.result (c.judge-judged.ensures d (sketched d _ _ h.room h.fit h.kept (told h) (low h))) c.in-Refused.is
+    let j = c.in_ok-places.ensures d (sketched d _ _ h.room h.fit h.kept (told h) (low h)) in
+    whole_right h c.args.output.now _ j (c.in-Ok.ensures.0 d (finished h _ j c.put_positions.ensures))
 
-pub returns-in-Bytes : goal.returns-in-Bytes
-returns-in-Bytes c =
+pub returns-in-Err : goal.returns-in-Err
+returns-in-Err c =
     λ d h.
-    whole_object h c.args.output.now _ c.judge-judged.result (c.judge-judged.ensures d (sketched d _ _ h.room h.fit h.kept (told h) (low h))) c.in-Right.is _ (c.finish.ensures.0 d (finished h c.judge-judged.result (c.judge-judged.ensures d (sketched d _ _ h.room h.fit h.kept (told h) (low h))) c.in-Right.is c.put_positions.ensures)) c.in-Bytes.is
-
-pub returns-in-Short : goal.returns-in-Short
-returns-in-Short c =
-    λ d h.
-    whole_short h c.args.output.now _ c.judge-judged.result (c.judge-judged.ensures d (sketched d _ _ h.room h.fit h.kept (told h) (low h))) c.in-Right.is _ (c.finish.ensures.0 d (finished h c.judge-judged.result (c.judge-judged.ensures d (sketched d _ _ h.room h.fit h.kept (told h) (low h))) c.in-Right.is c.put_positions.ensures)) c.in-Short.is
+    let j = c.in_ok-places.ensures d (sketched d _ _ h.room h.fit h.kept (told h) (low h)) in
+    whole_right h c.args.output.now _ j (c.in-Err.ensures.0 d (finished h _ j c.put_positions.ensures))

@@ -1,6 +1,5 @@
 -- `final_code::exits` meets its contract: the exits so far are those of the statements passed. Assumes nothing.
 use mathlib.Core.Path.{◌≡◌}
-use Prim.Native.Nat.{◌≤◌, ◌-◌}
 use mathlib.Core.List.{List}
 use lib.ListN.{length, take}
 use Rattle.rules_shared.specs.House.{House}
@@ -12,7 +11,4 @@ use Rattle.final_code.proofs.Branching.{exits_to}
 use Rattle.final_code.proofs.exits.Given as goal
 
 abbrev pub invariant-loop-i : goal.invariant-loop-i
-invariant-loop-i l = (l.i ≤ l.count) × (length l.out ≡ length l.initial.out) × ((house : House) (deck : List Statement) → Leading house deck l.rows l.count l.jumps l.starts → (l.j ≡ length (deck_jumps (take l.i deck))) × Holds l.out l.top (exits_to deck l.i))
-
-abbrev pub decreases-loop-i : goal.decreases-loop-i
-decreases-loop-i l = l.count - l.i
+invariant-loop-i l = (house : House) (deck : List Statement) → Leading house deck l.rows l.count l.jumps l.starts → (l.j ≡ length (deck_jumps (take l.i deck))) × Holds l.out l.top (exits_to deck l.i)

@@ -1,8 +1,8 @@
 -- `final_lines::bodies` meets its contract: the entries of the DOs passed have their bodies. Assumes nothing.
 use mathlib.Core.Path.{◌≡◌}
-use Prim.Native.Nat.{◌≤◌, ◌-◌, ◌*◌}
+use Prim.Native.Nat.{◌*◌}
 use mathlib.Core.List.{List, map}
-use lib.ListN.{length, take}
+use lib.ListN.{take}
 use Rattle.rules_shared.specs.House.{House}
 use Rattle.rules_object.specs.Bytes.{concat, loop_words}
 use Rattle.rules_text.specs.Trees.{Statement}
@@ -13,7 +13,4 @@ use Rattle.final_lines.proofs.Entering.{entered}
 use Rattle.final_lines.proofs.bodies.Given as goal
 
 abbrev pub invariant-loop-i : goal.invariant-loop-i
-invariant-loop-i l = (l.i ≤ l.n) × (length l.dos ≡ length l.initial.dos) × ((house : House) (deck : List Statement) → Loops house deck l.loops l.n → Starts deck l.starts → take (4 * l.n) l.initial.dos ≡ concat (map loop_words (map (open_entry deck) (dos_of deck))) → take (4 * l.n) l.dos ≡ concat (map loop_words (entered deck l.i (dos_of deck))))
-
-abbrev pub decreases-loop-i : goal.decreases-loop-i
-decreases-loop-i l = l.n - l.i
+invariant-loop-i l = ((house : House) (deck : List Statement) → Loops house deck l.loops l.n → Starts deck l.starts → take (4 * l.n) l.initial.dos ≡ concat (map loop_words (map (open_entry deck) (dos_of deck))) → take (4 * l.n) l.dos ≡ concat (map loop_words (entered deck l.i (dos_of deck))))

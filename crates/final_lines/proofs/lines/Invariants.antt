@@ -1,8 +1,6 @@
 -- `final_lines::lines` meets its contract: the lines so far are those of the statements passed. Assumes nothing.
-use mathlib.Core.Path.{◌≡◌}
-use Prim.Native.Nat.{◌≤◌, ◌-◌, ◌*◌}
+use Prim.Native.Nat.{◌≤◌, ◌*◌}
 use mathlib.Core.List.{List}
-use lib.ListN.{length}
 use Rattle.rules_shared.specs.House.{House}
 use Rattle.rules_text.specs.Trees.{Statement}
 use Rattle.final_addresses.specs.Given.{Rows, Starts, Holds}
@@ -10,7 +8,4 @@ use Rattle.final_lines.proofs.Listing.{lines_to}
 use Rattle.final_lines.proofs.lines.Given as goal
 
 abbrev pub invariant-loop-i : goal.invariant-loop-i
-invariant-loop-i l = (l.i ≤ l.count) × (l.top ≤ 3 * l.i) × (length l.out ≡ length l.initial.out) × ((house : House) (deck : List Statement) → Rows house deck l.rows l.count → Starts deck l.starts → Holds l.out l.top (lines_to deck l.i))
-
-abbrev pub decreases-loop-i : goal.decreases-loop-i
-decreases-loop-i l = l.count - l.i
+invariant-loop-i l = (l.top ≤ 3 * l.i) × ((house : House) (deck : List Statement) → Rows house deck l.rows l.count → Starts deck l.starts → Holds l.out l.top (lines_to deck l.i))

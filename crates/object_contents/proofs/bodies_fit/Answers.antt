@@ -1,21 +1,17 @@
 -- `object_contents::bodies_fit` meets its contract: the loop reads the bodies before `kind` as the book does, and the book goes on from there. Assumes nothing.
 use mathlib.Core.Path.{◌≡◌, refl, sym, ◌∙◌, subst}
-use Prim.Native.Nat.{ℕ, ◌-◌, ◌%◌, ◌≤◌}
+use Prim.Native.Nat.{ℕ, ◌%◌, ◌≤◌}
 use mathlib.Core.Bool.{Bool, true, false}
 use mathlib.Core.List.{List}
 use lib.Dec.{eqb}
 use native.Mathlib.Omega.{arith}
-use borrow.Author.Tests.{not-true, not-false, eqb-true, eqb-false}
+use borrow.Author.Tests.{eqb-true, eqb-false}
 use lib.ListN.{length}
 use Rattle.rules_object.specs.Kinds.{contents_length}
 use Rattle.object_bodies.specs.Edition.{most_kinds}
 use Rattle.object_contents.specs.Bodies.{AllFit}
 use Rattle.object_contents.proofs.Bodies.{Words, Going, fit, begins, goes, stops, past, ends}
-use borrow.Author.Rules.{rules}
 use Rattle.object_contents.proofs.bodies_fit.Goals as goal
-
-words_of : (s : List ℕ) (n : ℕ) → (contents_length n ≤ length s) × (n ≤ most_kinds) × (length s % 4 ≡ 0) → Words s n
-words_of s n h = record { long = h.0; four = h.2; few = h.1 }
 
 -- all kinds are passed: nothing is left over, or something is
 all_fit : (s : List ℕ) (n at k : ℕ) → Words s n → Going s n k at → n ≤ k → AllFit s n (eqb at (length s))
@@ -31,12 +27,12 @@ all_fit s n at k w g h = go (eqb at (length s)) refl
     go true e = ends s n at w whole (eqb-true at (length s) e)
     go false e = past s n at w whole (eqb-false at (length s) e)
 
+words_there : (s : List ℕ) (n : ℕ) → (contents_length n ≤ length s) × (n ≤ most_kinds) × (length s % 4 ≡ 0) → Words s n
+words_there s n h = record { long = h.0; four = h.2; few = h.1 }
+
 pub loop-kind-init : goal.loop-kind-init
 loop-kind-init c =
-    let s = c.args.o.now in
-    let kinds = c.args.kinds in
-    let words = words_of s kinds c.requires in
-    rw c.contents_length-at.ensures (begins s kinds words)
+    rw c.contents_length-at.ensures (begins c.args.o.now c.args.kinds (words_there _ _ c.requires))
 
 pub body_fits-requires : goal.body_fits-requires
 body_fits-requires c =
@@ -44,41 +40,17 @@ body_fits-requires c =
 
 pub returns-then-not-body_fits : goal.returns-then-not-body_fits
 returns-then-not-body_fits c =
-    let s = c.args.o.now in
-    let kinds = c.args.kinds in
-    let words = words_of s kinds c.requires in
-    let at = c.loop-kind.at in
-    let kind = c.loop-kind.kind in
-    let inv = c.loop-kind.invariant in
-    stops s kinds kind at words c.loop-kind-test.true inv (sym c.body_fits.ensures ∙ not-true _ c.if-not-body_fits.true-raw)
+    stops _ _ _ _ (words_there _ _ c.requires) c.loop-kind-test.true c.loop-kind.invariant (sym c.body_fits.ensures ∙ c.if-not-body_fits.true)
 
 pub overflow_add-at : goal.overflow_add-at
 overflow_add-at c =
-    let s = c.args.o.now in
-    let kinds = c.args.kinds in
-    let at = c.loop-kind.at in
-    let kind = c.loop-kind.kind in
-    let inv = c.loop-kind.invariant in
-    let e = fit s kinds kind at (sym c.body_fits.ensures ∙ not-false _ c.if-not-body_fits.false-raw) in
-    omega (arith, e.inside, c.length_of-at.ensures, inv.inside)
+    let e = fit _ _ _ _ (sym c.body_fits.ensures ∙ c.if-not-body_fits.false) in
+    omega (arith, e.inside)
 
 pub loop-kind-preserved : goal.loop-kind-preserved
 loop-kind-preserved c =
-    let s = c.args.o.now in
-    let kinds = c.args.kinds in
-    let words = words_of s kinds c.requires in
-    let at = c.loop-kind.at in
-    let kind = c.loop-kind.kind in
-    let inv = c.loop-kind.invariant in
-    let e = sym c.body_fits.ensures ∙ not-false _ c.if-not-body_fits.false-raw in
-    rw c.length_of-at.ensures (goes s kinds kind at words c.loop-kind-test.true inv e)
+    rw c.length_of-at.ensures (goes _ _ _ _ (words_there _ _ c.requires) c.loop-kind-test.true c.loop-kind.invariant (sym c.body_fits.ensures ∙ c.if-not-body_fits.false))
 
 pub returns : goal.returns
 returns c =
-    let s = c.args.o.now in
-    let kinds = c.args.kinds in
-    let words = words_of s kinds c.requires in
-    let at = c.loop-kind.at in
-    let kind = c.loop-kind.kind in
-    let inv = c.loop-kind.invariant in
-    all_fit s kinds at kind words inv c.loop-kind-test.false
+    all_fit _ _ _ _ (words_there _ _ c.requires) c.loop-kind.invariant c.loop-kind-test.false

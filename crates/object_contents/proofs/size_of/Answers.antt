@@ -3,7 +3,6 @@ use Prim.Native.Nat.{ℕ, ◌*◌}
 use mathlib.Core.Path.{ap}
 use native.Mathlib.Omega.{arith}
 use Rattle.object_contents.proofs.Sizes.{sized}
-use borrow.Author.Rules.{rules}
 use Rattle.object_contents.proofs.size_of.Goals as goal
 
 pub overflow_mul-result : goal.overflow_mul-result

@@ -1,11 +1,13 @@
 -- `print_lines::name_at` meets its contract. Assumes nothing.
-use mathlib.Core.Path.{refl, ◌∙◌}
+use mathlib.Core.Path.{◌≡◌, refl}
+use Prim.Native.Nat.{◌+◌, ◌-◌}
+use native.Mathlib.Omega.{arith}
 use Rattle.object_contents.specs.Layout.{named_at}
 use Rattle.print_lines.specs.Entries.{named_in}
-use Rattle.print_lines.proofs.ValueLaws.{named_as}
 use Rattle.print_lines.proofs.name_at.Goals as goal
 
 pub returns : goal.returns
 unfolding named_in named_at
 returns c =
-    (refl, named_as c.args.object.now c.args.b _ _ _ (c.index.ensures ∙ c.load.ensures) (c.index-2.ensures ∙ c.load-2.ensures) (c.index-3.ensures ∙ c.load-3.ensures))
+    let width : c.args.b + 8 - c.args.b ≡ 8 = omega arith in
+    rw (width, c.load.ensures, c.load-2.ensures, c.load-3.ensures) refl

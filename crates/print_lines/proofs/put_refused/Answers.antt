@@ -12,7 +12,7 @@ put_stated-a-requires c =
     let t0 : List ℕ = stated (bytes "REFUSED ") c.args.number in
     let t1 : List ℕ = stated (bytes " ") c.args.place in
     let t2 : List ℕ = line_end in
-    room_first t0 (t1 ++ t2) c.requires
+    rw c.from.ensures (room_first t0 (t1 ++ t2) c.requires)
 
 pub put_stated-b-requires : goal.put_stated-b-requires
 unfolding refused_line
@@ -20,7 +20,7 @@ put_stated-b-requires c =
     let t0 : List ℕ = stated (bytes "REFUSED ") c.args.number in
     let t1 : List ℕ = stated (bytes " ") c.args.place in
     let t2 : List ℕ = line_end in
-    room_first t1 t2 (room_then t0 (t1 ++ t2) c.put_stated-a.ensures c.requires)
+    rw c.from-2.ensures (room_first t1 t2 (room_then t0 (t1 ++ t2) (rw c.from.ensures at c.put_stated-a.ensures) c.requires))
 
 pub put_words-requires : goal.put_words-requires
 unfolding refused_line
@@ -28,7 +28,7 @@ put_words-requires c =
     let t0 : List ℕ = stated (bytes "REFUSED ") c.args.number in
     let t1 : List ℕ = stated (bytes " ") c.args.place in
     let t2 : List ℕ = line_end in
-    room_then t1 t2 c.put_stated-b.ensures (room_then t0 (t1 ++ t2) c.put_stated-a.ensures c.requires)
+    room_then t1 t2 (rw c.from-2.ensures at c.put_stated-b.ensures) (room_then t0 (t1 ++ t2) (rw c.from.ensures at c.put_stated-a.ensures) c.requires)
 
 pub returns : goal.returns
 unfolding refused_line
@@ -36,4 +36,4 @@ returns c =
     let t0 : List ℕ = stated (bytes "REFUSED ") c.args.number in
     let t1 : List ℕ = stated (bytes " ") c.args.place in
     let t2 : List ℕ = line_end in
-    (puts_both t0 (t1 ++ t2) c.put_stated-a.ensures (puts_both t1 t2 c.put_stated-b.ensures c.put_words.ensures))
+    (puts_both t0 (t1 ++ t2) (rw c.from.ensures at c.put_stated-a.ensures) (puts_both t1 t2 (rw c.from-2.ensures at c.put_stated-b.ensures) c.put_words.ensures))

@@ -1,3 +1,4 @@
+use mathlib.Core.Path.{refl}
 use native.Mathlib.Omega.{arith}
 use Rattle.print_numbers.proofs.PutLaws.{room_one, puts_one, room_before, room_last, puts_last}
 use Rattle.print_numbers.proofs.+put_numeral.Goals as goal
@@ -8,7 +9,7 @@ bounds-out-at t c =
 
 pub returns-then-n-lt10 : goal.returns-then-n-lt10
 returns-then-n-lt10 t c =
-    puts_one c.args.n _ c.if-n-lt10.true c.digit.ensures
+    puts_one c.args.n _ c.if-n-lt10.true refl
 
 pub put_numeral-end-requires : goal.put_numeral-end-requires
 put_numeral-end-requires t c =
@@ -25,4 +26,4 @@ overflow_add-result-2 t c =
 
 pub returns : goal.returns
 returns t c =
-    puts_last c.args.n _ c.if-n-lt10.false c.put_numeral-end.ensures c.digit-2.ensures
+    puts_last c.args.n _ c.if-n-lt10.false c.put_numeral-end.ensures refl

@@ -17,8 +17,8 @@ use Rattle.print_numbers.proofs.put_signed.Goals as goal
 pub put_words-end-requires : goal.put_words-end-requires
 put_words-end-requires c =
     let v = c.args.v in
-    let n = c.size-size.result in
-    let m : n ≡ nat_abs v = c.size-size.ensures ∙ ap nat_abs (to_z-of_z c.ranges.v) in
+    let n = c.unsigned_abs-size.result in
+    let m : n ≡ nat_abs v = c.unsigned_abs-size.ensures.value ∙ ap nat_abs (to_z-of_z c.ranges.v) in
     let at = c.args.at in
     let o = c.args.out.now in
     let e : signed v ≡ bytes "-" ++ numeral n = signed_below v (read (λ x. lt_z x (pos 0) ≡ true) v c.ranges.v c.if-v-lt0.true) ∙ ap (λ (k : ℕ). bytes "-" ++ numeral k) (sym m) in
@@ -28,8 +28,8 @@ put_words-end-requires c =
 pub put_numeral-requires : goal.put_numeral-requires
 put_numeral-requires c =
     let v = c.args.v in
-    let n = c.size-size.result in
-    let m : n ≡ nat_abs v = c.size-size.ensures ∙ ap nat_abs (to_z-of_z c.ranges.v) in
+    let n = c.unsigned_abs-size.result in
+    let m : n ≡ nat_abs v = c.unsigned_abs-size.ensures.value ∙ ap nat_abs (to_z-of_z c.ranges.v) in
     let at = c.args.at in
     let o = c.args.out.now in
     let e : signed v ≡ bytes "-" ++ numeral n = signed_below v (read (λ x. lt_z x (pos 0) ≡ true) v c.ranges.v c.if-v-lt0.true) ∙ ap (λ (k : ℕ). bytes "-" ++ numeral k) (sym m) in
@@ -39,8 +39,8 @@ put_numeral-requires c =
 pub returns-then-v-lt0 : goal.returns-then-v-lt0
 returns-then-v-lt0 c =
     let v = c.args.v in
-    let n = c.size-size.result in
-    let m : n ≡ nat_abs v = c.size-size.ensures ∙ ap nat_abs (to_z-of_z c.ranges.v) in
+    let n = c.unsigned_abs-size.result in
+    let m : n ≡ nat_abs v = c.unsigned_abs-size.ensures.value ∙ ap nat_abs (to_z-of_z c.ranges.v) in
     let at = c.args.at in
     let o = c.args.out.now in
     let e : signed v ≡ bytes "-" ++ numeral n = signed_below v (read (λ x. lt_z x (pos 0) ≡ true) v c.ranges.v c.if-v-lt0.true) ∙ ap (λ (k : ℕ). bytes "-" ++ numeral k) (sym m) in
@@ -50,15 +50,15 @@ returns-then-v-lt0 c =
 pub put_numeral-requires-2 : goal.put_numeral-requires-2
 put_numeral-requires-2 c =
     let v = c.args.v in
-    let n = c.size-size.result in
-    let m : n ≡ nat_abs v = c.size-size.ensures ∙ ap nat_abs (to_z-of_z c.ranges.v) in
+    let n = c.unsigned_abs-size.result in
+    let m : n ≡ nat_abs v = c.unsigned_abs-size.ensures.value ∙ ap nat_abs (to_z-of_z c.ranges.v) in
     let e : signed v ≡ numeral n = signed_above v (read (λ x. lt_z x (pos 0) ≡ false) v c.ranges.v c.if-v-lt0.false) ∙ ap numeral (sym m) in
     room_as e c.requires
 
 pub returns : goal.returns
 returns c =
     let v = c.args.v in
-    let n = c.size-size.result in
-    let m : n ≡ nat_abs v = c.size-size.ensures ∙ ap nat_abs (to_z-of_z c.ranges.v) in
+    let n = c.unsigned_abs-size.result in
+    let m : n ≡ nat_abs v = c.unsigned_abs-size.ensures.value ∙ ap nat_abs (to_z-of_z c.ranges.v) in
     let e : signed v ≡ numeral n = signed_above v (read (λ x. lt_z x (pos 0) ≡ false) v c.ranges.v c.if-v-lt0.false) ∙ ap numeral (sym m) in
     puts_as (sym e) c.put_numeral-2.ensures

@@ -1,6 +1,5 @@
 -- `print_run::print_names` meets its contract. Assumes nothing.
 use native.Mathlib.Omega.{arith}
-use Rattle.object_contents.proofs.Opens.{read_of, wrong_of}
 use Rattle.print_numbers.proofs.PutLaws.{puts_none, puts_as}
 use Rattle.print_run.proofs.RanLaws.{names_inside, names_few, read_names, no_names}
 use Rattle.print_run.proofs.print_names.Goals as goal
@@ -10,24 +9,21 @@ put_names-requires c =
     let s = c.args.object.now in
     let so = c.args.store.now in
     let tidy = c.requires.0 in
-    let e = c.in-Read.e in
-    let told = c.contents_of-contents.ensures in
-    let opened = read_of s _ _ told c.in-Read.is in
+    let e = c.in-Some.e in
+    let opened = c.in-Some.ensures in
     (names_inside s so e opened tidy c.requires.1, omega (arith, names_few s e opened tidy, c.requires.2, c.requires.3))
 
-pub returns-in-Read : goal.returns-in-Read
-returns-in-Read c =
+pub returns-in-Some : goal.returns-in-Some
+returns-in-Some c =
     let s = c.args.object.now in
     let so = c.args.store.now in
     let tidy = c.requires.0 in
-    let e = c.in-Read.e in
-    let told = c.contents_of-contents.ensures in
-    let opened = read_of s _ _ told c.in-Read.is in
+    let e = c.in-Some.e in
+    let opened = c.in-Some.ensures in
     (puts_as (read_names s e so opened) c.put_names.ensures.0, omega (arith, c.put_names.ensures.1, names_few s e opened tidy, c.requires.2))
 
-pub returns-in-Wrong : goal.returns-in-Wrong
-returns-in-Wrong c =
+pub returns-in-None : goal.returns-in-None
+returns-in-None c =
     let s = c.args.object.now in
     let so = c.args.store.now in
-    let told = c.contents_of-contents.ensures in
-    (puts_as (no_names s so (wrong_of s _ told c.in-Wrong.is)) (puts_none c.args.at c.args.out.now), omega (arith, c.requires.2))
+    (puts_as (no_names s so c.in-None.ensures) (puts_none c.args.at c.args.out.now), omega (arith, c.requires.2))

@@ -1,47 +1,43 @@
 -- `program::print_deck` meets its contract. Assumes nothing.
 use Prim.Native.Nat.{ℕ}
-use mathlib.Core.Path.{ap, ◌∙◌}
+use mathlib.Core.Path.{refl, sym, ap, ◌∙◌}
 use mathlib.Core.List.{List}
+use native.Mathlib.Omega.{arith}
+use lib.Seq.{length-take-le}
 use Rattle.rules_shared.specs.House.{house1401}
 use Rattle.rules_deck.specs.Compile.{compiling}
 use Rattle.rules_program.specs.Program.{compiled_lines}
+use Rattle.rules_program.proofs.Lengths.{refused_length}
 use Rattle.print_numbers.proofs.PutLaws.{puts_as}
-use Rattle.program.proofs.Compiles.{object_written, as_written}
+use Rattle.program.proofs.Compiles.{compiled_refused, compiled_printed, object_written}
 use Rattle.program.proofs.print_deck.Goals as goal
 
-pub print_compiled-requires : goal.print_compiled-requires
-print_compiled-requires c =
-    let k = c.args.k in
-    let d = c.args.deck.now in
-    let o = c.args.object.now in
-    let e = as_written _ _ _ _ c.in-Refused.is c.compile-compiled.ensures in
-    (λ z. object_written k d o _ e z, c.requires.1)
+pub slice_bounds-print_object-end : goal.slice_bounds-print_object-end
+slice_bounds-print_object-end c =
+    (object_written c.args.k c.args.deck.now c.args.object.now _ c.in-Ok.ensures refl).within
 
-pub print_compiled-requires-in-Object : goal.print_compiled-requires-in-Object
-print_compiled-requires-in-Object c =
-    let k = c.args.k in
-    let d = c.args.deck.now in
-    let o = c.args.object.now in
-    let e = as_written _ _ _ _ c.in-Object.is c.compile-compiled.ensures in
-    (λ z. object_written k d o _ e z, c.requires.1)
+pub slice_bounds-print_object-end-in-Ok : goal.slice_bounds-print_object-end-in-Ok
+slice_bounds-print_object-end-in-Ok c =
+    let o = object_written c.args.k c.args.deck.now c.args.object.now _ c.in-Ok.ensures refl in
+    sym (length-take-le c.in-Ok.n c.compile.new.output o.within)
 
-pub returns-in-Refused : goal.returns-in-Refused
-returns-in-Refused c =
-    let k = c.args.k in
-    let d = c.args.deck.now in
-    let e = as_written _ _ _ _ c.in-Refused.is c.compile-compiled.ensures in
-    (puts_as (ap compiled_lines (e ∙ ap (λ (x : List ℕ). compiling (house1401 k) d x) c.requires.0.bytes)) c.print_compiled.ensures.0, c.print_compiled.ensures.1)
+pub print_object-requires : goal.print_object-requires
+print_object-requires c =
+    let o = object_written c.args.k c.args.deck.now c.args.object.now _ c.in-Ok.ensures refl in
+    (o.tidy, c.requires.1)
 
-pub returns-in-Object : goal.returns-in-Object
-returns-in-Object c =
-    let k = c.args.k in
-    let d = c.args.deck.now in
-    let e = as_written _ _ _ _ c.in-Object.is c.compile-compiled.ensures in
-    (puts_as (ap compiled_lines (e ∙ ap (λ (x : List ℕ). compiling (house1401 k) d x) c.requires.0.bytes)) c.print_compiled-in-Object.ensures.0, c.print_compiled-in-Object.ensures.1)
+pub returns-in-Ok : goal.returns-in-Ok
+returns-in-Ok c =
+    let e = c.in-Ok.ensures ∙ ap (λ (x : List ℕ). compiling (house1401 c.args.k) c.args.deck.now x) c.requires.0 in
+    (puts_as (sym (compiled_printed c.in-Ok.n c.compile.new.output) ∙ ap compiled_lines e) c.print_object.ensures.0, c.print_object.ensures.1)
 
-pub returns-in-Short : goal.returns-in-Short
-returns-in-Short c =
-    let k = c.args.k in
-    let d = c.args.deck.now in
-    let e = as_written _ _ _ _ c.in-Short.is c.compile-compiled.ensures in
-    (puts_as (ap compiled_lines (e ∙ ap (λ (x : List ℕ). compiling (house1401 k) d x) c.requires.0.bytes)) c.print_compiled-in-Short.ensures.0, c.print_compiled-in-Short.ensures.1)
+pub put_refused-requires : goal.put_refused-requires
+put_refused-requires c =
+    record { fits = omega (arith, refused_length c.number.result c.in-Err.refusal.place (omega arith) (omega arith), c.requires.1) }
+
+pub returns-in-Err : goal.returns-in-Err
+returns-in-Err c =
+    let r = c.in-Err.refusal in
+    let e = c.in-Err.ensures ∙ ap (λ (x : List ℕ). compiling (house1401 c.args.k) c.args.deck.now x) c.requires.0 in
+    let put = rw c.number.ensures at c.put_refused.ensures in
+    (puts_as (sym (compiled_refused r c.compile.new.output) ∙ ap compiled_lines e) put, omega (arith, c.put_refused.ensures.end, refused_length c.number.result r.place (omega arith) (omega arith)))

@@ -8,16 +8,16 @@ pub returns-in-32 : goal.returns-in-32
 returns-in-32 c =
     let x = c.args.c in
     let b : x < 256 = omega arith in
-    key x b c.in-32.is
+    key x b c.in-32.in-32-own.keys1
 
-pub returns-in-40-to-57 : goal.returns-in-40-to-57
-returns-in-40-to-57 c =
+pub returns-in-32-2 : goal.returns-in-32-2
+returns-in-32-2 c =
     let x = c.args.c in
     let b : x < 256 = omega arith in
     middle x b (omega arith) (omega arith)
 
-pub returns-in-65-to-90 : goal.returns-in-65-to-90
-returns-in-65-to-90 c =
+pub returns-in-32-3 : goal.returns-in-32-3
+returns-in-32-3 c =
     let x = c.args.c in
     let b : x < 256 = omega arith in
     capital x b (omega arith) (omega arith) (omega arith)

@@ -4,4 +4,4 @@ use Rattle.read_cards.proofs.is_comment.Goals as goal
 
 pub returns : goal.returns
 returns c =
-    comment_is c.args.card.now c.requires
+    comment_is c.args.card.now c.told-card

@@ -1,5 +1,6 @@
 -- `read_cards::punched` meets its contract. Assumes nothing.
 use mathlib.Core.Path.{sym, ◌∙◌}
+use native.Mathlib.Omega.{arith}
 use Rattle.read_cards.proofs.CardLaws.{punched_blank, punched_wrong, punched_zero, punched_number}
 use Rattle.read_cards.proofs.punched.Goals as goal
 
@@ -8,17 +9,17 @@ returns-then-no_number c =
     let s = c.args.card.now in
     punched_blank s (sym c.no_number.ensures ∙ c.if-no_number.true)
 
-pub returns-in_default : goal.returns-in_default
-returns-in_default c =
+pub returns-in_err-value : goal.returns-in_err-value
+returns-in_err-value c =
     let s = c.args.card.now in
-    punched_wrong s (sym c.no_number.ensures ∙ c.if-no_number.false) (sym c.digits.ensures ∙ c.in_default.is)
+    c.from_residual.ensures ∙ punched_wrong s (sym c.no_number.ensures ∙ c.if-no_number.false) (sym c.digits.ensures ∙ c.in_err-value.was)
 
-pub returns-then-value-lt1 : goal.returns-then-value-lt1
-returns-then-value-lt1 c =
+pub returns-then-value-eq0 : goal.returns-then-value-eq0
+returns-then-value-eq0 c =
     let s = c.args.card.now in
-    punched_zero s c.in-Of.value (sym c.no_number.ensures ∙ c.if-no_number.false) (sym c.digits.ensures ∙ c.in-Of.is) c.if-value-lt1.true
+    punched_zero s _ (sym c.no_number.ensures ∙ c.if-no_number.false) (sym c.digits.ensures ∙ c.in_ok-value.was) (omega (arith, c.if-value-eq0.true))
 
 pub returns : goal.returns
 returns c =
     let s = c.args.card.now in
-    punched_number s c.in-Of.value (sym c.no_number.ensures ∙ c.if-no_number.false) (sym c.digits.ensures ∙ c.in-Of.is) c.if-value-lt1.false
+    punched_number s _ (sym c.no_number.ensures ∙ c.if-no_number.false) (sym c.digits.ensures ∙ c.in_ok-value.was) (omega (arith, c.if-value-eq0.false))

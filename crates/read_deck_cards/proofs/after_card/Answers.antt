@@ -1,28 +1,34 @@
 -- `read_deck_cards::after_card` meets its contract. Assumes nothing.
-use mathlib.Core.Path.{sym, ◌∙◌}
-use Rattle.read_deck_cards.proofs.CardByCard.{after_comment, after_first, after_continuation, has_room}
+use mathlib.Core.Path.{sym, ap, ◌∙◌}
+use mathlib.Core.Bool.{not}
+use Rattle.std.specs.Option.{is_some}
+use Rattle.read_deck_cards.proofs.CardByCard.{after_comment, no_characters, no_first, after_first, no_blanks, no_room, after_continuation}
 use Rattle.read_deck_cards.proofs.after_card.Goals as goal
 
 pub returns-then-is_comment : goal.returns-then-is_comment
 returns-then-is_comment c =
-    let s = c.args.card.now in
-    let b = c.args.b in
-    λ k. after_comment s k b (sym c.is_comment.ensures ∙ c.if-is_comment.true)
+    λ k. after_comment k c.args.b c.args.card.now (sym c.is_comment.ensures ∙ c.if-is_comment.true)
+
+pub returns-then-not-all_characters : goal.returns-then-not-all_characters
+returns-then-not-all_characters c =
+    λ k. no_characters k c.args.b c.args.card.now (sym c.is_comment.ensures ∙ c.if-is_comment.false) (sym c.all_characters.ensures ∙ c.if-not-all_characters.true)
+
+pub returns-then-is_none : goal.returns-then-is_none
+returns-then-is_none c =
+    λ k. no_first k c.args.b c.args.card.now (sym c.is_comment.ensures ∙ c.if-is_comment.false) (sym c.all_characters.ensures ∙ c.if-not-all_characters.false) (sym c.starts.ensures ∙ c.if-starts.true) (sym (ap is_some c.punched.ensures) ∙ c.is_none.ensures ∙ ap not c.if-is_none.true)
 
 pub returns-then-starts : goal.returns-then-starts
 returns-then-starts c =
-    let s = c.args.card.now in
-    let b = c.args.b in
-    λ k. after_first s k b (sym c.is_comment.ensures ∙ c.if-is_comment.false) (sym c.starts.ensures ∙ c.if-starts.true)
+    λ k. after_first k c.args.b c.args.card.now (sym c.is_comment.ensures ∙ c.if-is_comment.false) (sym c.all_characters.ensures ∙ c.if-not-all_characters.false) (sym c.starts.ensures ∙ c.if-starts.true) (sym (ap is_some c.punched.ensures) ∙ c.is_none.ensures ∙ ap not c.if-is_none.false)
 
-pub overflow_sub-result : goal.overflow_sub-result
-overflow_sub-result c =
-    let s = c.args.card.now in
-    let b = c.args.b in
-    has_room s b.room c.requires.1.0 (sym c.is_comment.ensures ∙ c.if-is_comment.false) (sym c.starts.ensures ∙ c.if-starts.false)
+pub returns-then-not-no_number : goal.returns-then-not-no_number
+returns-then-not-no_number c =
+    λ k. no_blanks k c.args.b c.args.card.now (sym c.is_comment.ensures ∙ c.if-is_comment.false) (sym c.all_characters.ensures ∙ c.if-not-all_characters.false) (sym c.starts.ensures ∙ c.if-starts.false) (sym c.no_number.ensures ∙ c.if-not-no_number.true)
+
+pub returns-then-b-eq0 : goal.returns-then-b-eq0
+returns-then-b-eq0 c =
+    λ k. no_room k c.args.b c.args.card.now (sym c.is_comment.ensures ∙ c.if-is_comment.false) (sym c.all_characters.ensures ∙ c.if-not-all_characters.false) (sym c.starts.ensures ∙ c.if-starts.false) (sym c.no_number.ensures ∙ c.if-not-no_number.false) c.if-b-eq0.true
 
 pub returns : goal.returns
 returns c =
-    let s = c.args.card.now in
-    let b = c.args.b in
-    λ k. after_continuation s k b (sym c.is_comment.ensures ∙ c.if-is_comment.false) (sym c.starts.ensures ∙ c.if-starts.false)
+    λ k. after_continuation k c.args.b c.args.card.now (sym c.is_comment.ensures ∙ c.if-is_comment.false) (sym c.all_characters.ensures ∙ c.if-not-all_characters.false) (sym c.starts.ensures ∙ c.if-starts.false) (sym c.no_number.ensures ∙ c.if-not-no_number.false) c.if-b-eq0.false

@@ -10,35 +10,32 @@ use Rattle.read_dos.proofs.read_parameter.Goals as goal
 
 pub returns-then-byte-eq43 : goal.returns-then-byte-eq43
 returns-then-byte-eq43 c =
-    let s = c.args.text.now in
-    let from = c.args.from in
-    let le = c.requires.0 in
-    parameter_plus s from le (sym c.byte.ensures ∙ c.if-byte-eq43.true)
+    parameter_plus c.args.text.now c.args.from c.requires.0 (sym c.byte.ensures ∙ c.if-byte-eq43.true)
 
-pub returns-in_default : goal.returns-in_default
-returns-in_default c =
+pub returns-in_err-expression : goal.returns-in_err-expression
+returns-in_err-expression c =
     let s = c.args.text.now in
     let from = c.args.from in
     let le = c.requires.0 in
     let h = on_rest an_expression s from c.expression.ensures in
-    parameter_none s from le (λ z. c.if-byte-eq43.false (c.byte.ensures ∙ z)) (given.refused h c.in_default.is)
+    rw c.from_residual.ensures (parameter_none s from le (λ z. c.if-byte-eq43.false (c.byte.ensures ∙ z)) (given.refused h c.in_err-expression.was))
 
-pub returns-then-sizes-ne0 : goal.returns-then-sizes-ne0
-returns-then-sizes-ne0 c =
+pub returns-then-expression-ne0 : goal.returns-then-expression-ne0
+returns-then-expression-ne0 c =
     let s = c.args.text.now in
     let from = c.args.from in
     let le = c.requires.0 in
     let h = on_rest an_expression s from c.expression.ensures in
-    let t = given.took h c.in-Read.is in
-    parameter_deep s from le (λ z. c.if-byte-eq43.false (c.byte.ensures ∙ z)) t c.if-sizes-ne0.true
+    let t = given.took h c.in_ok-expression.was in
+    parameter_deep s from le (λ z. c.if-byte-eq43.false (c.byte.ensures ∙ z)) t c.if-expression-ne0.true
 
-pub overflow_add-result : goal.overflow_add-result
-overflow_add-result c =
+pub overflow_add-at : goal.overflow_add-at
+overflow_add-at c =
     let s = c.args.text.now in
     let from = c.args.from in
     let le = c.requires.0 in
     let h = on_rest an_expression s from c.expression.ensures in
-    let t = given.took h c.in-Read.is in
+    let t = given.took h c.in_ok-expression.was in
     omega (arith, parameter_within s from le (λ z. c.if-byte-eq43.false (c.byte.ensures ∙ z)) t)
 
 pub bounds-items-1 : goal.bounds-items-1
@@ -47,26 +44,8 @@ bounds-items-1 c =
     let from = c.args.from in
     let le = c.requires.0 in
     let h = on_rest an_expression s from c.expression.ensures in
-    let t = given.took h c.in-Read.is in
-    omega (arith, t.top, t.few, t.within, length-drop from s, le, c.requires.1, c.if-n-eq2.true)
-
-pub returns-then-n-eq2 : goal.returns-then-n-eq2
-returns-then-n-eq2 c =
-    let s = c.args.text.now in
-    let from = c.args.from in
-    let le = c.requires.0 in
-    let h = on_rest an_expression s from c.expression.ensures in
-    let t = given.took h c.in-Read.is in
-    parameter_constant s from le (λ z. c.if-byte-eq43.false (c.byte.ensures ∙ z)) t c.if-sizes-ne0.false c.if-n-eq2.true
-
-pub returns-then-n-ne5 : goal.returns-then-n-ne5
-returns-then-n-ne5 c =
-    let s = c.args.text.now in
-    let from = c.args.from in
-    let le = c.requires.0 in
-    let h = on_rest an_expression s from c.expression.ensures in
-    let t = given.took h c.in-Read.is in
-    parameter_other s from le (λ z. c.if-byte-eq43.false (c.byte.ensures ∙ z)) t c.if-sizes-ne0.false c.if-n-eq2.false (λ f g. c.if-n-ne5.true f)
+    let t = given.took h c.in_ok-expression.was in
+    omega (arith, t.top, t.few, t.within, length-drop from s, le, c.requires.1, c.in-2.is)
 
 pub bounds-items-0 : goal.bounds-items-0
 bounds-items-0 c =
@@ -74,26 +53,8 @@ bounds-items-0 c =
     let from = c.args.from in
     let le = c.requires.0 in
     let h = on_rest an_expression s from c.expression.ensures in
-    let t = given.took h c.in-Read.is in
-    omega (arith, t.top, t.few, t.within, length-drop from s, le, c.requires.1, c.if-n-ne5.false)
-
-pub returns-then-items-ne2 : goal.returns-then-items-ne2
-returns-then-items-ne2 c =
-    let s = c.args.text.now in
-    let from = c.args.from in
-    let le = c.requires.0 in
-    let h = on_rest an_expression s from c.expression.ensures in
-    let t = given.took h c.in-Read.is in
-    parameter_other s from le (λ z. c.if-byte-eq43.false (c.byte.ensures ∙ z)) t c.if-sizes-ne0.false c.if-n-eq2.false (λ f g. c.if-items-ne2.true g)
-
-pub overflow_add-result-2 : goal.overflow_add-result-2
-overflow_add-result-2 c =
-    let s = c.args.text.now in
-    let from = c.args.from in
-    let le = c.requires.0 in
-    let h = on_rest an_expression s from c.expression.ensures in
-    let t = given.took h c.in-Read.is in
-    omega (arith, parameter_within s from le (λ z. c.if-byte-eq43.false (c.byte.ensures ∙ z)) t)
+    let t = given.took h c.in_ok-expression.was in
+    omega (arith, t.top, t.few, t.within, length-drop from s, le, c.requires.1, c.in-5.is)
 
 pub name_at-requires : goal.name_at-requires
 name_at-requires c =
@@ -101,14 +62,41 @@ name_at-requires c =
     let from = c.args.from in
     let le = c.requires.0 in
     let h = on_rest an_expression s from c.expression.ensures in
-    let t = given.took h c.in-Read.is in
-    omega (arith, t.top, t.few, t.within, length-drop from s, le, c.requires.1, c.if-n-ne5.false)
+    let t = given.took h c.in_ok-expression.was in
+    omega (arith, t.top, t.few, t.within, length-drop from s, le, c.requires.1, c.in-5.is)
 
-pub returns : goal.returns
-returns c =
+pub returns-in-2 : goal.returns-in-2
+returns-in-2 c =
     let s = c.args.text.now in
     let from = c.args.from in
     let le = c.requires.0 in
     let h = on_rest an_expression s from c.expression.ensures in
-    let t = given.took h c.in-Read.is in
-    rw c.name_at.ensures (parameter_variable s from le (λ z. c.if-byte-eq43.false (c.byte.ensures ∙ z)) t c.if-sizes-ne0.false c.if-n-ne5.false c.if-items-ne2.false)
+    let t = given.took h c.in_ok-expression.was in
+    parameter_constant s from le (λ z. c.if-byte-eq43.false (c.byte.ensures ∙ z)) t c.if-expression-ne0.false c.in-2.is
+
+pub returns-in-5 : goal.returns-in-5
+returns-in-5 c =
+    let s = c.args.text.now in
+    let from = c.args.from in
+    let le = c.requires.0 in
+    let h = on_rest an_expression s from c.expression.ensures in
+    let t = given.took h c.in_ok-expression.was in
+    rw c.name_at.ensures (parameter_variable s from le (λ z. c.if-byte-eq43.false (c.byte.ensures ∙ z)) t c.if-expression-ne0.false c.in-5.is c.if-items-eq2.true)
+
+pub returns-in_default : goal.returns-in_default
+returns-in_default c =
+    let s = c.args.text.now in
+    let from = c.args.from in
+    let le = c.requires.0 in
+    let h = on_rest an_expression s from c.expression.ensures in
+    let t = given.took h c.in_ok-expression.was in
+    parameter_other s from le (λ z. c.if-byte-eq43.false (c.byte.ensures ∙ z)) t c.if-expression-ne0.false (λ f. omega (arith, c.in-5.is)) (λ f g. c.if-items-eq2.false g)
+
+pub returns-in_default-2 : goal.returns-in_default-2
+returns-in_default-2 c =
+    let s = c.args.text.now in
+    let from = c.args.from in
+    let le = c.requires.0 in
+    let h = on_rest an_expression s from c.expression.ensures in
+    let t = given.took h c.in_ok-expression.was in
+    parameter_other s from le (λ z. c.if-byte-eq43.false (c.byte.ensures ∙ z)) t c.if-expression-ne0.false (λ f. omega arith) (λ f g. omega arith)

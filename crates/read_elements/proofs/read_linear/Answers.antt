@@ -1,30 +1,23 @@
 -- `read_elements::read_linear` meets its contract. Assumes nothing.
-use Rattle.read_tokens.proofs.Chains.{took, refused, name_shape}
-use Rattle.read_elements.proofs.Parts.{addend_shape, linear_no_name, linear_no_addend, linear_read}
+use Rattle.read_tokens.proofs.Chains.{took, refused}
+use Rattle.read_elements.proofs.Parts.{linear_no_name, linear_no_addend, linear_read}
 use Rattle.read_elements.proofs.read_linear.Goals as goal
 
-pub returns-in_default : goal.returns-in_default
-returns-in_default c =
-    let s = c.args.s.now in
-    let a = c.args.from in
-    linear_no_name s a c.requires (refused name_shape c.read_name.ensures c.in_default.is)
+pub returns-in_err-name : goal.returns-in_err-name
+returns-in_err-name c =
+    rw c.from_residual.ensures (linear_no_name c.args.s.now c.args.times.at c.requires (refused c.read_name.ensures c.in_err-name.was))
 
 pub read_addend-requires : goal.read_addend-requires
 read_addend-requires c =
-    let a = c.args.from in
-    let t = took name_shape c.read_name.ensures c.in-Read.is in
+    let t = took c.read_name.ensures c.in_ok-name.was in
     t.upto.within
 
-pub returns-in_default-read_addend : goal.returns-in_default-read_addend
-returns-in_default-read_addend c =
-    let s = c.args.s.now in
-    let a = c.args.from in
-    let t = took name_shape c.read_name.ensures c.in-Read.is in
-    linear_no_addend s a c.requires t (refused addend_shape c.read_addend.ensures c.in_default-read_addend.is)
+pub returns-in_err-addend : goal.returns-in_err-addend
+returns-in_err-addend c =
+    let t = took c.read_name.ensures c.in_ok-name.was in
+    rw c.from_residual-in_err-addend.ensures (linear_no_addend c.args.s.now c.args.times.at c.requires t (refused c.read_addend.ensures c.in_err-addend.was))
 
 pub returns : goal.returns
 returns c =
-    let s = c.args.s.now in
-    let a = c.args.from in
-    let t = took name_shape c.read_name.ensures c.in-Read.is in
-    linear_read s a c.requires t (took addend_shape c.read_addend.ensures c.in-Read-read_addend.is) c.of_both.ensures c.of_both-2.ensures
+    let t = took c.read_name.ensures c.in_ok-name.was in
+    linear_read c.args.s.now c.args.times.at c.requires t (took c.read_addend.ensures c.in_ok-addend.was) c.join.ensures c.join-2.ensures

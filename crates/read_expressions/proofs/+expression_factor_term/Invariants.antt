@@ -13,14 +13,14 @@ decreases-factor l = 3 * length l.s.now + 1
 abbrev pub decreases-term : goal.decreases-term
 decreases-term l = 3 * length l.s.now + 2
 
-abbrev pub invariant-expression-loop-at : goal.invariant-expression-loop-at
-invariant-expression-loop-at l = Going an_expression more_terms l.s l.initial.items l.items l.n l.at l.top l.sizes
+abbrev pub invariant-expression-loop-op : goal.invariant-expression-loop-op
+invariant-expression-loop-op l = Going an_expression more_terms l.s l.initial.items l.items l.n l.read.at l.read.value l.read.sizes
 
-abbrev pub decreases-expression-loop-at : goal.decreases-expression-loop-at
-decreases-expression-loop-at l = length l.s - l.at
+abbrev pub decreases-expression-loop-op : goal.decreases-expression-loop-op
+decreases-expression-loop-op l = length l.s - l.read.at
 
-abbrev pub invariant-term-loop-at : goal.invariant-term-loop-at
-invariant-term-loop-at l = Going a_term more_factors l.s l.initial.items l.items l.n l.at l.top l.sizes
+abbrev pub invariant-term-loop-op : goal.invariant-term-loop-op
+invariant-term-loop-op l = Going a_term more_factors l.s l.initial.items l.items l.n l.read.at l.read.value l.read.sizes
 
-abbrev pub decreases-term-loop-at : goal.decreases-term-loop-at
-decreases-term-loop-at l = length l.s - l.at
+abbrev pub decreases-term-loop-op : goal.decreases-term-loop-op
+decreases-term-loop-op l = length l.s - l.read.at

@@ -1,5 +1,6 @@
 -- `read_formats::blank_from` meets its contract. Assumes nothing.
 use mathlib.Core.Path.{refl}
+use native.Mathlib.Omega.{arith}
 use Rattle.read_formats.proofs.FormatLaws.{blanks_more, blanks_no, blanks_all}
 use Rattle.read_formats.proofs.blank_from.Goals as goal
 
@@ -17,4 +18,4 @@ loop-i-preserved c =
 
 pub returns : goal.returns
 returns c =
-    blanks_all c.args.columns.now c.args.at c.loop-i.i c.loop-i.invariant c.loop-i-test.false
+    blanks_all c.args.columns.now c.args.at _ c.loop-i.invariant (omega arith)

@@ -1,5 +1,8 @@
 -- `read_formats::number` meets its contract. Assumes nothing.
 use mathlib.Core.Path.{sym, ◌∙◌}
+use mathlib.Core.Path.{◌≡◌}
+use lib.ListN.{length}
+use native.Mathlib.Omega.{arith}
 use Rattle.read_formats.proofs.NumberLaws.{counting_start, counting_more, counted_stop, counted_end}
 use Rattle.read_formats.proofs.number.Goals as goal
 
@@ -9,11 +12,7 @@ loop-i-init c =
 
 pub returns-then-not-in_run : goal.returns-then-not-in_run
 returns-then-not-in_run c =
-    counted_stop c.args.columns.now c.args.at c.args.n c.loop-i.v c.loop-i.i c.loop-i.invariant c.loop-i-test.true (sym c.in_run.ensures ∙ c.if-not-in_run.true) c.tested.result c.tested.ensures
-
-pub grown-v-requires : goal.grown-v-requires
-grown-v-requires c =
-    record { small = c.loop-i.invariant.small; run = sym c.in_run.ensures ∙ c.if-not-in_run.false }
+    rw c.tested.ensures (counted_stop c.args.columns.now c.args.at c.args.n c.loop-i.v c.loop-i.i c.loop-i.invariant c.loop-i-test.true (sym c.in_run.ensures ∙ c.if-not-in_run.true))
 
 pub loop-i-preserved : goal.loop-i-preserved
 loop-i-preserved c =
@@ -21,4 +20,5 @@ loop-i-preserved c =
 
 pub returns : goal.returns
 returns c =
-    counted_end c.args.columns.now c.args.at c.args.n c.loop-i.v c.loop-i.i c.loop-i.invariant c.loop-i-test.false c.tested-2.result c.tested-2.ensures
+    let e : c.loop-i.i ≡ length c.args.columns.now = omega (arith, c.loop-i-test.false, c.loop-i.auto.i-end c.requires.1) in
+    rw (c.tested-2.ensures, ← e) (counted_end c.args.columns.now c.args.at c.args.n c.loop-i.v c.loop-i.i c.loop-i.invariant c.loop-i-test.false)

@@ -1,6 +1,6 @@
 -- `read_formats::one` meets its contract. Assumes nothing.
 use mathlib.Core.Path.{sym, ◌∙◌}
-use Rattle.read_formats.proofs.StepLaws.{one_end, one_blank, no_comma, one_comma, no_slash, one_slash, no_close, one_close, no_field, one_field}
+use Rattle.read_formats.proofs.StepLaws.{moved, one_end, one_blank, no_comma, one_comma, no_slash, one_slash, no_close, one_close, no_field, one_field}
 use Rattle.read_formats.proofs.one.Goals as goal
 
 pub returns-then-at-columns : goal.returns-then-at-columns
@@ -9,7 +9,7 @@ returns-then-at-columns c =
 
 pub returns-then-c-eq32 : goal.returns-then-c-eq32
 returns-then-c-eq32 c =
-    one_blank c.args.columns.now c.args.words.now c.args.s c.args.place c.requires.ready c.if-at-columns.false c.if-c-eq32.true c.moved.result c.moved.ensures
+    one_blank c.args.columns.now c.args.words.now c.args.s c.args.place c.requires.ready c.if-at-columns.false c.if-c-eq32.true _ (moved c.args.s _ _)
 
 pub returns-then-not-may_comma : goal.returns-then-not-may_comma
 returns-then-not-may_comma c =
@@ -17,19 +17,15 @@ returns-then-not-may_comma c =
 
 pub returns-then-c-eq44 : goal.returns-then-c-eq44
 returns-then-c-eq44 c =
-    one_comma c.args.columns.now c.args.words.now c.args.s c.args.place c.requires.ready c.if-at-columns.false c.if-c-eq44.true (sym c.may_comma.ensures ∙ c.if-not-may_comma.false) c.moved-then-c-eq44.result c.moved-then-c-eq44.ensures
+    one_comma c.args.columns.now c.args.words.now c.args.s c.args.place c.requires.ready c.if-at-columns.false c.if-c-eq44.true (sym c.may_comma.ensures ∙ c.if-not-may_comma.false) _ (moved c.args.s _ _)
 
 pub returns-then-not-may_slash : goal.returns-then-not-may_slash
 returns-then-not-may_slash c =
     no_slash c.args.columns.now c.args.words.now c.args.s c.args.place c.requires.ready c.if-at-columns.false c.if-c-eq47.true (sym c.may_slash.ensures ∙ c.if-not-may_slash.true)
 
-pub put-top-requires : goal.put-top-requires
-put-top-requires c =
-    (c.requires.ready.sized, c.requires.ready.top)
-
 pub returns-then-c-eq47 : goal.returns-then-c-eq47
 returns-then-c-eq47 c =
-    one_slash c.args.columns.now c.args.words.now c.args.s c.args.place c.requires.ready c.if-at-columns.false c.if-c-eq47.true (sym c.may_slash.ensures ∙ c.if-not-may_slash.false) c.put-top.new.words c.put-top.result c.put-top.ensures c.moved-then-c-eq47.result c.moved-then-c-eq47.ensures
+    one_slash c.args.columns.now c.args.words.now c.args.s c.args.place c.requires.ready c.if-at-columns.false c.if-c-eq47.true (sym c.may_slash.ensures ∙ c.if-not-may_slash.false) c.put-top.new.words c.put-top.result c.put-top.ensures _ (moved c.args.s _ _)
 
 pub returns-then-not-may_close : goal.returns-then-not-may_close
 returns-then-not-may_close c =
@@ -37,15 +33,11 @@ returns-then-not-may_close c =
 
 pub returns-then-c-eq41 : goal.returns-then-c-eq41
 returns-then-c-eq41 c =
-    one_close c.args.columns.now c.args.words.now c.args.s c.args.place c.requires.ready c.if-at-columns.false c.if-c-eq41.true (sym c.may_close.ensures ∙ c.if-not-may_close.false) c.moved-then-c-eq41.result c.moved-then-c-eq41.ensures
+    one_close c.args.columns.now c.args.words.now c.args.s c.args.place c.requires.ready c.if-at-columns.false c.if-c-eq41.true (sym c.may_close.ensures ∙ c.if-not-may_close.false) _ (moved c.args.s _ _)
 
 pub returns-then-not-may_field : goal.returns-then-not-may_field
 returns-then-not-may_field c =
     no_field c.args.columns.now c.args.words.now c.args.s c.args.place c.requires.ready c.if-at-columns.false c.if-c-eq32.false c.if-c-eq44.false c.if-c-eq47.false c.if-c-eq41.false (sym c.may_field.ensures ∙ c.if-not-may_field.true)
-
-pub field-requires : goal.field-requires
-field-requires c =
-    record { ready = c.requires.ready; inside = c.if-at-columns.false }
 
 pub returns : goal.returns
 returns c =

@@ -1,5 +1,6 @@
 -- `read_formats::past` meets its contract. Assumes nothing.
 use mathlib.Core.Path.{refl}
+use native.Mathlib.Omega.{arith}
 use Rattle.read_formats.proofs.FormatLaws.{past_there, past_other, past_blank, past_end}
 use Rattle.read_formats.proofs.past.Goals as goal
 
@@ -21,4 +22,4 @@ loop-i-preserved c =
 
 pub returns : goal.returns
 returns c =
-    past_end c.args.columns.now c.args.at c.args.character c.loop-i.i c.loop-i.invariant c.loop-i-test.false
+    past_end c.args.columns.now c.args.at c.args.character _ c.loop-i.invariant (omega arith)

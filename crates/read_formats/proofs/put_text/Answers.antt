@@ -7,10 +7,6 @@ pub loop-j-init : goal.loop-j-init
 loop-j-init c =
     (puts_none c.args.words.now c.args.top c.requires.table.0 c.requires.table.1, omega arith)
 
-pub put_character-t-requires : goal.put_character-t-requires
-put_character-t-requires c =
-    (c.loop-j.invariant.0.sized, c.loop-j.invariant.0.low)
-
 pub loop-j-preserved : goal.loop-j-preserved
 loop-j-preserved c =
     (text_next c.args.columns.now c.args.at c.args.n c.loop-j.j c.requires.text c.loop-j-test.true c.args.words.now c.loop-j.words c.put_character-t.new.words c.args.top c.loop-j.t c.put_character-t.result c.loop-j.invariant.0 c.put_character-t.ensures, omega (arith, c.loop-j-test.true))

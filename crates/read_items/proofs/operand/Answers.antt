@@ -1,19 +1,25 @@
 -- `read_items::operand` meets its contract. Assumes nothing.
 use native.Mathlib.Omega.{arith}
-use Rattle.read_tokens.proofs.Chains.{took, refused, token_shape}
-use Rattle.read_items.proofs.Given.{number_room, operand_other, operand_number}
+use Rattle.read_tokens.proofs.Chains.{took, refused}
+use Rattle.read_items.proofs.Given.{number_room, place_room, operand_number, place_refused, place_read}
 use Rattle.read_items.proofs.operand.Goals as goal
 
-pub returns-in_default : goal.returns-in_default
-returns-in_default c =
-    operand_other (refused token_shape c.read_number.ensures c.in_default.is) c.place.ensures
-
-pub put_two-top-requires : goal.put_two-top-requires
-put_two-top-requires c =
-    let k = took token_shape c.read_number.ensures c.in-Read.is in
+pub put_two-requires : goal.put_two-requires
+put_two-requires c =
+    let k = took c.read_number.ensures c.in-Some.is in
     omega (arith, number_room k, k.upto.within, c.requires)
 
+pub returns-in-Some : goal.returns-in-Some
+returns-in-Some c = operand_number (took c.read_number.ensures c.in-Some.is) c.put_two.ensures
+
+pub returns-in_err-place : goal.returns-in_err-place
+returns-in_err-place c =
+    rw c.from_residual.ensures (place_refused (refused c.read_number.ensures c.in_default.is) (refused c.read_place.ensures c.in_err-place.was))
+
+pub put_target-requires : goal.put_target-requires
+put_target-requires c =
+    let k = took c.read_place.ensures c.in_ok-place.was in
+    omega (arith, place_room k, k.upto.within, c.requires)
+
 pub returns : goal.returns
-returns c =
-    let k = took token_shape c.read_number.ensures c.in-Read.is in
-    operand_number k c.put_two-top.ensures
+returns c = place_read (refused c.read_number.ensures c.in_default.is) (took c.read_place.ensures c.in_ok-place.was) c.put_target.ensures

@@ -6,4 +6,4 @@ use Rattle.read_items.proofs.put_element.Goals as goal
 pub returns : goal.returns
 unfolding target_words
 returns c =
-    put_more c.put_named-a.ensures (put_more c.put_word-b.ensures (put_more c.put_subscript-c.ensures c.put_subscript.ensures))
+    put_more c.put_named-a.ensures (put_more c.put_words-b.ensures (put_more c.put_subscript-c.ensures c.put_subscript.ensures))

@@ -1,4 +1,4 @@
--- `read_expressions::put_sign` meets its contract. Assumes nothing.
+-- `read_operators::put_sign` meets its contract. Assumes nothing.
 use native.Mathlib.Omega.{arith}
 use borrow.Author.Rules.{rules}
 use Rattle.read_operators.proofs.put_sign.Goals as goal

@@ -1,48 +1,44 @@
 -- `read_statement::read` meets its contract. Assumes nothing.
-use mathlib.Core.Path.{sym, ◌∙◌}
 use Rattle.read_statement.proofs.Which.{settled, not_this, reads_as, with_words, go_to_words, do_words, word_words, is_assignment, is_go_to, is_computed, is_if, is_do, is_word, is_last}
 use Rattle.read_statement.proofs.read.Goals as goal
 
-pub returns-then-is_form : goal.returns-then-is_form
-returns-then-is_form c =
+pub returns-in-Some : goal.returns-in-Some
+returns-in-Some c =
     let s = c.args.text.now in
-    settled (is_assignment s) c.read_assignment-assigned.ensures (sym c.is_form.ensures ∙ c.if-is_form.true)
+    settled (is_assignment s) c.read_assignment.ensures c.in-Some.is
 
-pub returns-then-is_form-2 : goal.returns-then-is_form-2
-returns-then-is_form-2 c =
+pub returns-in-Some-read_go_to : goal.returns-in-Some-read_go_to
+returns-in-Some-read_go_to c =
     let s = c.args.text.now in
-    let gt = with_words (go_to_words s) c.read_go_to-jump.ensures in
-    settled (is_go_to s) gt (sym c.is_form-2.ensures ∙ c.if-is_form-2.true)
+    settled (is_go_to s) (with_words (go_to_words s) c.read_go_to.ensures) c.in-Some-read_go_to.is
 
-pub returns-then-is_form-3 : goal.returns-then-is_form-3
-returns-then-is_form-3 c =
+pub returns-in-Some-read_computed : goal.returns-in-Some-read_computed
+returns-in-Some-read_computed c =
     let s = c.args.text.now in
-    settled (is_computed s) c.read_computed-computed.ensures (sym c.is_form-3.ensures ∙ c.if-is_form-3.true)
+    settled (is_computed s) c.read_computed.ensures c.in-Some-read_computed.is
 
-pub returns-then-is_form-4 : goal.returns-then-is_form-4
-returns-then-is_form-4 c =
+pub returns-in-Some-read_if : goal.returns-in-Some-read_if
+returns-in-Some-read_if c =
     let s = c.args.text.now in
-    settled (is_if s) c.read_if-tested.ensures (sym c.is_form-4.ensures ∙ c.if-is_form-4.true)
+    settled (is_if s) c.read_if.ensures c.in-Some-read_if.is
 
-pub returns-then-is_form-5 : goal.returns-then-is_form-5
-returns-then-is_form-5 c =
+pub returns-in-Some-read_do : goal.returns-in-Some-read_do
+returns-in-Some-read_do c =
     let s = c.args.text.now in
-    let dw = with_words (do_words s) c.read_do-looped.ensures in
-    settled (is_do s) dw (sym c.is_form-5.ensures ∙ c.if-is_form-5.true)
+    settled (is_do s) (with_words (do_words s) c.read_do.ensures) c.in-Some-read_do.is
 
-pub returns-then-is_form-6 : goal.returns-then-is_form-6
-returns-then-is_form-6 c =
+pub returns-in-Some-read_word : goal.returns-in-Some-read_word
+returns-in-Some-read_word c =
     let s = c.args.text.now in
-    let ww = with_words (word_words s) c.read_word-word.ensures in
-    settled (is_word s) ww (sym c.is_form-6.ensures ∙ c.if-is_form-6.true)
+    settled (is_word s) (with_words (word_words s) c.read_word.ensures) c.in-Some-read_word.is
 
 pub returns : goal.returns
 returns c =
     let s = c.args.text.now in
-    let a = not_this c.read_assignment-assigned.ensures.says (sym c.is_form.ensures ∙ c.if-is_form.false) in
-    let b = not_this c.read_go_to-jump.ensures (sym c.is_form-2.ensures ∙ c.if-is_form-2.false) in
-    let d = not_this c.read_computed-computed.ensures.says (sym c.is_form-3.ensures ∙ c.if-is_form-3.false) in
-    let e = not_this c.read_if-tested.ensures.says (sym c.is_form-4.ensures ∙ c.if-is_form-4.false) in
-    let f = not_this c.read_do-looped.ensures (sym c.is_form-5.ensures ∙ c.if-is_form-5.false) in
-    let g = not_this c.read_word-word.ensures (sym c.is_form-6.ensures ∙ c.if-is_form-6.false) in
+    let a = not_this c.read_assignment.ensures.says c.in_default.is in
+    let b = not_this c.read_go_to.ensures c.in_default-read_go_to.is in
+    let d = not_this c.read_computed.ensures.says c.in_default-read_computed.is in
+    let e = not_this c.read_if.ensures.says c.in_default-read_if.is in
+    let f = not_this c.read_do.ensures c.in_default-read_do.is in
+    let g = not_this c.read_word.ensures c.in_default-read_word.is in
     reads_as (is_last s a b d e f g) c.read_dimension.ensures

@@ -1,45 +1,24 @@
 -- `read_texts::put` meets its contract. Assumes nothing.
+use mathlib.Core.Path.{sym, ◌∙◌}
 use native.Mathlib.Omega.{arith}
-use Rattle.read_texts.proofs.TextLaws.{putting_start, putting_end, putting_room, putting_on}
+use Rattle.read_texts.proofs.TextLaws.{putting_end, putting_room, putting_past, putting_on}
+use Rattle.read_texts.proofs.put.Goals.{then-not-is_comment, else-not-is_comment}
 use Rattle.read_texts.proofs.put.Goals as goal
 
-pub loop-i-init : goal.loop-i-init
-loop-i-init c =
-    let s = c.args.card.now in
-    putting_start s c.requires.0 c.args.at c.args.raw.now
+pub slice_bounds-copy_from_slice-end : goal.slice_bounds-copy_from_slice-end
+slice_bounds-copy_from_slice-end c =
+    let lp = c.loop-card in
+    let h = c.loop-card-test.true in
+    let r = putting_room c.args.cards.now c.args.raw.now lp.raw lp.n lp.card-index lp.invariant h (sym c.is_comment.ensures ∙ c.if-not-is_comment.true) (c.told-cards _ h) c.requires in
+    omega (arith, r)
 
-pub bounds-raw-n : goal.bounds-raw-n
-bounds-raw-n c =
-    let s = c.args.card.now in
-    let p = c.requires.0 in
-    let at = c.args.at in
-    let o = c.args.raw.now in
-    let lp = c.loop-i in
-    omega (arith, putting_room s p at o lp.raw lp.n lp.i lp.invariant c.loop-i-test.true c.requires.1)
-
-pub overflow_add-n : goal.overflow_add-n
-overflow_add-n c =
-    let s = c.args.card.now in
-    let p = c.requires.0 in
-    let at = c.args.at in
-    let o = c.args.raw.now in
-    let lp = c.loop-i in
-    omega (arith, putting_room s p at o lp.raw lp.n lp.i lp.invariant c.loop-i-test.true c.requires.1)
-
-pub loop-i-preserved : goal.loop-i-preserved
-loop-i-preserved c =
-    let s = c.args.card.now in
-    let p = c.requires.0 in
-    let at = c.args.at in
-    let o = c.args.raw.now in
-    let lp = c.loop-i in
-    putting_on s p at o lp.raw lp.n lp.i lp.invariant c.loop-i-test.true
+pub loop-card-preserved : goal.loop-card-preserved
+loop-card-preserved c =
+    let lp = c.loop-card in
+    let h = c.loop-card-test.true in
+    elim c.if-not-is_comment.branch [ then-not-is_comment w ↦ (let e = putting_on c.args.cards.now c.args.raw.now lp.raw lp.n lp.card-index lp.invariant h (sym c.is_comment.ensures ∙ w.if-not-is_comment.true) (c.told-cards _ h) c.told-raw c.requires in rw (w.raw-is, w.n-is, w.copy_from_slice.ensures.after) e) | else-not-is_comment w ↦ (let e = putting_past c.args.cards.now c.args.raw.now lp.raw lp.n lp.card-index lp.invariant h (sym c.is_comment.ensures ∙ w.if-not-is_comment.false) in rw (w.raw-is, w.n-is) e) ]
 
 pub returns : goal.returns
 returns c =
-    let s = c.args.card.now in
-    let p = c.requires.0 in
-    let at = c.args.at in
-    let o = c.args.raw.now in
-    let lp = c.loop-i in
-    putting_end s p at o lp.raw lp.n lp.i lp.invariant c.loop-i-test.false
+    let lp = c.loop-card in
+    putting_end c.args.cards.now c.args.raw.now lp.raw lp.n lp.card-index lp.invariant (omega (arith, c.loop-card-test.false))

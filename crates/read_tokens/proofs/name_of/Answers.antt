@@ -1,8 +1,7 @@
 -- `read_tokens::name_of` meets its contract. Assumes nothing.
-use lib.ListN.{take, drop}
 use Rattle.read_tokens.proofs.Values.{name_is}
 use Rattle.read_tokens.proofs.name_of.Goals as goal
 
 pub returns : goal.returns
 returns c =
-    name_is (take c.args.k (drop c.args.from c.args.s.now)) c.name_word.ensures c.name_word-2.ensures c.name_word-3.ensures c.name_word-4.ensures
+    name_is c.args.name.now c.name_word.ensures c.name_word-2.ensures c.name_word-3.ensures c.name_word-4.ensures

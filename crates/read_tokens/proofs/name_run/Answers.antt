@@ -1,33 +1,17 @@
 -- `read_tokens::name_run` meets its contract. Assumes nothing.
 use mathlib.Core.Path.{sym, ap, ◌∙◌}
-use Prim.Native.Nat.{ℕ, ◌+◌}
-use native.Mathlib.Omega.{arith}
-use lib.ListN.{drop, length-drop}
+use borrow.Author.Rules.{rules}
+use Rattle.rules_object.specs.Check.{is_letter}
 use Rattle.rules_text.specs.Tokens.{is_letter_or_digit}
-use Rattle.rules_text.proofs.Readers.{run_le}
-use Rattle.read_tokens.proofs.Runs.{name_end, name_other, name_more}
+use Rattle.read_tokens.proofs.Runs.{name_none, name_some}
 use Rattle.read_tokens.proofs.name_run.Goals as goal
 
-pub overflow_add-result : goal.overflow_add-result
-overflow_add-result c =
-    let s = c.args.s.now in
-    let a = c.args.from in
-    omega (arith, c.letters_or_digits.ensures, run_le is_letter_or_digit (drop (a + 1) s), length-drop (a + 1) s, c.if-from-s.true)
+pub returns-then-is_ascii_uppercase : goal.returns-then-is_ascii_uppercase
+unfolding is_letter_or_digit
+returns-then-is_ascii_uppercase c =
+    c.run.ensures is_letter_or_digit (λ x b p. search rules)
+    ∙ sym (name_some c.args.s.now (sym (ap is_letter c.byte.ensures) ∙ sym c.is_ascii_uppercase.ensures.value ∙ c.if-is_ascii_uppercase.true))
 
-pub returns-then-is_letter : goal.returns-then-is_letter
-returns-then-is_letter c =
-    let s = c.args.s.now in
-    let a = c.args.from in
-    ap (λ (x : ℕ). x + 1) c.letters_or_digits.ensures ∙ sym (name_more s a c.if-from-s.true (sym c.is_letter.ensures ∙ c.if-is_letter.true))
-
-pub returns-else-is_letter : goal.returns-else-is_letter
-returns-else-is_letter c =
-    let s = c.args.s.now in
-    let a = c.args.from in
-    sym (name_other s a c.if-from-s.true (sym c.is_letter.ensures ∙ c.if-is_letter.false))
-
-pub returns-else-from-s : goal.returns-else-from-s
-returns-else-from-s c =
-    let s = c.args.s.now in
-    let a = c.args.from in
-    sym (name_end s a c.if-from-s.false)
+pub returns-else-is_ascii_uppercase : goal.returns-else-is_ascii_uppercase
+returns-else-is_ascii_uppercase c =
+    sym (name_none c.args.s.now (sym (ap is_letter c.byte.ensures) ∙ sym c.is_ascii_uppercase.ensures.value ∙ c.if-is_ascii_uppercase.false))

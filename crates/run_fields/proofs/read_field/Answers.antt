@@ -1,39 +1,30 @@
 -- `run_fields::read_field` meets its contract. Assumes nothing.
 use mathlib.Core.Path.{sym, ap, ◌∙◌}
-use Prim.Native.Nat.{ℕ}
-use Rattle.run_fields.specs.Read.{positive, negative, read_of}
-use Rattle.run_fields.proofs.ReadLaws.{read_blank, read_minus, read_plus, read_digits}
 use borrow.Author.Rules.{rules}
+use Rattle.run_fields.proofs.ReadLaws.{negated, minus_value, field_blank, field_minus, field_plus, field_digits}
 use Rattle.run_fields.proofs.read_field.Goals as goal
 
-pub returns-then-at-columns : goal.returns-then-at-columns
-returns-then-at-columns c =
-    let s = c.args.columns.now in
-    let k = c.args.ceiling in
-    let at = c.first-at.result in
-    let f = c.first-at.ensures in
-    c.plus.ensures ∙ ap read_of (read_blank k s at f c.if-at-columns.true)
+pub returns-in_err-magnitude-in-45 : goal.returns-in_err-magnitude-in-45
+returns-in_err-magnitude-in-45 c =
+    c.from_residual.ensures
+    ∙ ap negated (sym c.in_err-magnitude-in-45.was ∙ c.magnitude.ensures)
+    ∙ field_minus c.args.ceiling c.args.columns.now c.loop-i.i c.loop-i.invariant c.loop-i-test.true c.in-45.is
 
-pub returns-then-is_minus : goal.returns-then-is_minus
-returns-then-is_minus c =
-    let s = c.args.columns.now in
-    let k = c.args.ceiling in
-    let at = c.first-at.result in
-    let f = c.first-at.ensures in
-    c.minus.ensures ∙ ap (λ (m : ℕ). read_of (negative k m)) c.magnitude.ensures ∙ ap read_of (read_minus k s at f c.if-at-columns.false (sym c.is_minus.ensures ∙ c.if-is_minus.true))
+pub returns-in-45 : goal.returns-in-45
+returns-in-45 c =
+    let m = sym c.in_ok-magnitude-in-45.was ∙ c.magnitude.ensures in
+    minus_value c.args.ceiling _ c.requires.1 (sym m)
+    ∙ ap negated m
+    ∙ field_minus c.args.ceiling c.args.columns.now c.loop-i.i c.loop-i.invariant c.loop-i-test.true c.in-45.is
 
-pub returns-then-c-eq43 : goal.returns-then-c-eq43
-returns-then-c-eq43 c =
-    let s = c.args.columns.now in
-    let k = c.args.ceiling in
-    let at = c.first-at.result in
-    let f = c.first-at.ensures in
-    c.plus-then-c-eq43.ensures ∙ ap (λ (m : ℕ). read_of (positive k m)) c.magnitude-then-c-eq43.ensures ∙ ap read_of (read_plus k s at f c.if-at-columns.false (sym c.is_minus.ensures ∙ c.if-is_minus.false) c.if-c-eq43.true)
+pub returns-in-43 : goal.returns-in-43
+returns-in-43 c =
+    c.magnitude-in-43.ensures ∙ field_plus c.args.ceiling c.args.columns.now c.loop-i.i c.loop-i.invariant c.loop-i-test.true c.in-43.is
+
+pub returns-in_default : goal.returns-in_default
+returns-in_default c =
+    c.magnitude-in_default.ensures
+    ∙ field_digits c.args.ceiling c.args.columns.now c.loop-i.i c.loop-i.invariant c.loop-i-test.true (search rules) (search rules) (search rules)
 
 pub returns : goal.returns
-returns c =
-    let s = c.args.columns.now in
-    let k = c.args.ceiling in
-    let at = c.first-at.result in
-    let f = c.first-at.ensures in
-    c.plus-2.ensures ∙ ap (λ (m : ℕ). read_of (positive k m)) c.magnitude-2.ensures ∙ ap read_of (read_digits k s at f c.if-at-columns.false (sym c.is_minus.ensures ∙ c.if-is_minus.false) c.if-c-eq43.false)
+returns c = field_blank c.args.ceiling c.args.columns.now c.loop-i.i c.loop-i.invariant c.requires.0 c.loop-i-test.false

@@ -5,149 +5,79 @@ use native.Mathlib.Omega.{arith}
 use Rattle.object_contents.proofs.Entries.{code_length}
 use Rattle.run_registers.specs.Devices.{trays_of, devices_in}
 use Rattle.run_operations.proofs.Known.{held_bounds}
-use Rattle.run_machine.proofs.Going.{Going, begins, counted_now}
+use Rattle.run_machine.proofs.Going.{Going, begins}
 use Rattle.run_machine.proofs.Rounds.{round_used, round_halted, round_ready, round_goes, round_stops, index_below, steps_some}
 use Rattle.run_machine.proofs.turns.Goals as goal
 
-pub loop-h-init : goal.loop-h-init
-loop-h-init c =
+pub loop-halt-init : goal.loop-halt-init
+loop-halt-init c =
     let a = c.args in
-    let T = trays_of a.cards.now a.lines.now in
-    (begins a.guarded a.e a.o.now a.rule a.allowance a.start a.stack.now a.store.now T c.requires.held c.requires.faultless, (refl, c.requires.sees))
+    (begins a.guarded a.o.now a.allowance a.start a.stack.now a.store.now (trays_of a.cards.now a.lines.now) c.requires.held c.requires.faultless, (refl, c.requires.sees))
 
-pub overflow_sub-left : goal.overflow_sub-left
-overflow_sub-left c =
-    c.loop-h.invariant.0.most
-
-pub until_transfer-p-requires : goal.until_transfer-p-requires
-until_transfer-p-requires c =
-    let a = c.args in
-    let T = trays_of a.cards.now a.lines.now in
-    let l = c.loop-h in
-    let g = l.invariant.0 in
-    record { held = g.held; no_fault = (λ q. record { devices = devices_in T.cards l.taken l.lines l.written; rights = g.rights q }); sees = l.invariant.1.1 }
-
-pub overflow_add-steps : goal.overflow_add-steps
-overflow_add-steps c =
-    let l = c.loop-h in
-    let g = l.invariant.0 in
-    let p = c.until_transfer-p in
-    let w = p.ensures.0 in
-    omega (arith, g.most, w.most, c.ranges.allowance)
+pub until_transfer-p-requires-clause-no_fault : goal.until_transfer-p-requires-clause-no_fault
+until_transfer-p-requires-clause-no_fault c =
+    let l = c.loop-halt in
+    λ q. record { devices = devices_in c.args.cards.now l.trays.taken l.lines l.trays.written; rights = l.invariant.0.rights q }
 
 pub returns-in-Used : goal.returns-in-Used
 returns-in-Used c =
     let a = c.args in
     let T = trays_of a.cards.now a.lines.now in
-    let l = c.loop-h in
-    let g = l.invariant.0 in
+    let l = c.loop-halt in
     let p = c.until_transfer-p in
-    let st = p.new.stack in
-    let so = p.new.store in
-    let w = p.ensures.0 in
-    let same = p.auto.store in
-    round_used a.guarded a.e a.o.now a.rule a.allowance a.start a.stack.now a.store.now T l.r l.stack l.store l.taken l.lines l.written l.steps g p.result st so w same c.in-Used.is
+    round_used a.guarded a.o.now a.allowance a.start a.stack.now a.store.now T l.regs l.stack l.store l.trays.taken l.lines l.trays.written l.steps l.invariant.0 p.result p.new.stack p.new.store p.ensures.0 p.auto.store c.in-Used.is
 
 pub returns-in-Halted : goal.returns-in-Halted
 returns-in-Halted c =
     let a = c.args in
     let T = trays_of a.cards.now a.lines.now in
-    let l = c.loop-h in
-    let g = l.invariant.0 in
+    let l = c.loop-halt in
     let p = c.until_transfer-p in
-    let st = p.new.stack in
-    let so = p.new.store in
-    let w = p.ensures.0 in
-    let same = p.auto.store in
-    round_halted a.guarded a.e a.o.now a.rule a.allowance a.start a.stack.now a.store.now T l.r l.stack l.store l.taken l.lines l.written l.steps g p.result st so w same c.in-Halted.h c.in-Halted.is
+    round_halted a.guarded a.o.now a.allowance a.start a.stack.now a.store.now T l.regs l.stack l.store l.trays.taken l.lines l.trays.written l.steps l.invariant.0 p.result p.new.stack p.new.store p.ensures.0 p.auto.store c.in-Halted.halt c.in-Halted.is
 
-pub transfer-m-requires : goal.transfer-m-requires
-transfer-m-requires c =
+pub transfer-requires-clause-ready : goal.transfer-requires-clause-ready
+transfer-requires-clause-ready c =
     let a = c.args in
     let T = trays_of a.cards.now a.lines.now in
-    let l = c.loop-h in
-    let g = l.invariant.0 in
+    let l = c.loop-halt in
     let p = c.until_transfer-p in
-    let st = p.new.stack in
-    let so = p.new.store in
-    let w = p.ensures.0 in
-    let same = p.auto.store in
-    record { ready = round_ready a.guarded a.e a.o.now a.rule a.allowance a.start a.stack.now a.store.now T l.r l.stack l.store l.taken l.lines l.written l.steps g p.result st so w same c.in-Transfer.is l.kept (λ p. omega (arith, c.requires.cells_in_bounds p, l.invariant.1.0)); counted = counted_now a.guarded a.e a.o.now a.rule a.allowance a.start a.stack.now a.store.now T l.r l.stack l.store l.taken l.lines l.written l.steps g }
+    round_ready a.guarded a.o.now a.allowance a.start a.stack.now a.store.now T l.regs l.stack l.store l.trays.taken l.lines l.trays.written l.steps l.invariant.0 p.result p.new.stack p.new.store p.ensures.0 p.auto.store c.in-Transfer.is l.kept
+    (λ m. omega (arith, c.requires.cells_in_bounds m, l.invariant.1.0))
 
-pub shape_of-store-then-m-ne0 : goal.shape_of-store-then-m-ne0
-shape_of-store-then-m-ne0 c =
-    let l = c.loop-h in
-    let p = c.until_transfer-p in
-    let same = p.auto.store in
-    let m = c.transfer-m in
-    m.auto.store ∙ same ∙ l.invariant.0.long
-
-pub shape_of-kept-then-m-ne0 : goal.shape_of-kept-then-m-ne0
-shape_of-kept-then-m-ne0 c =
-    let l = c.loop-h in
-    let m = c.transfer-m in
-    m.auto.kept ∙ l.invariant.1.0
-
-pub shape_of-lines-then-m-ne0 : goal.shape_of-lines-then-m-ne0
-shape_of-lines-then-m-ne0 c =
-    let l = c.loop-h in
-    let m = c.transfer-m in
-    m.auto.lines ∙ l.invariant.0.counted.long
-
-pub returns-then-m-ne0 : goal.returns-then-m-ne0
-returns-then-m-ne0 c =
+pub returns-in-Err : goal.returns-in-Err
+returns-in-Err c =
     let a = c.args in
     let T = trays_of a.cards.now a.lines.now in
-    let l = c.loop-h in
-    let g = l.invariant.0 in
+    let l = c.loop-halt in
     let p = c.until_transfer-p in
-    let st = p.new.stack in
-    let so = p.new.store in
-    let w = p.ensures.0 in
-    let same = p.auto.store in
-    let m = c.transfer-m in
-    let so' = m.new.store in
-    let lines' = m.new.lines in
-    round_stops a.guarded a.e a.o.now a.rule a.allowance a.start a.stack.now a.store.now T l.r l.stack l.store l.taken l.lines l.written l.steps g p.result st so w same c.in-Transfer.is m.result so' lines' m.ensures c.if-m-ne0.true
+    round_stops a.guarded a.o.now a.allowance a.start a.stack.now a.store.now T l.regs l.stack l.store l.trays.taken l.lines l.trays.written l.steps l.invariant.0 p.result p.new.stack p.new.store p.ensures.0 p.auto.store c.in-Transfer.is c.transfer.new.store c.transfer.new.lines c.in-Err.halt c.in-Err.ensures
 
-pub onward-r-requires : goal.onward-r-requires
-onward-r-requires c =
+pub onward-regs-requires : goal.onward-regs-requires
+onward-regs-requires c =
+    let a = c.args in
+    let o = a.o.now in
+    let T = trays_of a.cards.now a.lines.now in
+    let l = c.loop-halt in
+    let p = c.until_transfer-p in
+    omega (arith, index_below a.guarded o a.allowance a.start a.stack.now a.store.now T l.regs l.stack l.store l.trays.taken l.lines l.trays.written l.steps l.invariant.0 p.result p.new.stack p.new.store p.ensures.0 p.auto.store c.in-Transfer.is, code_length o.layout o.bytes.now, (held_bounds o l.regs l.stack l.store l.invariant.0.held).code)
+
+pub loop-halt-smaller : goal.loop-halt-smaller
+loop-halt-smaller c =
     let a = c.args in
     let T = trays_of a.cards.now a.lines.now in
-    let l = c.loop-h in
-    let g = l.invariant.0 in
+    let l = c.loop-halt in
     let p = c.until_transfer-p in
-    let st = p.new.stack in
-    let so = p.new.store in
-    let w = p.ensures.0 in
-    let same = p.auto.store in
-    omega (arith, index_below a.guarded a.e a.o.now a.rule a.allowance a.start a.stack.now a.store.now T l.r l.stack l.store l.taken l.lines l.written l.steps g p.result st so w same c.in-Transfer.is, code_length a.e a.o.now, (held_bounds a.e a.o.now a.rule l.r l.stack l.store g.held).code)
+    omega (arith, l.invariant.0.most, p.ensures.0.most, steps_some a.guarded a.o.now a.allowance a.start a.stack.now a.store.now T l.regs l.stack l.store l.trays.taken l.lines l.trays.written l.steps l.invariant.0 p.result p.new.stack p.new.store p.ensures.0 p.auto.store c.in-Transfer.is)
 
-pub loop-h-smaller : goal.loop-h-smaller
-loop-h-smaller c =
+pub loop-halt-preserved : goal.loop-halt-preserved
+loop-halt-preserved c =
     let a = c.args in
     let T = trays_of a.cards.now a.lines.now in
-    let l = c.loop-h in
-    let g = l.invariant.0 in
+    let l = c.loop-halt in
     let p = c.until_transfer-p in
-    let st = p.new.stack in
-    let so = p.new.store in
-    let w = p.ensures.0 in
-    let same = p.auto.store in
-    omega (arith, g.most, w.most, steps_some a.guarded a.e a.o.now a.rule a.allowance a.start a.stack.now a.store.now T l.r l.stack l.store l.taken l.lines l.written l.steps g p.result st so w same c.in-Transfer.is)
-
-pub loop-h-preserved : goal.loop-h-preserved
-loop-h-preserved c =
-    let a = c.args in
-    let T = trays_of a.cards.now a.lines.now in
-    let l = c.loop-h in
-    let g = l.invariant.0 in
-    let p = c.until_transfer-p in
-    let st = p.new.stack in
-    let so = p.new.store in
-    let w = p.ensures.0 in
-    let same = p.auto.store in
-    let m = c.transfer-m in
-    let so' = m.new.store in
-    let lines' = m.new.lines in
-    (subst (λ q. Going a.guarded a.e a.o.now a.rule a.allowance a.start a.stack.now a.store.now T q st so' m.result.taken lines' m.result.written (l.steps + p.result.steps)) (sym c.onward-r.ensures) (round_goes a.guarded a.e a.o.now a.rule a.allowance a.start a.stack.now a.store.now T l.r l.stack l.store l.taken l.lines l.written l.steps g p.result st so w same c.in-Transfer.is m.result so' lines' m.ensures c.if-m-ne0.false), (m.auto.kept ∙ l.invariant.1.0, p.ensures.1))
+    let m = c.transfer in
+    let now = c.in-Ok.after in (
+      subst (λ q. Going a.guarded a.o.now a.allowance a.start a.stack.now a.store.now T q p.new.stack m.new.store now.taken m.new.lines now.written (l.steps + p.result.steps)) (sym c.onward-regs.ensures)
+          (round_goes a.guarded a.o.now a.allowance a.start a.stack.now a.store.now T l.regs l.stack l.store l.trays.taken l.lines l.trays.written l.steps l.invariant.0 p.result p.new.stack p.new.store p.ensures.0 p.auto.store c.in-Transfer.is m.new.store m.new.lines now c.in-Ok.ensures),
+      (m.auto.kept ∙ l.invariant.1.0, p.ensures.1),
+    )

@@ -1,9 +1,11 @@
 -- `run_reads::read_card` meets its contract. Assumes nothing.
 use mathlib.Core.Path.{◌∙◌, subst}
 use native.Mathlib.Omega.{arith}
-use Rattle.object_contents.specs.Layout.{object_at}
+use Rattle.std.specs.Prelude.{Ok}
+use Rattle.std.proofs.lemmas.Result.{err_from_is_err_and}
+use Rattle.object_contents.specs.Book.{book_of}
 use Rattle.object_contents.proofs.Entries.{format_length}
-use Rattle.run_formats.specs.Scan.{field_of, Says}
+use Rattle.run_formats.specs.Scan.{field_of}
 use Rattle.run_lists.specs.Cursors.{Left}
 use Rattle.run_reads.specs.Takes.{Does}
 use Rattle.run_reads.proofs.CardLaws.{begins, record_ends_lem, statement_ends_lem, stops, goes_on, scans_again, all_done}
@@ -11,182 +13,90 @@ use Rattle.run_reads.proofs.read_card.Goals as goal
 
 pub loop-again-init : goal.loop-again-init
 loop-again-init c =
-    let s = c.args.o.now in
-    let e = c.args.e in
-    let k = c.args.k in
-    let so = c.args.store.now in
-    let card = c.args.card.now in
-    let word = c.args.word in
-    let q = c.args.c in
-    begins e s k word q so card c.requires.stored c.requires.scanning c.requires.reached
-
-pub word_at-requires : goal.word_at-requires
-word_at-requires c =
-    let lp = c.loop-again in
-    let going = lp.invariant in
-    record { placed = c.requires.stored.placed; scanning = going.along.scanning }
+    begins c.args.o.now c.args.start.word c.args.start.list c.args.store.now c.args.card.now c.requires.stored c.requires.scanning c.requires.reached
 
 pub shape_of-store-then-any_left : goal.shape_of-store-then-any_left
 shape_of-store-then-any_left c =
-    let lp = c.loop-again in
-    let going = lp.invariant in
-    going.kept.long
-
-pub returns-then-any_left : goal.returns-then-any_left
-returns-then-any_left c =
-    let s = c.args.o.now in
-    let e = c.args.e in
-    let k = c.args.k in
-    let so = c.args.store.now in
-    let card = c.args.card.now in
-    let word = c.args.word in
-    let q = c.args.c in
-    let o = object_at e s in
-    let lp = c.loop-again in
-    let going = lp.invariant in
-    let at = subst (Says o.formats lp.j) c.in-End.is c.word_at.ensures in
-    let again = c.in-End.again in
-    let left = c.any_left.ensures o going.reached in
-    scans_again e s k word q so card lp.store lp.j lp.left lp.column going again at (subst (Left o lp.left) c.if-any_left.true left)
+    c.loop-again.invariant.kept.long
 
 pub shape_of-store-in-End : goal.shape_of-store-in-End
 shape_of-store-in-End c =
+    c.loop-again.invariant.kept.long
+
+pub returns-then-any_left : goal.returns-then-any_left
+returns-then-any_left c =
+    let o = c.args.o.now in
+    let s = c.args.start in
     let lp = c.loop-again in
-    let going = lp.invariant in
-    going.kept.long
+    scans_again o s.word s.list c.args.store.now c.args.card.now lp.store lp.at.word lp.at.list lp.column lp.invariant c.in-End.again c.in-End.ensures (subst (Left (book_of o) lp.at.list) c.if-any_left.true (c.any_left.ensures (book_of o) lp.invariant.reached))
 
 pub returns-in-End : goal.returns-in-End
 returns-in-End c =
-    let s = c.args.o.now in
-    let e = c.args.e in
-    let k = c.args.k in
-    let so = c.args.store.now in
-    let card = c.args.card.now in
-    let word = c.args.word in
-    let q = c.args.c in
-    let o = object_at e s in
+    let o = c.args.o.now in
+    let s = c.args.start in
     let lp = c.loop-again in
-    let going = lp.invariant in
-    let at = subst (Says o.formats lp.j) c.in-End.is c.word_at.ensures in
-    let again = c.in-End.again in
-    let left = c.any_left.ensures o going.reached in
-    all_done e s k word q so card lp.store lp.j lp.left lp.column going again at (subst (Left o lp.left) c.if-any_left.false left)
+    all_done o s.word s.list c.args.store.now c.args.card.now lp.store lp.at.word lp.at.list lp.column lp.invariant c.in-End.again c.in-End.ensures (subst (Left (book_of o) lp.at.list) c.if-any_left.false (c.any_left.ensures (book_of o) lp.invariant.reached))
 
 pub read_field-requires : goal.read_field-requires
 read_field-requires c =
-    let lp = c.loop-again in
-    let going = lp.invariant in
-    record { stored = going.kept.stored; ruled = c.requires.ruled; reached = going.reached; card_len = (c.requires.card_len, going.within) }
+    let going = c.loop-again.invariant in
+    record { stored = going.kept.stored; ten = c.requires.ten; reached = going.reached; card_len = (c.requires.card_len, going.within) }
 
-pub overflow_add-result : goal.overflow_add-result
-overflow_add-result c =
-    let s = c.args.o.now in
-    let e = c.args.e in
-    let lp = c.loop-again in
-    let going = lp.invariant in
-    let t = going.along.scanning in
-    omega (arith, t.to, t.inside, format_length e s, c.well_formed)
+pub shape_of-store-in_err-read_field-in-Of : goal.shape_of-store-in_err-read_field-in-Of
+shape_of-store-in_err-read_field-in-Of c =
+    c.read_field.auto.store ∙ c.loop-again.invariant.kept.long
 
 pub shape_of-store-in-RecordEnds : goal.shape_of-store-in-RecordEnds
 shape_of-store-in-RecordEnds c =
-    let lp = c.loop-again in
-    let going = lp.invariant in
-    c.read_field.auto.store ∙ going.kept.long
-
-pub returns-in-RecordEnds : goal.returns-in-RecordEnds
-returns-in-RecordEnds c =
-    let s = c.args.o.now in
-    let e = c.args.e in
-    let k = c.args.k in
-    let so = c.args.store.now in
-    let card = c.args.card.now in
-    let word = c.args.word in
-    let q = c.args.c in
-    let o = object_at e s in
-    let lp = c.loop-again in
-    let going = lp.invariant in
-    let f = c.in-Of.f in
-    let at = subst (Says o.formats lp.j) c.in-Of.is c.word_at.ensures in
-    let after = c.read_field.new.store in
-    record_ends_lem e s k word q so card lp.store lp.j lp.left lp.column going (field_of f) at after (subst (Does e s k lp.left lp.store card lp.column (field_of f) after) c.in-RecordEnds.is c.read_field.ensures)
+    c.read_field.auto.store ∙ c.loop-again.invariant.kept.long
 
 pub shape_of-store-in-StatementEnds : goal.shape_of-store-in-StatementEnds
 shape_of-store-in-StatementEnds c =
+    c.read_field.auto.store ∙ c.loop-again.invariant.kept.long
+
+pub returns-in_err-read_field-in-Of : goal.returns-in_err-read_field-in-Of
+returns-in_err-read_field-in-Of c =
+    let o = c.args.o.now in
+    let s = c.args.start in
     let lp = c.loop-again in
-    let going = lp.invariant in
-    c.read_field.auto.store ∙ going.kept.long
+    let p = err_from_is_err_and c.from_residual.result c.from_residual.ensures.1 in
+    rw (p.1, p.2) (stops o s.word s.list c.args.store.now c.args.card.now lp.store lp.at.word lp.at.list lp.column lp.invariant (field_of c.in-Of.f) c.in-Of.ensures c.read_field.new.store _ c.in_err-read_field-in-Of.ensures)
+
+pub overflow_add-result : goal.overflow_add-result
+overflow_add-result c =
+    let o = c.args.o.now in
+    let t = c.loop-again.invariant.along.scanning in
+    omega (arith, t.to, t.inside, format_length o.layout o.bytes.now, o.placed, c.well_formed)
+
+pub overflow_add-at : goal.overflow_add-at
+overflow_add-at c =
+    let o = c.args.o.now in
+    let t = c.loop-again.invariant.along.scanning in
+    omega (arith, t.to, t.inside, format_length o.layout o.bytes.now, o.placed, c.well_formed)
+
+pub returns-in-RecordEnds : goal.returns-in-RecordEnds
+returns-in-RecordEnds c =
+    let o = c.args.o.now in
+    let s = c.args.start in
+    let lp = c.loop-again in
+    record_ends_lem o s.word s.list c.args.store.now c.args.card.now lp.store lp.at.word lp.at.list lp.column lp.invariant (field_of c.in-Of.f) c.in-Of.ensures c.read_field.new.store (subst (λ r. Does o lp.at.list lp.store c.args.card.now lp.column (field_of c.in-Of.f) c.read_field.new.store (Ok r)) c.in-RecordEnds.is c.in_ok-read_field-in-Of.ensures)
 
 pub returns-in-StatementEnds : goal.returns-in-StatementEnds
 returns-in-StatementEnds c =
-    let s = c.args.o.now in
-    let e = c.args.e in
-    let k = c.args.k in
-    let so = c.args.store.now in
-    let card = c.args.card.now in
-    let word = c.args.word in
-    let q = c.args.c in
-    let o = object_at e s in
+    let o = c.args.o.now in
+    let s = c.args.start in
     let lp = c.loop-again in
-    let going = lp.invariant in
-    let f = c.in-Of.f in
-    let at = subst (Says o.formats lp.j) c.in-Of.is c.word_at.ensures in
-    let after = c.read_field.new.store in
-    statement_ends_lem e s k word q so card lp.store lp.j lp.left lp.column going (field_of f) at after (subst (Does e s k lp.left lp.store card lp.column (field_of f) after) c.in-StatementEnds.is c.read_field.ensures)
-
-pub shape_of-store-in-Stops : goal.shape_of-store-in-Stops
-shape_of-store-in-Stops c =
-    let lp = c.loop-again in
-    let going = lp.invariant in
-    c.read_field.auto.store ∙ going.kept.long
-
-pub returns-in-Stops : goal.returns-in-Stops
-returns-in-Stops c =
-    let s = c.args.o.now in
-    let e = c.args.e in
-    let k = c.args.k in
-    let so = c.args.store.now in
-    let card = c.args.card.now in
-    let word = c.args.word in
-    let q = c.args.c in
-    let o = object_at e s in
-    let lp = c.loop-again in
-    let going = lp.invariant in
-    let f = c.in-Of.f in
-    let at = subst (Says o.formats lp.j) c.in-Of.is c.word_at.ensures in
-    let after = c.read_field.new.store in
-    stops e s k word q so card lp.store lp.j lp.left lp.column going (field_of f) at after c.in-Stops.h (subst (Does e s k lp.left lp.store card lp.column (field_of f) after) c.in-Stops.is c.read_field.ensures)
-
-pub overflow_add-j : goal.overflow_add-j
-overflow_add-j c =
-    let s = c.args.o.now in
-    let e = c.args.e in
-    let lp = c.loop-again in
-    let going = lp.invariant in
-    let t = going.along.scanning in
-    omega (arith, t.to, t.inside, format_length e s, c.well_formed)
+    statement_ends_lem o s.word s.list c.args.store.now c.args.card.now lp.store lp.at.word lp.at.list lp.column lp.invariant (field_of c.in-Of.f) c.in-Of.ensures c.read_field.new.store (subst (λ r. Does o lp.at.list lp.store c.args.card.now lp.column (field_of c.in-Of.f) c.read_field.new.store (Ok r)) c.in-StatementEnds.is c.in_ok-read_field-in-Of.ensures)
 
 pub loop-again-smaller : goal.loop-again-smaller
 loop-again-smaller c =
-    let s = c.args.o.now in
-    let e = c.args.e in
-    let lp = c.loop-again in
-    let going = lp.invariant in
-    let t = going.along.scanning in
-    omega (arith, t.to, t.inside, format_length e s)
+    let o = c.args.o.now in
+    let t = c.loop-again.invariant.along.scanning in
+    omega (arith, t.to, t.inside, format_length o.layout o.bytes.now)
 
 pub loop-again-preserved : goal.loop-again-preserved
 loop-again-preserved c =
-    let s = c.args.o.now in
-    let e = c.args.e in
-    let k = c.args.k in
-    let so = c.args.store.now in
-    let card = c.args.card.now in
-    let word = c.args.word in
-    let q = c.args.c in
-    let o = object_at e s in
+    let o = c.args.o.now in
+    let s = c.args.start in
     let lp = c.loop-again in
-    let going = lp.invariant in
-    let f = c.in-Of.f in
-    let at = subst (Says o.formats lp.j) c.in-Of.is c.word_at.ensures in
-    let after = c.read_field.new.store in
-    goes_on e s k word q so card lp.store lp.j lp.left lp.column going (field_of f) at after c.in-On.next c.in-On.rest (subst (Does e s k lp.left lp.store card lp.column (field_of f) after) c.in-On.is c.read_field.ensures)
+    goes_on o s.word s.list c.args.store.now c.args.card.now lp.store lp.at.word lp.at.list lp.column lp.invariant (field_of c.in-Of.f) c.in-Of.ensures c.read_field.new.store c.in-On.next c.in-On.list (subst (λ r. Does o lp.at.list lp.store c.args.card.now lp.column (field_of c.in-Of.f) c.read_field.new.store (Ok r)) c.in-On.is c.in_ok-read_field-in-Of.ensures)

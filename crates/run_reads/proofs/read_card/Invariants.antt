@@ -4,7 +4,7 @@ use Rattle.run_reads.proofs.CardLaws.{Going}
 use Rattle.run_reads.proofs.read_card.Given as goal
 
 abbrev pub invariant-loop-again : goal.invariant-loop-again
-invariant-loop-again l = Going l.e l.o l.k l.word l.initial.left l.initial.store l.card l.store l.j l.left l.column
+invariant-loop-again l = Going l.o l.fn.start.word l.fn.start.list l.initial.store l.card l.store l.at.word l.at.list l.column
 
 abbrev pub decreases-loop-again : goal.decreases-loop-again
-decreases-loop-again l = l.e.format_count - l.j
+decreases-loop-again l = l.o.layout.format_count - l.at.word

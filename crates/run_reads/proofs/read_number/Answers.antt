@@ -1,147 +1,106 @@
 -- `run_reads::read_number` meets its contract. Assumes nothing.
-use mathlib.Core.Path.{refl, sym, ◌∙◌, subst}
-use Prim.Native.Nat.{◌+◌, ◌≤◌}
-use Prim.Native.Nat.{◌^◌}
+use mathlib.Core.Path.{◌≡◌, refl, sym, ap, ◌∙◌, subst}
+use Prim.Native.Nat.{ℕ, ◌+◌, ◌-◌, ◌^◌, ◌≤◌}
 use native.Mathlib.Omega.{arith}
-use lib.ListN.{set}
+use lib.ListN.{set, take, drop}
 use lib.IntN.{ℤ}
+use Rattle.std.specs.Prelude.{Ok}
+use Rattle.std.proofs.lemmas.Result.{err_from_is_err_and}
 use Rattle.number.proofs.Whole.{back}
 use Rattle.rules_formats.specs.Format.{I}
+use Rattle.rules_formats.specs.Fields.{field_read}
+use Rattle.object_contents.specs.Book.{book_of}
 use Rattle.object_contents.specs.Layout.{object_at}
+use Rattle.run_fields.specs.Read.{read_of}
 use Rattle.run_lists.specs.Cursors.{Comes}
 use Rattle.run_lists.specs.declared.Step.TheVariants.{On}
 use Rattle.run_reads.specs.Takes.{Does}
 use Rattle.run_reads.proofs.FieldLaws.{read_none, read_some, number_none, number_astray, number_passes, number_bad, number_small, number_read}
 use Rattle.run_reads.proofs.read_number.Goals as goal
 
-pub returns-in-Nothing : goal.returns-in-Nothing
-returns-in-Nothing c =
-    let s = c.args.o.now in
-    let e = c.args.e in
-    let k = c.args.k in
+pub returns-in_err-cell : goal.returns-in_err-cell
+returns-in_err-cell c =
+    let o = c.args.o.now in
     let so = c.args.store.now in
     let q = c.args.c in
     let card = c.args.card.now in
     let column = c.args.column in
-    let w = c.args.width in
     let h = c.requires.stored in
-    let ru = c.requires.ruled in
     let wide = c.requires.card_len.0 in
     let low = c.requires.card_len.1 in
-    let o = object_at e s in
-    (number_none e s k ru q so h card column wide low w (subst (Comes o so q) c.in-Nothing.is c.next_number.ensures), refl)
+    let p = err_from_is_err_and c.from_residual.result c.from_residual.ensures.1 in
+    rw (p.1, p.2, c.in_err-cell.ensures.1) (number_astray o q so h card column wide low c.args.width c.in_err-cell.ensures.0, refl)
 
-pub returns-in-Wrong : goal.returns-in-Wrong
-returns-in-Wrong c =
-    let s = c.args.o.now in
-    let e = c.args.e in
-    let k = c.args.k in
+pub returns-in_default : goal.returns-in_default
+returns-in_default c =
+    let o = c.args.o.now in
     let so = c.args.store.now in
     let q = c.args.c in
     let card = c.args.card.now in
     let column = c.args.column in
-    let w = c.args.width in
     let h = c.requires.stored in
-    let ru = c.requires.ruled in
     let wide = c.requires.card_len.0 in
     let low = c.requires.card_len.1 in
-    let o = object_at e s in
-    (number_astray e s k ru q so h card column wide low w (subst (Comes o so q) c.in-Wrong.is c.next_number.ensures), refl)
+    (number_none o q so h card column wide low c.args.width (subst (λ r. Comes (book_of o) so q (Ok r)) c.in_default.is c.in_ok-cell.ensures), refl)
 
 pub returns-then-column-width : goal.returns-then-column-width
 returns-then-column-width c =
-    let s = c.args.o.now in
-    let e = c.args.e in
-    let k = c.args.k in
+    let o = c.args.o.now in
     let so = c.args.store.now in
     let q = c.args.c in
     let card = c.args.card.now in
     let column = c.args.column in
-    let w = c.args.width in
     let h = c.requires.stored in
-    let ru = c.requires.ruled in
     let wide = c.requires.card_len.0 in
     let low = c.requires.card_len.1 in
-    let o = object_at e s in
-    let a = c.in-Cell.a in
-    let d = c.in-Cell.d in
-    let found = subst (Comes o so q) c.in-Cell.is c.next_number.ensures in
-    (number_passes e s k ru q so h card column wide low w a d found c.if-column-width.true, refl)
+    let found = subst (λ r. Comes (book_of c.args.o.now) c.args.store.now c.args.c (Ok r)) c.in-Some.is c.in_ok-cell.ensures in
+    (number_passes o q so h card column wide low c.args.width c.in-Some.cell c.in-Some.rest found c.if-column-width.true, refl)
 
-pub read_at-requires : goal.read_at-requires
-read_at-requires c =
-    let h = c.requires.stored in
-    let ru = c.requires.ruled in
-    let wide = c.requires.card_len.0 in
-    let low = c.requires.card_len.1 in
-    let n = h.narrow in
-    let most = subst (λ r. r.ceiling ≤ 2 ^ 31) (sym ru.is) n.most in
-    (ru.ten, omega (arith, most), omega (arith, wide, low, c.if-column-width.false))
+pub read_field-requires : goal.read_field-requires
+read_field-requires c =
+    let most = subst (λ r. r.ceiling ≤ 2 ^ 31) (sym c.args.o.now.ruled) c.requires.stored.narrow.most in
+    (c.requires.ten, omega (arith, most))
 
-pub returns-in-Nothing-read_at : goal.returns-in-Nothing-read_at
-returns-in-Nothing-read_at c =
-    let s = c.args.o.now in
-    let e = c.args.e in
-    let k = c.args.k in
+pub returns-in_default-read_field : goal.returns-in_default-read_field
+returns-in_default-read_field c =
+    let o = c.args.o.now in
     let so = c.args.store.now in
     let q = c.args.c in
     let card = c.args.card.now in
     let column = c.args.column in
-    let w = c.args.width in
     let h = c.requires.stored in
-    let ru = c.requires.ruled in
     let wide = c.requires.card_len.0 in
     let low = c.requires.card_len.1 in
-    let o = object_at e s in
-    let a = c.in-Cell.a in
-    let d = c.in-Cell.d in
-    let found = subst (Comes o so q) c.in-Cell.is c.next_number.ensures in
-    (number_bad e s k ru q so h card column wide low w a d found c.if-column-width.false (read_none _ (sym c.in-Nothing-read_at.is ∙ c.read_at.ensures)), refl)
+    let found = subst (λ r. Comes (book_of c.args.o.now) c.args.store.now c.args.c (Ok r)) c.in-Some.is c.in_ok-cell.ensures in
+    let all : column + c.args.width - column ≡ c.args.width = omega arith in
+    let read = c.read_field.ensures ∙ ap (λ (n : ℕ). read_of (field_read o.rule.ceiling (take n (drop column card)))) all in
+    (number_bad o q so h card column wide low c.args.width c.in-Some.cell c.in-Some.rest found c.if-column-width.false (read_none _ (sym c.in_default-read_field.is ∙ read)), refl)
 
-pub offset_bounds-store-a : goal.offset_bounds-store-a
+pub offset_bounds-store-cell : goal.offset_bounds-store-cell
 unfolding object_at
-offset_bounds-store-a c =
-    let s = c.args.o.now in
-    let e = c.args.e in
-    let so = c.args.store.now in
-    let q = c.args.c in
-    let h = c.requires.stored in
-    let o = object_at e s in
-    let a = c.in-Cell.a in
-    let found = subst (Comes o so q) c.in-Cell.is c.next_number.ensures in
-    omega (arith, found.inside, h.few)
+offset_bounds-store-cell c =
+    let found = subst (λ r. Comes (book_of c.args.o.now) c.args.store.now c.args.c (Ok r)) c.in-Some.is c.in_ok-cell.ensures in
+    omega (arith, found.inside, c.requires.stored.few)
 
-pub bounds-store-a : goal.bounds-store-a
+pub bounds-store-cell : goal.bounds-store-cell
 unfolding object_at
-bounds-store-a c =
-    let s = c.args.o.now in
-    let e = c.args.e in
-    let so = c.args.store.now in
-    let q = c.args.c in
-    let h = c.requires.stored in
-    let o = object_at e s in
-    let a = c.in-Cell.a in
-    let found = subst (Comes o so q) c.in-Cell.is c.next_number.ensures in
-    omega (arith, found.inside, h.long)
+bounds-store-cell c =
+    let found = subst (λ r. Comes (book_of c.args.o.now) c.args.store.now c.args.c (Ok r)) c.in-Some.is c.in_ok-cell.ensures in
+    omega (arith, found.inside, c.requires.stored.long)
 
-pub returns-in-Number : goal.returns-in-Number
-returns-in-Number c =
-    let s = c.args.o.now in
-    let e = c.args.e in
-    let k = c.args.k in
+pub returns : goal.returns
+returns c =
+    let o = c.args.o.now in
     let so = c.args.store.now in
     let q = c.args.c in
     let card = c.args.card.now in
     let column = c.args.column in
-    let w = c.args.width in
     let h = c.requires.stored in
-    let ru = c.requires.ruled in
     let wide = c.requires.card_len.0 in
     let low = c.requires.card_len.1 in
-    let o = object_at e s in
-    let a = c.in-Cell.a in
-    let d = c.in-Cell.d in
-    let found = subst (Comes o so q) c.in-Cell.is c.next_number.ensures in
-    let v = c.in-Number.v in
-    let is = read_some _ v (sym c.in-Number.is ∙ c.read_at.ensures) in
-    subst (λ (z : ℤ). Does e s k q so card column (I w) (set so a z) (On (column + w) d)) (sym (back v (number_small e s k ru q so h card column wide low w a d found c.if-column-width.false v is))) (number_read e s k ru q so h card column wide low w a d found c.if-column-width.false v is)
+    let found = subst (λ r. Comes (book_of c.args.o.now) c.args.store.now c.args.c (Ok r)) c.in-Some.is c.in_ok-cell.ensures in
+    let all : column + c.args.width - column ≡ c.args.width = omega arith in
+    let read = c.read_field.ensures ∙ ap (λ (n : ℕ). read_of (field_read o.rule.ceiling (take n (drop column card)))) all in
+    let v = c.in-Some-read_field.v in
+    let is = read_some _ v (sym c.in-Some-read_field.is ∙ read) in
+    subst (λ (z : ℤ). Does o q so card column (I c.args.width) (set so c.in-Some.cell z) (Ok (On (column + c.args.width) c.in-Some.rest))) (sym (back v (number_small o q so h card column wide low c.args.width c.in-Some.cell c.in-Some.rest found c.if-column-width.false v is))) (number_read o q so h card column wide low c.args.width c.in-Some.cell c.in-Some.rest found c.if-column-width.false v is)

@@ -1,20 +1,28 @@
 -- `take_arrays::right_array` meets its contract. Assumes nothing.
-use native.Mathlib.Omega.{arith}
+use mathlib.Core.Path.{sym, subst, ◌∙◌}
+use mathlib.Core.Bool.{Bool, false≢true}
+use Rattle.take_arrays.specs.One.{RightArray}
 use Rattle.take_arrays.proofs.Judging.{one_empty, one_seen, one_last}
+use Rattle.take_arrays.proofs.right_array.Goals.{then-some_cells, else-some_cells}
 use Rattle.take_arrays.proofs.right_array.Goals as goal
 
-pub returns-then-not-some_cells : goal.returns-then-not-some_cells
-returns-then-not-some_cells c =
-    one_empty c.args.arrays.now c.args.i c.args.table.now c.args.n c.some_cells.result c.some_cells.ensures (c.if-not-some_cells.true)
+pub returns-then-is_new : goal.returns-then-is_new
+returns-then-is_new c =
+    let a = c.args in
+    elim c.if-some_cells.branch [
+      | then-some_cells w ↦
+          one_last a.arrays.now a.i a.names.now.words.now a.names.now.count c.some_cells.result w.is_new.result c.ends_in_f.result c.name_at-name.ensures c.some_cells.ensures
+          w.if-some_cells.true w.is_new.ensures (sym w.value-is ∙ c.if-is_new.true) c.ends_in_f.ensures
+      | else-some_cells w ↦ absurd (false≢true (sym w.if-some_cells.false ∙ sym w.value-is ∙ c.if-is_new.true))
+    ]
 
-pub is_new-requires : goal.is_new-requires
-is_new-requires c =
-    (omega (arith, c.requires.0), c.requires.1)
-
-pub returns-then-not-is_new : goal.returns-then-not-is_new
-returns-then-not-is_new c =
-    one_seen c.args.arrays.now c.args.i c.args.table.now c.args.n c.is_new.result c.name_at-name.ensures c.is_new.ensures (c.if-not-is_new.true)
-
-pub returns : goal.returns
-returns c =
-    one_last c.args.arrays.now c.args.i c.args.table.now c.args.n c.some_cells.result c.is_new.result c.ends_in_f.result c.name_at-name.ensures c.some_cells.ensures (c.if-not-some_cells.false) c.is_new.ensures (c.if-not-is_new.false) c.ends_in_f.ensures
+pub returns-else-is_new : goal.returns-else-is_new
+returns-else-is_new c =
+    let a = c.args in
+    subst (λ (b : Bool). RightArray a.arrays.now a.i a.names.now.words.now a.names.now.count b) (sym c.if-is_new.false)
+    (elim c.if-some_cells.branch [
+      | then-some_cells w ↦
+          one_seen a.arrays.now a.i a.names.now.words.now a.names.now.count w.is_new.result c.name_at-name.ensures w.is_new.ensures (sym w.value-is ∙ c.if-is_new.false)
+      | else-some_cells w ↦
+          one_empty a.arrays.now a.i a.names.now.words.now a.names.now.count c.some_cells.result c.some_cells.ensures w.if-some_cells.false
+    ])

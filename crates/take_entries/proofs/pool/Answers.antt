@@ -1,25 +1,29 @@
 -- `take_entries::pool` meets its contract. Assumes nothing.
+use mathlib.Core.Path.{refl}
+use Prim.Native.Nat.{◌+◌}
 use native.Mathlib.Omega.{arith}
-use Rattle.take_entries.proofs.Pools.{was_there, one_too_many, put_new}
+use lib.ListN.{take}
+use lib.Seq.{length-take-le}
+use Rattle.take_entries.proofs.Pools.{found, missing, was_there, one_too_many, put_new}
 use Rattle.take_entries.proofs.pool.Goals as goal
 
-pub returns-then-i-n : goal.returns-then-i-n
-returns-then-i-n c =
-    let a = c.args.constants.now in
-    let n = c.args.n in
-    let v = c.args.value in
-    was_there a n v _ c.requires.0 c.requires.1 c.find-i.ensures c.if-i-n.true
+pub returns-in-Some : goal.returns-in-Some
+returns-in-Some c =
+    let a = c.args in
+    let f = found (take a.n a.constants.now) a.value c.in-Some.index c.in-Some.ensures in
+    let long = length-take-le a.n a.constants.now (omega arith) in
+    was_there a.constants.now a.n a.value c.told-constants c.requires (record { index = c.in-Some.index; count = a.n }) (omega (arith, f.0, long)) f.1 refl
 
 pub returns-then-n-eq-CONSTANTS : goal.returns-then-n-eq-CONSTANTS
 returns-then-n-eq-CONSTANTS c =
-    let a = c.args.constants.now in
-    let n = c.args.n in
-    let v = c.args.value in
-    one_too_many a n v _ c.requires.0 c.requires.1 c.find-i.ensures c.if-i-n.false c.if-n-eq-CONSTANTS.true
+    let a = c.args in
+    let m = missing (take a.n a.constants.now) a.value c.in_default.ensures in
+    let long = length-take-le a.n a.constants.now (omega arith) in
+    one_too_many a.constants.now a.n a.value c.told-constants c.requires (omega (arith, m, long)) c.if-n-eq-CONSTANTS.true
 
 pub returns : goal.returns
 returns c =
-    let a = c.args.constants.now in
-    let n = c.args.n in
-    let v = c.args.value in
-    put_new a n v _ c.requires.0 c.requires.1 c.find-i.ensures c.if-i-n.false (omega (arith, c.if-n-eq-CONSTANTS.false, c.requires.1))
+    let a = c.args in
+    let m = missing (take a.n a.constants.now) a.value c.in_default.ensures in
+    let long = length-take-le a.n a.constants.now (omega arith) in
+    put_new a.constants.now a.n a.value c.told-constants c.requires (record { index = a.n; count = a.n + 1 }) (omega (arith, m, long)) (omega arith) refl refl

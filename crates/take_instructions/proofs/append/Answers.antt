@@ -10,4 +10,4 @@ returns-then-n-ge-CODE c =
 
 pub returns : goal.returns
 returns c =
-    appended c.args.code.now c.args.n c.args.operation c.args.operand _ c.requires.0 c.if-n-ge-CODE.false (c.pack.ensures ∙ ap (λ (y : ℕ). c.args.operation * 2 ^ 24 + y) c.operand.ensures.0)
+    appended c.args.code.now c.args.n c.args.operation c.args.operand _ c.told-code c.if-n-ge-CODE.false (c.pack.ensures ∙ ap (λ (y : ℕ). c.args.operation * 2 ^ 24 + y) c.operand.ensures.0)

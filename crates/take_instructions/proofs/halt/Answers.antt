@@ -4,4 +4,4 @@ use Rattle.take_instructions.proofs.halt.Goals as goal
 
 pub returns : goal.returns
 returns c =
-    halted c.requires.1 c.append.ensures
+    halted c.requires c.append.ensures

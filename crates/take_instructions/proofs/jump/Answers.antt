@@ -4,4 +4,4 @@ use Rattle.take_instructions.proofs.jump.Goals as goal
 
 pub returns : goal.returns
 returns c =
-    jumped c.requires.1 c.append.ensures
+    jumped c.requires c.append.ensures

@@ -1,11 +1,12 @@
 -- `take_instructions::three` meets its contract. Assumes nothing.
+use native.Mathlib.Omega.{arith}
 use Rattle.take_instructions.proofs.Ends.{branched, not_branched}
 use Rattle.take_instructions.proofs.three.Goals as goal
 
-pub returns-then-exits-gt1021 : goal.returns-then-exits-gt1021
-returns-then-exits-gt1021 c =
-    not_branched c.args.n c.args.code.now c.if-exits-gt1021.true
+pub returns-then-n-gt-EXITS : goal.returns-then-n-gt-EXITS
+returns-then-n-gt-EXITS c =
+    not_branched c.args.n c.args.code.now (omega arith)
 
 pub returns : goal.returns
 returns c =
-    branched c.args.n c.requires.1 c.if-exits-gt1021.false c.append.ensures
+    branched c.args.n c.requires (omega arith) c.append.ensures

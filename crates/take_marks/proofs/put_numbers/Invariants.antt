@@ -1,10 +1,7 @@
 -- `take_marks::put_numbers` meets its contract. Assumes nothing.
-use Prim.Native.Nat.{◌-◌}
-use Rattle.take_marks.proofs.Puts.{Putting}
+use Rattle.std.proofs.Common.{take}
+use Rattle.read_items.specs.Parsed.{Put}
 use Rattle.take_marks.proofs.put_numbers.Given as goal
 
-abbrev pub invariant-loop-i : goal.invariant-loop-i
-invariant-loop-i l = Putting l.items l.count l.from l.initial.jumps l.jumps l.at l.i
-
-abbrev pub decreases-loop-i : goal.decreases-loop-i
-decreases-loop-i l = l.count - l.i
+abbrev pub invariant-loop-number : goal.invariant-loop-number
+invariant-loop-number l = Put l.initial.jumps l.jumps l.from (take l.number-index l.numbers) l.at

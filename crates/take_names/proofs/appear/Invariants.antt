@@ -5,7 +5,7 @@ use Rattle.take_names.proofs.Growing.{Taking}
 use Rattle.take_names.proofs.appear.Given as goal
 
 abbrev pub invariant-loop-at : goal.invariant-loop-at
-invariant-loop-at l = Taking l.items l.initial.table l.n l.cells l.table l.at l.names l.taken
+invariant-loop-at l = Taking l.items l.initial.table l.fn.n l.table l.at l.m
 
 abbrev pub decreases-loop-at : goal.decreases-loop-at
 decreases-loop-at l = length l.items - l.at

@@ -4,4 +4,4 @@ use Rattle.take_operands.proofs.element_at.Goals as goal
 
 pub returns : goal.returns
 returns c =
-    element_is c.name_at.ensures c.subscript_at-first.ensures c.subscript_at-second.ensures
+    element_is c.name_at.ensures c.subscript_at.ensures c.subscript_at-2.ensures

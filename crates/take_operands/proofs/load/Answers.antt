@@ -4,4 +4,4 @@ use Rattle.take_operands.proofs.load.Goals as goal
 
 pub returns : goal.returns
 returns c =
-    loaded c.requires.1.1 c.cell_of-cell.ensures c.append.ensures
+    loaded c.requires c.cell_of.ensures c.append.ensures

@@ -8,4 +8,4 @@ returns-then-at-eq-ELEMENTS c =
 
 pub returns : goal.returns
 returns c =
-    referred c.args.n c.requires.1.1.1.1 c.if-at-eq-ELEMENTS.false c.put_element.ensures c.append.ensures
+    referred c.args.n c.requires.1 c.if-at-eq-ELEMENTS.false c.put_element.ensures c.append.ensures

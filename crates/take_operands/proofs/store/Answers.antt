@@ -4,7 +4,7 @@ use Rattle.take_operands.proofs.store.Goals as goal
 
 pub returns-in-Cell : goal.returns-in-Cell
 returns-in-Cell c =
-    stored_cell c.requires.1.1.1 c.in-Cell.is c.cell_of-cell.ensures c.append.ensures
+    stored_cell c.requires c.in-Cell.is c.cell_of.ensures c.append.ensures
 
 pub returns-in-Element : goal.returns-in-Element
 returns-in-Element c =

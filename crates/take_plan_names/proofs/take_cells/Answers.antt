@@ -1,46 +1,43 @@
 -- `take_plan_names::take_cells` meets its contract. Assumes nothing.
-use mathlib.Core.Path.{◌∙◌}
+use mathlib.Core.Path.{sym}
+use Prim.Native.Nat.{◌*◌}
 use native.Mathlib.Omega.{arith}
 use Rattle.take_plan_names.proofs.Operands.{first_worded, items_worded, arrays_room, part_long}
-use Rattle.take_plan_names.proofs.Takes.{both_within, plains_full, then_hidden, then_arrays, then_no_more}
+use Rattle.take_plan_names.proofs.Takes.{plains_full, then_hidden, then_arrays, then_no_more}
 use Rattle.take_plan_names.proofs.take_cells.Goals as goal
 
 pub take_operands-requires : goal.take_operands-requires
-take_operands-requires c =
-    (first_worded c.requires.0, (items_worded c.requires.0, c.requires.1))
+take_operands-requires c = (first_worded c.requires, items_worded c.requires)
 
-pub returns-in_default : goal.returns-in_default
-returns-in_default c =
-    plains_full c.take_operands.ensures _ c.in_default.is
+pub returns-in_err-m : goal.returns-in_err-m
+returns-in_err-m c =
+    let a = c.args in
+    plains_full a.p a.first.now a.items.now a.table.now _ a.n _ c.in_err-m.ensures c.from_residual.ensures
 
-pub hide-requires : goal.hide-requires
-hide-requires c =
-    both_within c.take_operands.ensures c.in-Names.is
-
-pub returns-then-p-eq-DO : goal.returns-then-p-eq-DO
-returns-then-p-eq-DO c =
-    then_hidden c.take_operands.ensures c.in-Names.is c.if-p-eq-DO.true c.hide.ensures
-
-pub overflow_mul-words : goal.overflow_mul-words
-overflow_mul-words c =
-    let room = arrays_room c.requires.0 c.if-p-eq-DIMENSION.true in
+pub overflow_mul-p : goal.overflow_mul-p
+overflow_mul-p c =
+    let room = arrays_room c.requires c.in-Dimension.is in
     omega (arith, room, c.well_formed)
 
 pub slice_bounds-declare-end : goal.slice_bounds-declare-end
-slice_bounds-declare-end c =
-    let room = arrays_room c.requires.0 c.if-p-eq-DIMENSION.true in
-    omega (arith, room)
+slice_bounds-declare-end c = sym (part_long _ _ (arrays_room c.requires c.in-Dimension.is))
 
 pub declare-requires : goal.declare-requires
 declare-requires c =
-    let room = arrays_room c.requires.0 c.if-p-eq-DIMENSION.true in
-    let w = both_within c.take_operands.ensures c.in-Names.is in
-    (part_long _ _ room, (c.take_operands.auto.table ∙ c.requires.1.0, w))
+    let long = part_long c.args.items.now (7 * c.args.p.listed) (arrays_room c.requires c.in-Dimension.is) in
+    omega (arith, long)
 
-pub returns-then-p-eq-DIMENSION : goal.returns-then-p-eq-DIMENSION
-returns-then-p-eq-DIMENSION c =
-    then_arrays c.take_operands.ensures c.in-Names.is c.if-p-eq-DIMENSION.true c.declare.ensures
+pub returns-in-Do : goal.returns-in-Do
+returns-in-Do c =
+    let a = c.args in
+    then_hidden a.p a.first.now a.items.now a.table.now _ a.n c.in_ok-m.m c.in_ok-m.ensures _ c.in-Do.is c.hide.ensures
 
-pub returns : goal.returns
-returns c =
-    then_no_more c.take_operands.ensures c.in-Names.is c.if-p-eq-DO.false c.if-p-eq-DIMENSION.false
+pub returns-in-Dimension : goal.returns-in-Dimension
+returns-in-Dimension c =
+    let a = c.args in
+    then_arrays a.p a.first.now a.items.now a.table.now _ a.n c.in_ok-m.m c.in_ok-m.ensures _ _ c.in-Dimension.is c.declare.ensures
+
+pub returns-in_default : goal.returns-in_default
+returns-in_default c =
+    let a = c.args in
+    then_no_more a.p a.first.now a.items.now a.table.now _ a.n c.in_ok-m.m c.in_ok-m.ensures c.in_default.not-Do c.in_default.not-Dimension

@@ -11,21 +11,21 @@ use Rattle.take_references.proofs.references_right.Goals as goal
 pub loop-at-init : goal.loop-at-init
 loop-at-init c =
     let items = c.args.items.now in
-    let t = c.args.table.now in
-    let n = c.args.n in
-    passing_start items t n c.requires.0
+    let t = c.args.names.now.words.now in
+    let n = c.args.names.now.count in
+    passing_start items t n c.requires
 
 pub right_item-requires : goal.right_item-requires
 right_item-requires c =
     let items = c.args.items.now in
     let lp = c.loop-at in
-    (rest_worded items lp.at lp.invariant.worded c.loop-at-test.true, c.requires.1)
+    rest_worded items lp.at lp.invariant.worded c.loop-at-test.true
 
 pub returns-then-not-right_item : goal.returns-then-not-right_item
 returns-then-not-right_item c =
     let items = c.args.items.now in
-    let t = c.args.table.now in
-    let n = c.args.n in
+    let t = c.args.names.now.words.now in
+    let n = c.args.names.now.count in
     let lp = c.loop-at in
     passing_no items t n lp.at c.right_item.result lp.invariant c.loop-at-test.true (subst (λ (x : List ℕ). RightItem x t n c.right_item.result) (lent items lp.at) c.right_item.ensures) (c.if-not-right_item.true)
 
@@ -46,8 +46,8 @@ loop-at-smaller c =
 pub loop-at-preserved : goal.loop-at-preserved
 loop-at-preserved c =
     let items = c.args.items.now in
-    let t = c.args.table.now in
-    let n = c.args.n in
+    let t = c.args.names.now.words.now in
+    let n = c.args.names.now.count in
     let lp = c.loop-at in
     let ah = ahead items lp.at lp.invariant.worded c.loop-at-test.true in
     subst (λ (k : ℕ). Passing items t n (lp.at + k)) (sym c.item_length-at.ensures)
@@ -56,7 +56,7 @@ loop-at-preserved c =
 pub returns : goal.returns
 returns c =
     let items = c.args.items.now in
-    let t = c.args.table.now in
-    let n = c.args.n in
+    let t = c.args.names.now.words.now in
+    let n = c.args.names.now.count in
     let lp = c.loop-at in
     passing_end items t n lp.at lp.invariant c.loop-at-test.false

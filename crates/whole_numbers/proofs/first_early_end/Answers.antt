@@ -1,9 +1,8 @@
 -- `whole_numbers::first_early_end` meets its contract. Assumes nothing.
 use mathlib.Core.Path.{sym, ap, ◌∙◌}
 use Prim.Native.Nat.{suc}
-use native.Mathlib.Omega.{arith}
 use mathlib.Core.Option.{some}
-use Rattle.whole_numbers.specs.Numbers.{found_of, end_right}
+use Rattle.whole_numbers.specs.Numbers.{end_right}
 use Rattle.whole_numbers.proofs.Tests.{first_starts, first_more, first_stops, first_ends}
 use Rattle.whole_numbers.proofs.first_early_end.Goals as goal
 
@@ -11,16 +10,15 @@ pub loop-q-init : goal.loop-q-init
 loop-q-init c =
     let n = c.args.count in
     let test = end_right c.args.rows.now n in
-    (omega arith, first_starts test suc n)
+    first_starts test suc n
 
 pub returns-then-not-end_right : goal.returns-then-not-end_right
-unfolding found_of
 returns-then-not-end_right c =
     let n = c.args.count in
     let test = end_right c.args.rows.now n in
     let q = c.loop-q.q in
     let inv = c.loop-q.invariant in
-    ap some c.sequence_of.ensures ∙ sym (inv.1 ∙ first_stops test suc n q c.loop-q-test.true (sym c.end_right.ensures ∙ c.if-not-end_right.true))
+    ap some c.sequence_of.ensures ∙ sym (inv ∙ first_stops test suc n q c.loop-q-test.true (sym c.end_right.ensures ∙ c.if-not-end_right.true))
 
 pub loop-q-preserved : goal.loop-q-preserved
 loop-q-preserved c =
@@ -28,13 +26,12 @@ loop-q-preserved c =
     let test = end_right c.args.rows.now n in
     let q = c.loop-q.q in
     let inv = c.loop-q.invariant in
-    (omega arith, inv.1 ∙ first_more test suc n q c.loop-q-test.true (sym c.end_right.ensures ∙ c.if-not-end_right.false))
+    (inv ∙ first_more test suc n q c.loop-q-test.true (sym c.end_right.ensures ∙ c.if-not-end_right.false))
 
 pub returns : goal.returns
-unfolding found_of
 returns c =
     let n = c.args.count in
     let test = end_right c.args.rows.now n in
     let q = c.loop-q.q in
     let inv = c.loop-q.invariant in
-    sym (inv.1 ∙ first_ends test suc n q c.loop-q-test.false)
+    sym (inv ∙ first_ends test suc n q c.loop-q-test.false)

@@ -1,10 +1,7 @@
 -- `whole_numbers::resolve` meets its contract. Assumes nothing.
-use Prim.Native.Nat.{◌-◌}
+use lib.ListN.{length}
 use Rattle.whole_numbers.proofs.Resolving.{Resolving}
 use Rattle.whole_numbers.proofs.resolve.Given as goal
 
 abbrev pub invariant-loop-k : goal.invariant-loop-k
-invariant-loop-k l = Resolving l.numbers l.count l.jumps l.many l.places l.k
-
-abbrev pub decreases-loop-k : goal.decreases-loop-k
-decreases-loop-k l = l.many - l.k
+invariant-loop-k l = Resolving l.numbers (length l.numbers) l.jumps (length l.jumps) l.places l.k

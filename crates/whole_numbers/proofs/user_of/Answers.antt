@@ -6,7 +6,7 @@ use native.Mathlib.Numerals.{add-one}
 use mathlib.Core.Option.{some}
 use borrow.Author.Tests.{le-leb, lt-leb}
 use Rattle.whole_tables.specs.Rows.{start_of}
-use Rattle.whole_numbers.specs.Numbers.{found_of, past}
+use Rattle.whole_numbers.specs.Numbers.{past}
 use Rattle.whole_numbers.proofs.Tests.{first_starts, first_more, first_stops, first_ends}
 use Rattle.whole_numbers.proofs.Starts.{jumps_inside, start_on}
 use Rattle.whole_numbers.proofs.user_of.Goals as goal
@@ -17,7 +17,7 @@ loop-q-init c =
     let n = c.args.count in
     let k = c.args.k in
     let test = past R k in
-    (omega arith, (refl, first_starts test suc n))
+    (refl, first_starts test suc n)
 
 pub overflow_add-end : goal.overflow_add-end
 overflow_add-end c =
@@ -26,10 +26,10 @@ overflow_add-end c =
     let q = c.loop-q.q in
     let inv = c.loop-q.invariant in
     let h = jumps_inside R q n c.loop-q-test.true in
-    omega (arith, h, inv.1.0, c.jumps_of-end.ensures, c.requires.count_bound)
+    omega (arith, h, inv.0, c.jumps_of-end.ensures, c.requires.count_bound)
 
 pub returns-then-k-end : goal.returns-then-k-end
-unfolding found_of past
+unfolding past
 returns-then-k-end c =
     let R = c.args.rows.now in
     let n = c.args.count in
@@ -37,8 +37,8 @@ returns-then-k-end c =
     let test = past R k in
     let q = c.loop-q.q in
     let inv = c.loop-q.invariant in
-    let e = start_on R q c.loop-q.end c.jumps_of-end.result inv.1.0 c.jumps_of-end.ensures ∙ ap (start_of R) (add-one q) in
-    ap some c.sequence_of.ensures ∙ sym (inv.1.1 ∙ first_stops test suc n q c.loop-q-test.true (lt-leb (start_of R (suc q)) k (omega (arith, e, c.if-k-end.true))))
+    let e = start_on R q c.loop-q.end c.jumps_of-end.result inv.0 c.jumps_of-end.ensures ∙ ap (start_of R) (add-one q) in
+    ap some c.sequence_of.ensures ∙ sym (inv.1 ∙ first_stops test suc n q c.loop-q-test.true (lt-leb (start_of R (suc q)) k (omega (arith, e, c.if-k-end.true))))
 
 pub loop-q-preserved : goal.loop-q-preserved
 unfolding past
@@ -49,12 +49,11 @@ loop-q-preserved c =
     let test = past R k in
     let q = c.loop-q.q in
     let inv = c.loop-q.invariant in
-    let s = start_on R q c.loop-q.end c.jumps_of-end.result inv.1.0 c.jumps_of-end.ensures in
+    let s = start_on R q c.loop-q.end c.jumps_of-end.result inv.0 c.jumps_of-end.ensures in
     let e = s ∙ ap (start_of R) (add-one q) in
-    (omega arith, (s, inv.1.1 ∙ first_more test suc n q c.loop-q-test.true (le-leb (start_of R (suc q)) k (omega (arith, e, c.if-k-end.false)))))
+    (s, (inv.1 ∙ first_more test suc n q c.loop-q-test.true (le-leb (start_of R (suc q)) k (omega (arith, e, c.if-k-end.false)))))
 
 pub returns : goal.returns
-unfolding found_of
 returns c =
     let R = c.args.rows.now in
     let n = c.args.count in
@@ -62,4 +61,4 @@ returns c =
     let test = past R k in
     let q = c.loop-q.q in
     let inv = c.loop-q.invariant in
-    sym (inv.1.1 ∙ first_ends test suc n q c.loop-q-test.false)
+    sym (inv.1 ∙ first_ends test suc n q c.loop-q-test.false)

@@ -24,6 +24,6 @@ sets-set-requires c =
 pub returns : goal.returns
 unfolding leaves
 returns c =
-    let a : c.position_of.result ≡ c.args.first.0 - 1 = omega (arith, c.position_of.ensures) in
+    let a : c.position_of.result ≡ c.args.range.first.0 - 1 = omega (arith, c.position_of.ensures) in
     let b : c.position_of-2.result ≡ c.args.at.0 - 1 = omega (arith, c.position_of-2.ensures) in
     rw (c.in_range.ensures, c.sets-set.ensures, c.set_of-own.ensures, a, b)

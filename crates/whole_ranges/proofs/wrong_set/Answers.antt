@@ -4,7 +4,6 @@ use Prim.Native.Nat.{ℕ, suc}
 use native.Mathlib.Omega.{arith}
 use mathlib.Core.Bool.{Bool}
 use mathlib.Core.Option.{some}
-use Rattle.whole_numbers.specs.Numbers.{found_of}
 use Rattle.whole_numbers.proofs.Tests.{first_starts, first_more, first_stops, first_ends}
 use Rattle.whole_ranges.specs.Ranges.{set_right}
 use Rattle.whole_ranges.proofs.wrong_set.Goals as goal
@@ -13,44 +12,42 @@ pub loop-q-init : goal.loop-q-init
 loop-q-init c =
     let n = c.args.count in
     let R = c.args.rows.now in
-    let D = c.args.loops in
+    let D = c.args.loops.now in
     let test : ℕ → Bool = λ k. set_right R D (suc k) in
-    (omega arith, first_starts test suc n)
+    (first_starts test suc n)
 
 pub set_right-requires : goal.set_right-requires
 set_right-requires c =
     (c.requires, (omega (arith, c.sequence_of-here.ensures), omega (arith, c.sequence_of-here.ensures, c.loop-q-test.true)))
 
 pub returns-then-not-set_right : goal.returns-then-not-set_right
-unfolding found_of
 returns-then-not-set_right c =
     let n = c.args.count in
     let R = c.args.rows.now in
-    let D = c.args.loops in
+    let D = c.args.loops.now in
     let test : ℕ → Bool = λ k. set_right R D (suc k) in
     let q = c.loop-q.q in
     let inv = c.loop-q.invariant in
     let right = c.set_right.ensures ∙ ap (set_right R D) c.sequence_of-here.ensures in
-    ap some c.sequence_of-here.ensures ∙ sym (inv.1 ∙ first_stops test suc n q c.loop-q-test.true (sym right ∙ c.if-not-set_right.true))
+    ap some c.sequence_of-here.ensures ∙ sym (inv ∙ first_stops test suc n q c.loop-q-test.true (sym right ∙ c.if-not-set_right.true))
 
 pub loop-q-preserved : goal.loop-q-preserved
 loop-q-preserved c =
     let n = c.args.count in
     let R = c.args.rows.now in
-    let D = c.args.loops in
+    let D = c.args.loops.now in
     let test : ℕ → Bool = λ k. set_right R D (suc k) in
     let q = c.loop-q.q in
     let inv = c.loop-q.invariant in
     let right = c.set_right.ensures ∙ ap (set_right R D) c.sequence_of-here.ensures in
-    (omega arith, inv.1 ∙ first_more test suc n q c.loop-q-test.true (sym right ∙ c.if-not-set_right.false))
+    (inv ∙ first_more test suc n q c.loop-q-test.true (sym right ∙ c.if-not-set_right.false))
 
 pub returns : goal.returns
-unfolding found_of
 returns c =
     let n = c.args.count in
     let R = c.args.rows.now in
-    let D = c.args.loops in
+    let D = c.args.loops.now in
     let test : ℕ → Bool = λ k. set_right R D (suc k) in
     let q = c.loop-q.q in
     let inv = c.loop-q.invariant in
-    sym (inv.1 ∙ first_ends test suc n q c.loop-q-test.false)
+    sym (inv ∙ first_ends test suc n q c.loop-q-test.false)

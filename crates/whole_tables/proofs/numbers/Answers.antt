@@ -9,22 +9,17 @@ use Rattle.whole_tables.proofs.numbers.Goals as goal
 
 pub loop-q-init : goal.loop-q-init
 loop-q-init c =
-    let R = c.args.rows.now in
-    (omega arith, (length-replicate {A = Number} 400 (record { 0 = 0 }), none_filled (λ (n : Number). n.0) (record { 0 = 0 }) (number_at R) _))
+    record { long = length-replicate {A = Number} 400 (record { 0 = 0 }); filled = none_filled (λ (n : Number). n.0) (record { 0 = 0 }) (number_at c.args.rows.now) _ }
 
 pub number_of-requires : goal.number_of-requires
 number_of-requires c =
-    let p = c.requires in
     let h = c.loop-q-test.true in
-    (omega (arith, h, p.long), p.low c.loop-q.q h)
+    (omega (arith, h, c.requires.long), c.requires.low c.loop-q.q h)
 
 pub loop-q-preserved : goal.loop-q-preserved
 loop-q-preserved c =
-    let p = c.requires in
-    let h = c.loop-q-test.true in
     let i = c.loop-q.invariant in
-    (omega arith, (length-set c.loop-q.table c.loop-q.q _ ∙ i.1.0, one_filled (λ (n : Number). n.0) (record { 0 = 0 }) (number_at c.args.rows.now) c.loop-q.table c.loop-q.q _ (omega (arith, h, p.few, i.1.0)) c.number_of.ensures i.1.1))
-
-pub returns : goal.returns
-returns c =
-    record { are = λ q h. c.loop-q.invariant.1.1.are q (omega (arith, h, c.loop-q-test.false)) }
+    record {
+      long = length-set c.loop-q.table c.loop-q.q _ ∙ i.long;
+      filled = one_filled (λ (n : Number). n.0) (record { 0 = 0 }) (number_at c.args.rows.now) c.loop-q.table c.loop-q.q _ (omega (arith, c.loop-q-test.true, c.requires.few, i.long)) c.number_of.ensures i.filled;
+    }

@@ -1,13 +1,9 @@
 -- `whole_tables::wanted` meets its contract. Assumes nothing.
 use mathlib.Core.Path.{◌≡◌}
-use Prim.Native.Nat.{◌-◌, ◌≤◌}
 use lib.ListN.{length, get_or}
 use Rattle.read_cards.specs.declared.Number.{Number}
 use Rattle.whole_tables.proofs.Filling.{Filled}
 use Rattle.whole_tables.proofs.wanted.Given as goal
 
 abbrev pub invariant-loop-k : goal.invariant-loop-k
-invariant-loop-k l = (l.k ≤ l.many) × ((length l.table ≡ 1424) × Filled (λ (n : Number). n.0) (record { 0 = 0 }) (λ k. get_or l.words k 0) l.table l.k)
-
-abbrev pub decreases-loop-k : goal.decreases-loop-k
-decreases-loop-k l = l.many - l.k
+invariant-loop-k l = record { long : length l.table ≡ 1424; filled : Filled (λ (n : Number). n.0) (record { 0 = 0 }) (λ k. get_or l.words k 0) l.table l.k }

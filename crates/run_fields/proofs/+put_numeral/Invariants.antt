@@ -1,4 +1,0 @@
-use Rattle.run_fields.proofs.+put_numeral.Given as goal
-
-abbrev pub decreases-put_numeral : goal.decreases-put_numeral
-decreases-put_numeral l = l.n
