@@ -2,11 +2,19 @@
 -- Assumes nothing.
 use mathlib.Core.Path.{◌≡◌, sym, ap, ◌∙◌}
 use mathlib.Core.List.{List, ◌++◌, append_assoc}
-use Prim.Native.Nat.{ℕ, ◌+◌, ◌≤◌}
+use Prim.Native.Nat.{ℕ, ◌+◌, ◌-◌, ◌≤◌}
 use native.Mathlib.Omega.{arith}
 use lib.ListN.{length, take, drop, length-append, length-drop}
 use lib.Seq.{take_at, drop_at, length-take-le, drop-drop}
+use borrow.Rule.Slice.PartMut.{put_mid}
 use Rattle.final_body.specs.Bodies.{over}
+
+-- the part from a to e, lent and given back with xs in it
+pub put_over : (a e : ℕ) (o xs : List ℕ) → a ≤ e → length xs ≡ e - a → put_mid a (e - a) o xs ≡ over a xs o
+unfolding over
+put_over a e o xs h l =
+    ap (λ (r : List ℕ). take a o ++ (xs ++ r))
+    (drop-drop (e - a) a o ∙ ap (λ (k : ℕ). drop (a + k) o) (sym l))
 
 pub length_over : (a : ℕ) (xs o : List ℕ) → a + length xs ≤ length o → length (over a xs o) ≡ length o
 unfolding over

@@ -2,16 +2,18 @@
 -- Assumes nothing.
 use mathlib.Core.Path.{◌≡◌, refl, sym, ap, ◌∙◌}
 use mathlib.Core.List.{List, [], ◌∷◌, ◌++◌, append_assoc, append-nil}
-use Prim.Native.Nat.{ℕ, ◌+◌, ◌*◌, ◌≤◌, ◌<◌}
+use Prim.Native.Nat.{ℕ, ◌+◌, ◌-◌, ◌*◌, ◌≤◌, ◌<◌}
 use native.Mathlib.Omega.{arith}
 use native.Mathlib.Nat.{add-zero}
-use lib.ListN.{length, take, drop, get_or, length-append}
+use lib.ListN.{length, take, drop, get_or, length-append, drop_of_length-le}
+use lib.Seq.{take_all}
+use borrow.Rule.Slice.PartMut.{put_mid}
 use Rattle.std.proofs.lemmas.List.{take_more, take-append-drop}
 use Rattle.std.specs.Borrow.{Bor}
 use Rattle.rules_object.specs.Bytes.{word_bytes, bytes_of, concat}
 use Rattle.rules_object.proofs.Words.{length_bytes}
 use Rattle.final_body.specs.Bodies.{over, PutBody, tables}
-use Rattle.final_body.proofs.Over.{over_over, length_over}
+use Rattle.final_body.proofs.Over.{over_over, length_over, put_over}
 
 pub bytes_append : (xs ys : List ℕ) → bytes_of (xs ++ ys) ≡ bytes_of xs ++ bytes_of ys
 bytes_append [] ys = refl
@@ -47,6 +49,22 @@ put_as e p = rw (← e) p
 pub put_word : {v : List ℕ} (w : List ℕ) (next x : ℕ) → next + 4 ≤ length w → v ≡ take next w ++ (word_bytes x ++ drop (next + 4) w) → PutBody w next (x ∷ []) v (next + 4)
 unfolding over
 put_word w next x h e = record { is = e; ends = refl; inside = h }
+
+-- words that fill the list that they are written into
+pub put_whole : {o w : List ℕ} {next : ℕ} (ws : List ℕ) (i : ℕ) → length ws ≤ i → 4 * length ws ≡ length o → PutBody o 0 (take i ws) w next → w ≡ bytes_of ws
+unfolding over
+put_whole {o} ws i h l p =
+    let all : length o ≤ 0 + length (bytes_of ws) = omega (arith, length_bytes ws) in
+    p.is ∙ ap (λ (v : List ℕ). over 0 (bytes_of v) o) (take_all i ws h) ∙ ap (λ (r : List ℕ). bytes_of ws ++ r) (drop_of_length-le o all) ∙ append-nil (bytes_of ws)
+
+-- the part of a body, lent and given back with its words in it
+pub put_part : (o ws : List ℕ) (at : ℕ) (part : List ℕ) → at + 4 * length ws ≤ length o → part ≡ bytes_of ws → PutBody o at ws (put_mid at (at + 4 * length ws - at) o part) (at + 4 * length ws)
+put_part o ws at part h e =
+    record {
+      is = put_over at (at + 4 * length ws) o part (omega arith) (ap length e ∙ length_bytes ws ∙ omega arith) ∙ ap (λ (p : List ℕ). over at p o) e;
+      ends = refl;
+      inside = h;
+    }
 
 -- ---- words of a list, and bodies of a list
 

@@ -8,16 +8,25 @@ ghost use Rattle.final_body.specs.Bodies.{over, PutBody, tables};
 
 use object_bodies::{HEAD, KINDS};
 
-// One body, from its first byte on; the answer is the byte after it.
+// The body's writer, into a part that its words fill.
+fn put_words(part: &mut [u8], words: &[u32])
+    requires { 4 * length words.now ≡ length part.old }
+    ensures { part.new ≡ bytes_of words.now }
+{
+    let mut at = 0;
+    for &word in words {
+        object_words::store(part, at, word);
+        at += 4;
+    }
+}
+
+// One body, into the part that starts at its first byte; the answer is the byte after it.
 pub fn put_body(out: &mut [u8], at: usize, words: &[u32]) -> usize
     requires { at + 4 * length words.now ≤ length out.old }
     ensures { PutBody out.old at words.now out.new result }
 {
-    let mut next = at;
-    for &word in words {
-        object_words::store(out, next, word);
-        next += 4;
-    }
+    let next = at + 4 * words.len();
+    put_words(&mut out[at..next], words);
     next
 }
 

@@ -1,7 +1,0 @@
--- `final_body::put_body` meets its contract: each word after those that are written. Assumes nothing.
-use lib.ListN.{take}
-use Rattle.final_body.specs.Bodies.{PutBody}
-use Rattle.final_body.proofs.put_body.Given as goal
-
-abbrev pub invariant-loop-word : goal.invariant-loop-word
-invariant-loop-word l = PutBody l.initial.out l.at (take l.word-index l.words) l.out l.next
