@@ -13,7 +13,7 @@ ghost use Rattle.rules_shared.specs.Refusals.{at_entry};
 ghost use Rattle.rules_object.specs.Calls.{refused42};
 ghost use Rattle.object_words.specs.Word.{word_at};
 ghost use Rattle.object_bodies.specs.Edition.{every_kind, most_kinds};
-ghost use Rattle.object_contents.specs.Layout.{object_at};
+ghost use Rattle.object_contents.specs.Layout.{Placed, object_at};
 ghost use Rattle.object_contents.specs.Book.{book_of};
 ghost use Rattle.check_entries.specs.Judge.{no_line, subscript_at, refusal_at};
 
@@ -71,18 +71,18 @@ pub fn limits_right(e: Layout) -> bool
 
 // ---- 42
 
-fn in_cells(o: &Object, at: usize) -> bool
-    requires { at + 4 ≤ length o.now.bytes.now }
-    ensures { result ≡ ltb (word_at o.now.bytes.now at) o.now.layout.cells }
+fn in_cells(o: &[u8], at: usize, cells: u32) -> bool
+    requires { at + 4 ≤ length o.now }
+    ensures { result ≡ ltb (word_at o.now at) cells }
 {
-    load(o.bytes, at) < o.layout.cells
+    load(o, at) < cells
 }
 
-pub fn in_code(o: &Object, at: usize) -> bool
-    requires { at + 4 ≤ length o.now.bytes.now }
-    ensures { result ≡ ltb (word_at o.now.bytes.now at) o.now.layout.code_count }
+pub fn in_code(o: &[u8], at: usize, n: usize) -> bool
+    requires { at + 4 ≤ length o.now }
+    ensures { result ≡ ltb (word_at o.now at) n }
 {
-    (load(o.bytes, at) as usize) < o.layout.code_count
+    (load(o, at) as usize) < n
 }
 
 fn fits(o: &Object, at: usize) -> bool
@@ -114,7 +114,7 @@ fn subscript_right(o: &Object, b: usize) -> bool
     requires { b + 12 ≤ length o.now.bytes.now }
     ensures { result ≡ subscript_at o.now.bytes.now b o.now.layout.cells (ruled o.now.rule) }
 {
-    fits(o, b) && signed_fits(o, b + 8) && in_cells(o, b + 4)
+    fits(o, b) && signed_fits(o, b + 8) && in_cells(o.bytes, b + 4, o.layout.cells)
 }
 
 pub fn element_right(o: &Object, i: usize) -> bool
@@ -131,19 +131,23 @@ pub fn element_right(o: &Object, i: usize) -> bool
         && subscript_right(o, b + 24)
 }
 
-pub fn loop_right(o: &Object, i: usize) -> bool
-    requires { i < o.now.layout.do_count }
-    ensures { result ≡ right_loop (book_of o.now) (get_or (book_of o.now).dos i no_loop) }
+// On bytes and places, as `line_right`: docs/TRACE.md names them, so that they may ask no more than where the bodies stand.
+pub fn loop_right(o: &[u8], e: &Layout, i: usize) -> bool
+    requires { Placed e.now o.now × (i < e.now.do_count) }
+    ensures { result ≡ right_loop (object_at e.now o.now) (get_or (object_at e.now o.now).dos i no_loop) }
 {
-    let b = o.layout.dos + 16 * i;
-    in_cells(o, b) && in_cells(o, b + 4) && in_cells(o, b + 8) && in_code(o, b + 12)
+    let b = e.dos + 16 * i;
+    in_cells(o, b, e.cells)
+        && in_cells(o, b + 4, e.cells)
+        && in_cells(o, b + 8, e.cells)
+        && in_code(o, b + 12, e.code_count)
 }
 
-fn line_right(o: &Object, i: usize) -> bool
-    requires { i < o.now.layout.line_count }
-    ensures { result ≡ right_line (book_of o.now) (get_or (book_of o.now).lines i no_line) }
+pub fn line_right(o: &[u8], e: &Layout, i: usize) -> bool
+    requires { Placed e.now o.now × (i < e.now.line_count) }
+    ensures { result ≡ right_line (object_at e.now o.now) (get_or (object_at e.now o.now).lines i no_line) }
 {
-    in_code(o, o.layout.lines + 12 * i + 8)
+    in_code(o, e.lines + 12 * i + 8, e.code_count)
 }
 
 // The first of the `n` entries of a kind that is not right.
@@ -166,12 +170,19 @@ pub fn entries(o: &Object) -> Option<Entry>
     let e = o.layout;
     let constants = first_bad(1, e.constant_count, |i| constant_right(o, i));
     let elements = first_bad(2, e.element_count, |i| element_right(o, i));
-    let dos = first_bad(4, e.do_count, |i| loop_right(o, i));
-    let lines = first_bad(6, e.line_count, |i| line_right(o, i));
-    let names = first_bad(7, e.name_count, |i| named_right(o, i));
-    let formats = check_formats::first_bad(o).map(|index| Entry { kind: 8, index });
-    let items = first_bad(9, e.item_count, |i| item_right(o, i));
-    let transfers = first_bad(10, e.transfer_count, |i| transfer_right(o, i));
+    let dos = first_bad(4, e.do_count, |i| loop_right(o.bytes, &o.layout, i));
+    let lines = first_bad(6, e.line_count, |i| line_right(o.bytes, &o.layout, i));
+    let names = first_bad(7, e.name_count, |i| named_right(o.bytes, &o.layout, i));
+    let formats = check_formats::first_bad(o.bytes, &o.layout).map(|index| Entry {
+        kind: 8,
+        index,
+    });
+    let items = first_bad(9, e.item_count, |i| item_right(o.bytes, &o.layout, i));
+    let transfers = first_bad(
+        10,
+        e.transfer_count,
+        |i| transfer_right(o.bytes, &o.layout, i),
+    );
     constants
         .or(elements)
         .or(dos)

@@ -8,10 +8,11 @@ ghost use Rattle.rules_formats.specs.Punched.{right_number};
 ghost use Rattle.rules_formats.specs.Words.{word_kind, word_operand, is_end};
 ghost use Rattle.rules_object.specs.Check.{character, right_field, format_word, format_start, right_format, right_item, has_number, right_transfer};
 ghost use Rattle.rules_object.specs.Operations.{no_transfer, format_right};
+ghost use Rattle.object_contents.specs.Layout.{Placed, object_at};
 ghost use Rattle.object_contents.specs.Book.{book_of};
 ghost use Rattle.check_formats.specs.Formats.{no_item};
 
-use object_contents::Object;
+use object_contents::{Layout, Object};
 use object_words::{load, operand, operation};
 
 // The kinds of a FORMAT's words, which are any numbers until they are judged: no enum.
@@ -29,15 +30,16 @@ const LARGEST_NUMBER: u32 = 99999;
 
 // ---- body 8
 
-fn format_word(o: &Object, i: usize) -> u32
-    requires { i < o.now.layout.format_count }
-    ensures { result ≡ format_word (book_of o.now) i }
+// On bytes and places, as are those below but for `whole_right`: docs/TRACE.md names `first_bad`, `item_right` and `transfer_right`, so that they may ask no more than where the bodies stand.
+pub fn format_word(o: &[u8], e: &Layout, i: usize) -> u32
+    requires { Placed e.now o.now × (i < e.now.format_count) }
+    ensures { result ≡ format_word (object_at e.now o.now) i }
 {
-    load(o.bytes, o.layout.formats + 4 * i)
+    load(o, e.formats + 4 * i)
 }
 
 #[tactic(auto, unfolding(rules_formats::specs::Words::is_end))]
-fn is_end(w: u32) -> bool
+pub fn is_end(w: u32) -> bool
     ensures { result ≡ is_end w }
 {
     operation(w) == END
@@ -71,29 +73,30 @@ fn field_right(w: u32) -> bool
 }
 
 // The word at i of a FORMAT that begins at `start`.
-fn format_right(o: &Object, start: usize, i: usize) -> bool
-    requires { (i < o.now.layout.format_count) × (start ≡ format_start (book_of o.now) i) }
-    ensures { result ≡ right_format (book_of o.now) i }
+pub fn format_right(o: &[u8], e: &Layout, start: usize, i: usize) -> bool
+    requires { Placed e.now o.now × (i < e.now.format_count) × (start ≡ format_start (object_at e.now o.now) i) }
+    ensures { result ≡ right_format (object_at e.now o.now) i }
 {
-    let w = format_word(o, i);
+    let w = format_word(o, e, i);
     if is_end(w) {
         let back = operand(w) as usize;
         start <= back && back < i
     } else {
-        field_right(w) && i + 1 < o.layout.format_count
+        field_right(w) && i + 1 < e.format_count
     }
 }
 
 // The first word that fails.
-pub fn first_bad(o: &Object) -> Option<usize>
-    ensures { maybe (λ i. i) result ≡ first_from (right_format (book_of o.now)) o.now.layout.format_count 0 }
+pub fn first_bad(o: &[u8], e: &Layout) -> Option<usize>
+    requires { Placed e.now o.now }
+    ensures { maybe (λ i. i) result ≡ first_from (right_format (object_at e.now o.now)) e.now.format_count 0 }
 {
     let mut start = 0;
-    for i in 0..o.layout.format_count {
-        if !format_right(o, start, i) {
+    for i in 0..e.format_count {
+        if !format_right(o, e, start, i) {
             return Some(i);
         }
-        if is_end(format_word(o, i)) {
+        if is_end(format_word(o, e, i)) {
             start = i + 1;
         }
     }
@@ -106,10 +109,10 @@ pub fn whole_right(o: &Object, first: usize) -> bool
     ensures { result ≡ format_right (book_of o.now) first (drop first (book_of o.now).formats) }
 {
     for i in first..o.layout.format_count {
-        if !format_right(o, first, i) {
+        if !format_right(o.bytes, &o.layout, first, i) {
             return false;
         }
-        if is_end(format_word(o, i)) {
+        if is_end(format_word(o.bytes, &o.layout, i)) {
             return true;
         }
     }
@@ -118,37 +121,37 @@ pub fn whole_right(o: &Object, first: usize) -> bool
 
 // ---- body 9
 
-pub fn item_right(o: &Object, i: usize) -> bool
-    requires { i < o.now.layout.item_count }
-    ensures { result ≡ right_item (book_of o.now) (get_or (book_of o.now).items i no_item) }
+pub fn item_right(o: &[u8], e: &Layout, i: usize) -> bool
+    requires { Placed e.now o.now × (i < e.now.item_count) }
+    ensures { result ≡ right_item (object_at e.now o.now) (get_or (object_at e.now o.now).items i no_item) }
 {
-    let b = o.layout.items + 8 * i;
-    let first = load(o.bytes, b);
-    let count = load(o.bytes, b + 4);
+    let b = e.items + 8 * i;
+    let first = load(o, b);
+    let count = load(o, b + 4);
     if count == 0 {
-        (first as usize) < o.layout.element_count
+        (first as usize) < e.element_count
     } else {
-        u64::from(first) + u64::from(count) <= u64::from(o.layout.cells)
+        u64::from(first) + u64::from(count) <= u64::from(e.cells)
     }
 }
 
 // ---- body 10
 
 // A FORMAT begins at the first word of all, and after each end.
-fn begins_format(o: &Object, i: usize) -> bool
-    requires { i < o.now.layout.format_count }
-    ensures { result ≡ eqb (format_start (book_of o.now) i) i }
+fn begins_format(o: &[u8], e: &Layout, i: usize) -> bool
+    requires { Placed e.now o.now × (i < e.now.format_count) }
+    ensures { result ≡ eqb (format_start (object_at e.now o.now) i) i }
 {
-    i == 0 || is_end(format_word(o, i - 1))
+    i == 0 || is_end(format_word(o, e, i - 1))
 }
 
 // Whether an I stands before the FORMAT's end, from the word at `from` on.
-fn has_number(o: &Object, from: usize) -> bool
-    requires { from ≤ o.now.layout.format_count }
-    ensures { result ≡ has_number (drop from (book_of o.now).formats) }
+fn has_number(o: &[u8], e: &Layout, from: usize) -> bool
+    requires { Placed e.now o.now × (from ≤ e.now.format_count) }
+    ensures { result ≡ has_number (drop from (object_at e.now o.now).formats) }
 {
-    for i in from..o.layout.format_count {
-        let w = format_word(o, i);
+    for i in from..e.format_count {
+        let w = format_word(o, e, i);
         if is_end(w) {
             return false;
         }
@@ -159,16 +162,16 @@ fn has_number(o: &Object, from: usize) -> bool
     false
 }
 
-pub fn transfer_right(o: &Object, i: usize) -> bool
-    requires { i < o.now.layout.transfer_count }
-    ensures { result ≡ right_transfer (book_of o.now) (get_or (book_of o.now).transfers i no_transfer) }
+pub fn transfer_right(o: &[u8], e: &Layout, i: usize) -> bool
+    requires { Placed e.now o.now × (i < e.now.transfer_count) }
+    ensures { result ≡ right_transfer (object_at e.now o.now) (get_or (object_at e.now o.now).transfers i no_transfer) }
 {
-    let b = o.layout.transfers + 12 * i;
-    let format = load(o.bytes, b) as usize;
-    let first = load(o.bytes, b + 4) as usize;
-    let count = load(o.bytes, b + 8) as usize;
-    format < o.layout.format_count
-        && begins_format(o, format)
-        && first + count <= o.layout.item_count
-        && (count == 0 || has_number(o, format))
+    let b = e.transfers + 12 * i;
+    let format = load(o, b) as usize;
+    let first = load(o, b + 4) as usize;
+    let count = load(o, b + 8) as usize;
+    format < e.format_count
+        && begins_format(o, e, format)
+        && first + count <= e.item_count
+        && (count == 0 || has_number(o, e, format))
 }

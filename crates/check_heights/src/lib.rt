@@ -34,10 +34,10 @@ fn visit(o: &Object, table: &mut Table, work: &mut Work, start: usize) -> Option
         return None;
     }
     let h = g - p + pushes_of(op);
-    let n = width_of(o, op, x);
+    let n = width_of(o.bytes, &o.layout, op, x);
     let mut top = start;
     for k in 0..n {
-        let t = next_of(o, op, x, a, k);
+        let t = next_of(o.bytes, &o.layout, op, x, a, k);
         top = meet(t, o.layout.code_count, h, table, work, top)?;
     }
     Some(top)

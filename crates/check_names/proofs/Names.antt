@@ -1,7 +1,8 @@
 -- A name byte by byte.
 -- Assumes nothing.
 use mathlib.Core.Path.{◌≡◌, refl, ap, ◌∙◌}
-use Prim.Native.Nat.{ℕ, suc, ◌+◌, ◌-◌, ◌<◌}
+use Prim.Native.Nat.{ℕ, suc, ◌+◌, ◌-◌, ◌≤◌, ◌<◌}
+use native.Mathlib.Decide.{dec_lt}
 use native.Mathlib.Numerals.{add-one}
 use native.Mathlib.Omega.{arith}
 use mathlib.Core.Bool.{true, false, ◌&&◌, ◌||◌}
@@ -26,10 +27,12 @@ module _ (s : List ℕ) (eight : length s ≡ 8) where
       let f : 6 - k ≡ suc (6 - (k + 1)) = omega arith in
       rw (f, rest_at k (omega arith), q)
 
-  pub tail_stops : (k : ℕ) → k < 6 → (is_letter (get_or s k 0) || is_digit (get_or s k 0)) ≡ false → name_tail (6 - k) (drop k s) ≡ blanks (drop k s)
-  tail_stops k h q =
-      let f : 6 - k ≡ suc (6 - (k + 1)) = omega arith in
-      rw (f, rest_at k (omega arith), q)
+  pub tail_stops : (k : ℕ) → k ≤ 6 → (is_letter (get_or s k 0) || is_digit (get_or s k 0)) ≡ false → name_tail (6 - k) (drop k s) ≡ blanks (drop k s)
+  tail_stops k h q = go (dec_lt k 6)
+    where
+      go : Dec (k < 6) → name_tail (6 - k) (drop k s) ≡ blanks (drop k s)
+      go (yes l) = let f : 6 - k ≡ suc (6 - (k + 1)) = omega arith in rw (f, rest_at k (omega arith), q)
+      go (no l) = let f : 6 - k ≡ 0 = omega arith in rw f
 
   pub name_says : (end : ℕ) → NameEnd s end → (leb 73 (get_or s 0 0) && (leb (get_or s 0 0) 78 && list_all (λ c. eqb c 32) (drop end s))) ≡ right_name s
   name_says end n =

@@ -4,10 +4,10 @@
 ghost use Rattle.std.specs.Prelude.{◌≡◌, ◌+◌, ◌*◌, ◌≤◌, ◌<◌, ◌==◌, leb, length, get_or, drop};
 ghost use Rattle.std.specs.List.{list_all};
 ghost use Rattle.rules_object.specs.Check.{right_named, right_name, span};
-ghost use Rattle.object_contents.specs.Book.{book_of};
+ghost use Rattle.object_contents.specs.Layout.{Placed, object_at};
 ghost use Rattle.check_names.specs.Names.{no_name, NameEnd};
 
-use object_contents::Object;
+use object_contents::Layout;
 use object_words::load;
 
 // Exact: the words are 32 bits wide and the sum is not.
@@ -54,14 +54,15 @@ fn span_of(rows: u32, columns: u32) -> u64
     }
 }
 
-pub fn named_right(o: &Object, i: usize) -> bool
-    requires { i < o.now.layout.name_count }
-    ensures { result ≡ right_named (book_of o.now) (get_or (book_of o.now).names i no_name) }
+// On bytes and places, for docs/TRACE.md names it, so that it may ask no more than where the bodies stand.
+pub fn named_right(o: &[u8], e: &Layout, i: usize) -> bool
+    requires { Placed e.now o.now × (i < e.now.name_count) }
+    ensures { result ≡ right_named (object_at e.now o.now) (get_or (object_at e.now o.now).names i no_name) }
 {
-    let b = o.layout.names + 20 * i;
-    let rows = load(o.bytes, b + 12);
-    let columns = load(o.bytes, b + 16);
+    let b = e.names + 20 * i;
+    let rows = load(o, b + 12);
+    let columns = load(o, b + 16);
     let plain_or_table = 1 <= rows || columns == 0;
-    let last = u64::from(load(o.bytes, b + 8)) + span_of(rows, columns);
-    name_right(&o.bytes[b..b + 8]) && plain_or_table && last <= u64::from(o.layout.cells)
+    let last = u64::from(load(o, b + 8)) + span_of(rows, columns);
+    name_right(&o[b..b + 8]) && plain_or_table && last <= u64::from(e.cells)
 }

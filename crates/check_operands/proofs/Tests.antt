@@ -60,6 +60,10 @@ module _ (e : Layout) (s : List ℕ) (x : ℕ) where
   unfolding operand_right
   do_in n l h = one_of (λ k. ltb x e.do_count ≡ right_at e s x k) 14 2 n l h (rw (do_length e s), (rw (do_length e s), tt))
 
+  -- the same, as `grind` applies it
+  pub do_said : (n : ℕ) → 14 ≤ n → n < 16 → right_at e s x n ≡ ltb x e.do_count
+  do_said n l h = sym (do_in n l h)
+
   pub transfer_in : (n : ℕ) → 16 ≤ n → n < 18 → ltb x e.transfer_count ≡ right_at e s x n
   unfolding operand_right
   transfer_in n l h = one_of (λ k. ltb x e.transfer_count ≡ right_at e s x k) 16 2 n l h (rw (transfer_length e s), (rw (transfer_length e s), tt))

@@ -70,6 +70,7 @@ fn brc_right(o: &[u8], e: &Layout, x: usize) -> bool
     FEWEST_EXITS <= n && n <= MOST_EXITS && x + n < e.exit_count && targets_right(o, e, x + 1, n)
 }
 
+#[tactic(auto, using(crate::proofs::Tests::do_said))]
 fn operand_right(o: &[u8], e: &Layout, operation: u32, x: usize) -> bool
     requires { Placed e.now o.now × (x < 2 ^ 24) }
     ensures { result ≡ operand_right (object_at e.now o.now) operation x }
@@ -105,7 +106,7 @@ fn used_right(o: &Object, operation: u32, x: usize) -> bool
     match operation {
         CON => constant_right(o, x),
         LDE | STE => element_right(o, x),
-        DOI | DOE => loop_right(o, x),
+        DOI | DOE => loop_right(o.bytes, &o.layout, x),
         READ | PRINT => transfer_right(o, x),
         _ => true,
     }

@@ -16,7 +16,7 @@ fn item_right(o: &Object, i: usize) -> bool
     ensures { result ≡ item_right (book_of o.now) (get_or (book_of o.now).items i no_item) }
 {
     let b = o.layout.items + 8 * i;
-    check_formats::item_right(o, i)
+    check_formats::item_right(o.bytes, &o.layout, i)
         && (load(o.bytes, b + 4) != 0 || element_right(o, load(o.bytes, b) as usize))
 }
 
@@ -37,7 +37,7 @@ pub fn transfer_right(o: &Object, x: usize) -> bool
     requires { x < o.now.layout.transfer_count }
     ensures { result ≡ transfer_right (book_of o.now) x }
 {
-    if !check_formats::transfer_right(o, x) {
+    if !check_formats::transfer_right(o.bytes, &o.layout, x) {
         return false;
     }
     let b = o.layout.transfers + 12 * x;

@@ -5,4 +5,4 @@ use Rattle.check_entries.proofs.line_right.Goals as goal
 
 pub returns : goal.returns
 returns c =
-    c.in_code.ensures ∙ line_says _ _ c.args.i c.requires
+    c.in_code.ensures ∙ line_says _ _ c.args.i c.requires.1

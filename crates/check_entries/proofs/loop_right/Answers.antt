@@ -7,8 +7,8 @@ use Rattle.check_entries.proofs.loop_right.Goals as goal
 
 pub returns-then-in_cells-3 : goal.returns-then-in_cells-3
 returns-then-in_cells-3 c =
-    rw (loop_says c.args.o.now.layout c.args.o.now.bytes.now c.args.i c.requires _ refl) (grind (arith, nat_tests))
+    rw (loop_says c.args.e.now c.args.o.now c.args.i c.requires.1 _ refl) (grind (arith, nat_tests))
 
 pub returns-else-in_cells-3 : goal.returns-else-in_cells-3
 returns-else-in_cells-3 c =
-    rw (loop_says c.args.o.now.layout c.args.o.now.bytes.now c.args.i c.requires _ refl) (grind (arith, nat_tests))
+    rw (loop_says c.args.e.now c.args.o.now c.args.i c.requires.1 _ refl) (grind (arith, nat_tests))

@@ -5,4 +5,4 @@ use Rattle.check_formats.proofs.format_word.Goals as goal
 
 pub returns : goal.returns
 returns c =
-    c.load.ensures ∙ sym (format_at_lem c.args.o.now.layout c.args.o.now.bytes.now c.args.i c.requires)
+    c.load.ensures ∙ sym (format_at_lem c.args.e.now c.args.o.now c.args.i c.requires.1)

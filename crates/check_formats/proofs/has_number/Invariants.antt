@@ -2,8 +2,8 @@
 use mathlib.Core.Path.{◌≡◌}
 use lib.ListN.{drop}
 use Rattle.rules_object.specs.Check.{has_number}
-use Rattle.object_contents.specs.Book.{book_of}
+use Rattle.object_contents.specs.Layout.{object_at}
 use Rattle.check_formats.proofs.has_number.Given as goal
 
 abbrev pub invariant-loop-i : goal.invariant-loop-i
-invariant-loop-i l = (has_number (drop l.from (book_of l.o).formats) ≡ has_number (drop l.i (book_of l.o).formats))
+invariant-loop-i l = (has_number (drop l.from (object_at l.e l.o).formats) ≡ has_number (drop l.i (object_at l.e l.o).formats))

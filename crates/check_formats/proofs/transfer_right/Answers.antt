@@ -6,12 +6,12 @@ use Rattle.check_formats.proofs.transfer_right.Goals as goal
 
 pub returns-then-count-eq0 : goal.returns-then-count-eq0
 returns-then-count-eq0 c =
-    rw (transfer_says c.args.o.now.layout c.args.o.now.bytes.now c.args.i c.requires _ _ _ c.load-format.ensures c.load-first.ensures c.load-count.ensures) (grind (arith, nat_tests))
+    rw (transfer_says c.args.e.now c.args.o.now c.args.i c.requires.1 _ _ _ c.load-format.ensures c.load-first.ensures c.load-count.ensures) (grind (arith, nat_tests))
 
 pub returns-else-count-eq0 : goal.returns-else-count-eq0
 returns-else-count-eq0 c =
-    rw (transfer_says c.args.o.now.layout c.args.o.now.bytes.now c.args.i c.requires _ _ _ c.load-format.ensures c.load-first.ensures c.load-count.ensures) (grind (arith, nat_tests))
+    rw (transfer_says c.args.e.now c.args.o.now c.args.i c.requires.1 _ _ _ c.load-format.ensures c.load-first.ensures c.load-count.ensures) (grind (arith, nat_tests))
 
 pub returns-else-first-count : goal.returns-else-first-count
 returns-else-first-count c =
-    rw (transfer_says c.args.o.now.layout c.args.o.now.bytes.now c.args.i c.requires _ _ _ c.load-format.ensures c.load-first.ensures c.load-count.ensures) (grind (arith, nat_tests))
+    rw (transfer_says c.args.e.now c.args.o.now c.args.i c.requires.1 _ _ _ c.load-format.ensures c.load-first.ensures c.load-count.ensures) (grind (arith, nat_tests))

@@ -113,7 +113,7 @@ width_of-n-requires c =
     let fil = c.requires.filling in
     let inn = waits_inside e s H W b isa fil in
     let d = decoded c.args.o.now a c.load-w.result c.operation-op.result c.operand-x.result jud inn c.load-w.ensures c.operation-op.ensures.0 c.operand-x.ensures.0 in
-    d.right
+    (pl, d.right)
 
 pub loop-k-init : goal.loop-k-init
 loop-k-init c =
@@ -147,7 +147,7 @@ next_of-t-requires c =
     let fil = c.requires.filling in
     let inn = waits_inside e s H W b isa fil in
     let d = decoded c.args.o.now a c.load-w.result c.operation-op.result c.operand-x.result jud inn c.load-w.ensures c.operation-op.ensures.0 c.operand-x.ensures.0 in
-    record { right = d.right; bound = (omega (arith, inn, code_within c.args.o.now jud), omega (arith, c.width_of-n.ensures a, c.loop-k-test.true)) }
+    record { placed = (pl, d.right); bound = (omega (arith, inn, code_within c.args.o.now jud), omega (arith, c.width_of-n.ensures a, c.loop-k-test.true)) }
 
 pub meet-requires : goal.meet-requires
 meet-requires c =

@@ -12,7 +12,7 @@ pub returns-then-not-is_ascii_digit : goal.returns-then-not-is_ascii_digit
 returns-then-not-is_ascii_digit c =
     let x = get_or c.args.name.now c.loop-k.k 0 in
     let no : (is_letter x || is_digit x) ≡ false = grind (arith, nat_tests) in
-    record { some = omega arith; most = omega arith; rest = c.loop-k.invariant ∙ tail_stops _ c.requires _ c.loop-k-test.true no }
+    record { some = omega arith; most = omega arith; rest = c.loop-k.invariant ∙ tail_stops _ c.requires _ (omega arith) no }
 
 pub loop-k-preserved : goal.loop-k-preserved
 loop-k-preserved c =

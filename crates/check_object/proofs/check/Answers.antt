@@ -2,6 +2,7 @@
 use mathlib.Core.Path.{refl, sym, ap, ◌∙◌}
 use mathlib.Core.List.{List}
 use Prim.Native.Nat.{ℕ}
+use native.Mathlib.Omega.{arith}
 use Rattle.std.specs.Prelude.{Result, Ok, Err}
 use Rattle.std.specs.Result.{IsErrAnd}
 use Rattle.refusals.specs.Answers.{refusal_of}
@@ -26,7 +27,7 @@ returns-then-not-limits_right c =
 pub of_digits-rule-requires : goal.of_digits-rule-requires
 of_digits-rule-requires c =
     let s = c.args.bytes.now in
-    digits_low c.in-Some.layout s c.in-Some.ensures.placed (sym (c.limits_right.ensures s) ∙ c.if-not-limits_right.false)
+    omega (arith, digits_low c.in-Some.layout s c.in-Some.ensures.placed (sym (c.limits_right.ensures s) ∙ c.if-not-limits_right.false))
 
 pub judge-requires-clause-right : goal.judge-requires-clause-right
 judge-requires-clause-right c =

@@ -16,7 +16,7 @@ pub element_right-requires : goal.element_right-requires
 element_right-requires c = ltb-true _ _ (element_in_lem c.args.o.now.layout c.args.o.now.bytes.now c.args.x c.args.operation (omega arith) (omega arith) ∙ c.requires)
 
 pub loop_right-requires : goal.loop_right-requires
-loop_right-requires c = ltb-true _ _ (do_in c.args.o.now.layout c.args.o.now.bytes.now c.args.x c.args.operation (omega arith) (omega arith) ∙ c.requires)
+loop_right-requires c = (c.args.o.now.placed, ltb-true _ _ (do_in c.args.o.now.layout c.args.o.now.bytes.now c.args.x c.args.operation (omega arith) (omega arith) ∙ c.requires))
 
 pub transfer_right-requires : goal.transfer_right-requires
 transfer_right-requires c = ltb-true _ _ (transfer_in c.args.o.now.layout c.args.o.now.bytes.now c.args.x c.args.operation (omega arith) (omega arith) ∙ c.requires)

@@ -18,14 +18,14 @@ body_is e s i l = sym (ap (λ (d : Loop). d.body) (do_at_lem e s i no_loop l))
 
 pub load-requires : goal.load-requires
 load-requires c =
-    let e = c.args.o.now.layout in
-    let s = c.args.o.now.bytes.now in
+    let e = c.args.e.now in
+    let s = c.args.o.now in
     let i = c.args.i in
-    omega (arith, do_inside e s c.args.o.now.placed i c.requires)
+    omega (arith, do_inside e s c.requires.0 i c.requires.1)
 
 pub returns : goal.returns
 returns c =
-    let e = c.args.o.now.layout in
-    let s = c.args.o.now.bytes.now in
+    let e = c.args.e.now in
+    let s = c.args.o.now in
     let i = c.args.i in
-    c.load.ensures ∙ body_is e s i c.requires
+    c.load.ensures ∙ body_is e s i c.requires.1

@@ -5,14 +5,14 @@ use Rattle.check_successors.proofs.exit_at.Goals as goal
 
 pub load-requires : goal.load-requires
 load-requires c =
-    let e = c.args.o.now.layout in
-    let s = c.args.o.now.bytes.now in
+    let e = c.args.e.now in
+    let s = c.args.o.now in
     let i = c.args.i in
-    exit_inside e s c.args.o.now.placed i c.requires
+    exit_inside e s c.requires.0 i c.requires.1
 
 pub returns : goal.returns
 returns c =
-    let e = c.args.o.now.layout in
-    let s = c.args.o.now.bytes.now in
+    let e = c.args.e.now in
+    let s = c.args.o.now in
     let i = c.args.i in
-    c.load.ensures ∙ sym (exit_at_lem e s i c.requires)
+    c.load.ensures ∙ sym (exit_at_lem e s i c.requires.1)
