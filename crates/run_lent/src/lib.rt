@@ -47,9 +47,9 @@ fn state_right(
     index: u32,
     height: u32,
     mark: u32,
-    places: &[i64; STACK],
+    places: &[i64],
 ) -> bool
-    requires { e.now.code_count ≤ 4096 }
+    requires { (e.now.code_count ≤ 4096) × (length places.now ≡ 40) }
     ensures { (s : List ℕ) → ruled rule ≡ rule_of (object_at e.now s) → result ≡ right52 (object_at e.now s) (take e.now.code_count table.now) (lent index height mark places.now) }
 {
     // A ladder: tried as one `&&`, whose value the check knows only by a case for each part.
@@ -78,9 +78,9 @@ pub fn lent_wrong(
     index: u32,
     height: u32,
     mark: u32,
-    places: &[i64; STACK],
+    places: &[i64],
 ) -> Result<(), Reason>
-    requires { e.now.code_count ≤ 4096 }
+    requires { (e.now.code_count ≤ 4096) × (length places.now ≡ 40) }
     ensures { (s : List ℕ) → ruled rule ≡ rule_of (object_at e.now s) → refused_by result ≡ refused50to52 (object_at e.now s) (take e.now.code_count table.now) store.now (lent index height mark places.now) }
 {
     store_wrong(e, rule, store)?;
@@ -92,8 +92,8 @@ pub fn lent_wrong(
 }
 
 // Places from the height on are 0.
-pub fn clear(places: &mut [i64; STACK], height: usize)
-    requires { height ≤ 40 }
+pub fn clear(places: &mut [i64], height: usize)
+    requires { (height ≤ 40) × (length places.old ≡ 40) }
     ensures { Cleared places.old places.new height }
 {
     places[height..].fill(0);

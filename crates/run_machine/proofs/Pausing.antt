@@ -60,15 +60,15 @@ module _ (guarded : Bool) (ob : Lent) (allowance : ℕ) (start : Regs) (st₀ so
     pub guard_is : guarded ≡ false → guard_of O r.index r.height ≡ Ok tt
     guard_is q = let w = g.safe q in rights_guard ob r st so w.devices g.held w.rights
 
-    -- the allowance is used
-    pub used : allowance ≤ i → PausesAs Used i r st so
-    used l = record { before = i; steps = refl; most = g.most; held = g.held; comes = g.comes; why = omega (arith, g.most) }
+    -- the allowance is used, and told
+    pub used : (n : ℕ) → allowance ≤ i → n ≡ allowance → PausesAs Used n r st so
+    used n l q = record { before = i; steps = omega (arith, g.most); most = omega arith; held = g.held; comes = g.comes; why = omega (arith, g.most) }
 
-    module _ (l : i < allowance) where
-      pauses : (p : Pause) → i + 1 ≡ counted p i → Because O allowance i r st so p → PausesAs p (i + 1) r st so
-      pauses p n w = record { before = i; steps = n; most = omega arith; held = g.held; comes = g.comes; why = w }
+    module _ (l : i < allowance) (told : ℕ) (one_more : told ≡ i + 1) where
+      pauses : (p : Pause) → i + 1 ≡ counted p i → Because O allowance i r st so p → PausesAs p told r st so
+      pauses p n w = record { before = i; steps = one_more ∙ n; most = omega arith; held = g.held; comes = g.comes; why = w }
 
-      pub guard_halts : (n : opcodes.Halt) → Err n ≡ guard_of O r.index r.height → PausesAs (Halted n) (i + 1) r st so
+      pub guard_halts : (n : opcodes.Halt) → Err n ≡ guard_of O r.index r.height → PausesAs (Halted n) told r st so
       guard_halts n a = pauses (Halted n) refl (λ v. guard_stops O (state_of r st so v) n (a ∙ guard_at ob r st so v g.held))
 
       module _ (z : guard_of O r.index r.height ≡ Ok tt) (a : After) (is : a ≡ performed (rule_of O) (instruction O r.index) r st so) where
@@ -86,11 +86,11 @@ module _ (guarded : Bool) (ob : Lent) (allowance : ℕ) (start : Regs) (st₀ so
             }
 
         -- one that leaves all as it was
-        as_it_was : (p : Pause) → (a.places ≡ st) × (a.store ≡ so) → PausesAs p (i + 1) r st so → PausesAs p (i + 1) r a.places a.store
-        as_it_was p b h = subst (λ c. PausesAs p (i + 1) r a.places c) (sym b.1) (subst (λ c. PausesAs p (i + 1) r c so) (sym b.0) h)
+        as_it_was : (p : Pause) → (a.places ≡ st) × (a.store ≡ so) → PausesAs p told r st so → PausesAs p told r a.places a.store
+        as_it_was p b h = subst (λ c. PausesAs p told r a.places c) (sym b.1) (subst (λ c. PausesAs p told r c so) (sym b.0) h)
 
-        pub halts : (n : opcodes.Halt) → a.turn ≡ turn.Halt n → PausesAs (Halted n) (i + 1) r a.places a.store
+        pub halts : (n : opcodes.Halt) → a.turn ≡ turn.Halt n → PausesAs (Halted n) told r a.places a.store
         halts n b = as_it_was (Halted n) (stops_there ob r st so none g.held z a is n b).0 (pauses (Halted n) refl (λ v. (stops_there ob r st so v g.held z a is n b).1))
 
-        pub transfers : a.turn ≡ turn.Transfer → PausesAs Transfer (i + 1) r a.places a.store
+        pub transfers : a.turn ≡ turn.Transfer → PausesAs Transfer told r a.places a.store
         transfers b = let x = left_over ob r st so none g.held z a is b in as_it_was Transfer x.1 (pauses Transfer refl (z, x.0))

@@ -9,6 +9,7 @@ ghost use Rattle.rules_object.specs.Machine.{bench_step};
 ghost use Rattle.rules_object.specs.Machine as book;
 ghost use Rattle.rules_object.specs.Calls.{run_from, sequence_of};
 ghost use Rattle.rules_object.specs.Safe.{Faultless};
+ghost use Rattle.object_contents.specs.Layout.{Placed, object_at};
 ghost use Rattle.object_contents.specs.Book.{book_of};
 ghost use Rattle.run_registers.specs.Registers.{state_of};
 ghost use Rattle.run_registers.specs.Devices.{trays_of};
@@ -18,6 +19,7 @@ ghost use Rattle.run_guards.specs.Guarding.{guard_of, Sees};
 ghost use Rattle.run_machine.specs.Running.{answer, NoFault, Pauses};
 
 use limits::{CELLS, CODE, STACK};
+use object_contents::Layout;
 use object_contents::placed::Object;
 use object_opcodes::Halt;
 use run_guards::Seen;
@@ -230,18 +232,20 @@ pub fn bench(
 }
 
 // The sequence number of the last statement at or before the instruction that the mark names.
-pub fn sequence(o: &Object, mark: u32) -> u32
-    ensures { result ≡ sequence_of (book_of o.now).lines mark }
+// On bytes and places, for docs/TRACE.md names it, so that it may ask no more than where the bodies stand.
+pub fn sequence(o: &[u8], e: &Layout, mark: u32) -> u32
+    requires { Placed e.now o.now }
+    ensures { result ≡ sequence_of (object_at e.now o.now).lines mark }
 {
     if mark == 0 {
         return 0;
     }
     let address = mark - 1;
     let mut found = 0;
-    for i in 0..o.layout.line_count {
-        let line = o.layout.lines + 12 * i;
-        if object_words::load(o.bytes, line + 8) <= address {
-            found = object_words::load(o.bytes, line);
+    for i in 0..e.line_count {
+        let line = e.lines + 12 * i;
+        if object_words::load(o, line + 8) <= address {
+            found = object_words::load(o, line);
         }
     }
     found

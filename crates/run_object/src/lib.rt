@@ -65,7 +65,7 @@ fn finish(o: &Object, q: run_machine::Ran, index: &mut u32, height: &mut u32, ma
         kind: 0,
         halt: q.halt.number(),
         steps: q.steps,
-        sequence: run_machine::sequence(o, q.regs.mark),
+        sequence: run_machine::sequence(o.bytes, &o.layout, q.regs.mark),
         cards: q.trays.taken,
         lines: q.trays.written,
     }

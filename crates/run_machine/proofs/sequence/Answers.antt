@@ -8,13 +8,12 @@ use Rattle.run_machine.proofs.sequence.Goals as goal
 use Rattle.run_machine.proofs.sequence.Goals.{then-load-address, else-load-address}
 
 pub returns-then-mark-eq0 : goal.returns-then-mark-eq0
-returns-then-mark-eq0 c = let o = c.args.o.now in sequence_none o.bytes.now o.layout c.args.mark c.if-mark-eq0.true
+returns-then-mark-eq0 c = sequence_none c.args.o.now c.args.e.now c.args.mark c.if-mark-eq0.true
 
 pub loop-i-preserved : goal.loop-i-preserved
 loop-i-preserved c =
-    let o = c.args.o.now in
-    let s = o.bytes.now in
-    let e = o.layout in
+    let s = c.args.o.now in
+    let e = c.args.e.now in
     let l = c.loop-i in
     let k = c.args.mark - 1 in
     elim c.if-load-address.branch [
@@ -24,7 +23,8 @@ loop-i-preserved c =
 
 pub returns : goal.returns
 returns c =
-    let o = c.args.o.now in
+    let s = c.args.o.now in
+    let e = c.args.e.now in
     let l = c.loop-i in
     let k = c.args.mark - 1 in
-    sym (lines_over o.bytes.now o.layout l.i k l.found (omega arith)) ∙ sym l.invariant ∙ sequence_is o.bytes.now o.layout c.args.mark k c.if-mark-eq0.false refl
+    sym (lines_over s e l.i k l.found (omega arith)) ∙ sym l.invariant ∙ sequence_is s e c.args.mark k c.if-mark-eq0.false refl

@@ -5,4 +5,4 @@ use Rattle.run_machine.proofs.Sequences.{rest}
 use Rattle.run_machine.proofs.sequence.Given as goal
 
 abbrev pub invariant-loop-i : goal.invariant-loop-i
-invariant-loop-i l = last_at (rest l.o.bytes.now l.o.layout 0) l.address 0 ≡ last_at (rest l.o.bytes.now l.o.layout l.i) l.address l.found
+invariant-loop-i l = last_at (rest l.o l.e 0) l.address 0 ≡ last_at (rest l.o l.e l.i) l.address l.found

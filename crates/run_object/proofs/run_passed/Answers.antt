@@ -7,7 +7,7 @@ use Rattle.run_object.proofs.Runs.{made, run_refused, height_low, run_held, no_f
 use Rattle.run_object.proofs.run_passed.Goals as goal
 
 pub lent_wrong-judged-requires : goal.lent_wrong-judged-requires
-lent_wrong-judged-requires c = few_words c.args.o.now _ _ c.requires.1
+lent_wrong-judged-requires c = (few_words c.args.o.now _ _ c.requires.1, omega arith)
 
 pub returns-in-Err : goal.returns-in-Err
 returns-in-Err c =
@@ -20,7 +20,7 @@ clear-requires c =
     let a = c.args in
     let o = a.o.now in
     let forty : length a.places.now ≡ 40 = omega arith in
-    height_low o _ a.table.now a.store.now a.index.now a.height.now a.mark.now a.places.now (trays_of a.cards.now a.lines.now) a.allowance c.requires.1 forty (c.in_default.ensures o.bytes.now o.ruled)
+    (height_low o _ a.table.now a.store.now a.index.now a.height.now a.mark.now a.places.now (trays_of a.cards.now a.lines.now) a.allowance c.requires.1 forty (c.in_default.ensures o.bytes.now o.ruled), forty)
 
 pub run-q-requires : goal.run-q-requires
 run-q-requires c =
