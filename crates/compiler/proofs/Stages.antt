@@ -29,6 +29,8 @@ use Rattle.rules_deck.proofs.MapNames.{name_among}
 use Rattle.rules_deck.proofs.BodySeven.{each_here}
 use Rattle.rules_deck.proofs.RightDeck.{each_among}
 use Rattle.read_cards.specs.declared.Sequence.{Sequence}
+use Rattle.refused_statements.specs.declared.AtStatement.{AtStatement}
+use Rattle.refused_statements.specs.Places.{as_refusal}
 use Rattle.read_deck_cards.specs.Judging.{Judges}
 use Rattle.take_draft.specs.declared.Counts.{Counts}
 use Rattle.take_draft.specs.Names.{Told}
@@ -85,7 +87,7 @@ module _ {k : ℕ} {deck : List Statement} {n : Counts} {lent : Words} (h : Hold
   pub low : Each LowNumber deck
   low = numbered (house1401 k) h.bytes deck h.is
 
-  pub whole_refused : (output : List ℕ) (r : code.Refusal) → whole.Judged deck (Err r) → answer (Err r) output ≡ write_read (house1401 k) output (judge_read (read deck))
+  pub whole_refused : (output : List ℕ) (r : AtStatement) → whole.Judged deck (Err r) → answer (Err (as_refusal r)) output ≡ write_read (house1401 k) output (judge_read (read deck))
   whole_refused output r e = sym (ap (λ (o : Option Refusal). write_read (house1401 k) output (or_refuse deck o)) e)
 
   accepted_deck : judge_deck deck ≡ none → Accepted (house1401 k) deck
@@ -143,7 +145,7 @@ module _ (k : ℕ) (bytes : List ℕ) (ps : List Punched) (cards : carded (house
   statements_read : read_carded (house1401 k) (carded (house1401 k) bytes) ≡ read_from (house1401 k) 0 nothing_taken ps
   statements_read = ap (read_carded (house1401 k)) cards
 
-  pub statements_refused : {lent : Words} {r : code.Refusal} (output : List ℕ) → Drafts (read_from (house1401 k) 0 nothing_taken ps) lent (Err r) → answer (Err r) output ≡ compiling (house1401 k) bytes output
+  pub statements_refused : {lent : Words} {r : AtStatement} (output : List ℕ) → Drafts (read_from (house1401 k) 0 nothing_taken ps) lent (Err r) → answer (Err (as_refusal r)) output ≡ compiling (house1401 k) bytes output
   unfolding compiling deck_of
   statements_refused output (refused r e) = sym (ap (λ (o : Read). write_read (house1401 k) output (judge_read o)) (statements_read ∙ e))
 

@@ -167,7 +167,7 @@ module _ {k : ℕ} {deck : List ℕ} {ps : List Punched} {card : ℕ} {lent : Wo
       let x = steps_ended (subst (Steps k deck card (taken_by g.done) (draft_of g.done) n lent') e turn) in
       kept g.done n (going_ended g x.0) g.counted g.fit x.1
 
-  pub turn_refused : (e : Reason) → r ≡ Err e → Drafts (read_from (house1401 k) 0 nothing_taken ps) lent' (Err (record { reason = e; place = n.statements + 1; kind = 0 }))
+  pub turn_refused : (e : Reason) → r ≡ Err e → Drafts (read_from (house1401 k) 0 nothing_taken ps) lent' (Err (record { reason = e; place = record { 0 = n.statements + 1 } }))
   turn_refused e q =
       let x = steps_refused (subst (Steps k deck card (taken_by g.done) (draft_of g.done) n lent') q turn) in
       let z : suc n.statements ≡ n.statements + 1 = omega arith in

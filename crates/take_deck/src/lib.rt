@@ -9,7 +9,8 @@ ghost use Rattle.rules_deck.specs.Compile.{read_from};
 ghost use Rattle.take_draft.specs.Kept.{Room, words_of};
 ghost use Rattle.take_deck.specs.Drafted.{Begins, Drafts};
 
-use refusals::Refusal;
+use read_cards::Sequence;
+use refused_statements::AtStatement;
 use take_draft::{Counts, Tables};
 
 fn long<T, const N: usize>(words: &[T; N])
@@ -30,7 +31,7 @@ pub fn room(t: &Tables)
     long(t.jumps);
 }
 
-pub fn draft(k: u32, deck: &[u8], items: &mut [u64], t: &mut Tables) -> Result<Counts, Refusal>
+pub fn draft(k: u32, deck: &[u8], items: &mut [u64], t: &mut Tables) -> Result<Counts, AtStatement>
     requires { Begins k deck.now items.old (words_of t.old) }
     ensures { (ps : List Punched) → carded (house1401 k) deck.now ≡ statements ps → Drafts (read_from (house1401 k) 0 nothing_taken ps) (words_of t.new) result }
 {
@@ -56,10 +57,9 @@ pub fn draft(k: u32, deck: &[u8], items: &mut [u64], t: &mut Tables) -> Result<C
                 n = kept.counts;
             }
             Err(reason) => {
-                return Err(Refusal {
+                return Err(AtStatement {
                     reason,
-                    place: n.statements as u32 + 1,
-                    kind: 0,
+                    place: Sequence(n.statements as u32 + 1),
                 });
             }
         }

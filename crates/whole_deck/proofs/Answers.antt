@@ -7,7 +7,6 @@ use mathlib.Core.List.{List}
 use mathlib.Core.Option.{Option, none, some}
 use Rattle.std.specs.Prelude.{Result, Ok, Err}
 use Rattle.std.specs.Result.{IsErrAnd}
-use Rattle.refusals.specs.declared.Refusal as code
 use Rattle.rules_shared.specs.Refusals.{Refusal, or_else}
 use Rattle.rules_deck.specs.Whole.{refused_at}
 use Rattle.rules_deck.proofs.TestLaws.{not_refused}
@@ -19,9 +18,9 @@ use Rattle.whole_numbers.proofs.Resolving.{all_resolved}
 use Rattle.whole_deck.specs.Parts.{numbers_refused, ByNumber}
 
 -- an error is passed on as it is
-pub passed_on : {A : Type 0} (P : Result A code.Refusal → Type 0) (r : code.Refusal) (o : Result A code.Refusal) → IsErrAnd o (λ e. e ≡ r) → P (Err r) → P o
+pub passed_on : {A E : Type 0} (P : Result A E → Type 0) (r : E) (o : Result A E) → IsErrAnd o (λ e. e ≡ r) → P (Err r) → P o
 passed_on P r (Ok x) e h = absurd e
-passed_on P r (Err s) e h = subst (λ (x : code.Refusal). P (Err x)) (sym e) h
+passed_on P r (Err s) e h = subst (λ x. P (Err x)) (sym e) h
 
 pub here : {o : Option Refusal} {x : Refusal} (p : Option Refusal) → some x ≡ o → or_else o p ≡ some x
 here {o} {x} p e = ap (λ (o : Option Refusal). or_else o p) (sym e)

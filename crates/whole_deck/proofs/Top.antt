@@ -21,9 +21,10 @@ use Rattle.read_cards.specs.declared.Number.{Number}
 use Rattle.take_draft.specs.Sketch.{deck_jumps}
 use Rattle.whole_tables.specs.declared.DoRange.{DoRange}
 use Rattle.std.specs.Prelude.{Ok, Err}
-use Rattle.refusals.specs.declared.Refusal as code
 use Rattle.refusals.specs.Answers.{refusal_of}
 use Rattle.read_cards.specs.declared.Sequence.{Sequence}
+use Rattle.refused_statements.specs.declared.AtStatement.{AtStatement}
+use Rattle.refused_statements.specs.Places.{as_refusal}
 use Rattle.whole_tables.specs.Rows.{start_of, last_index}
 use Rattle.whole_tables.specs.Tables.{number_in, place_in, Wanted, RowsFit, NumbersOf, LoopsFit, LoopsOf, do_at, last_at}
 use Rattle.whole_numbers.specs.Numbers.{place_of}
@@ -198,14 +199,14 @@ module _ (rows : List ℕ) (count : ℕ) (loops : List ℕ) (dos : ℕ) (before 
         pub judged_right : none ≡ ranges_refused rows count table places → Judged deck (Ok places)
         judged_right e = (whole_is ∙ sym e, has_place)
 
-        pub judged_ranges : (r : code.Refusal) → some (refusal_of r) ≡ ranges_refused rows count table places → Judged deck (Err r)
+        pub judged_ranges : (r : AtStatement) → some (refusal_of (as_refusal r)) ≡ ranges_refused rows count table places → Judged deck (Err r)
         judged_ranges r e = whole_is ∙ sym e
 
     -- refused by 20 to 22
-    pub judged_numbers : (r : code.Refusal) → ByNumber rows numbers count wanted (Err r) → Judged deck (Err r)
+    pub judged_numbers : (r : AtStatement) → ByNumber rows numbers count wanted (Err r) → Judged deck (Err r)
     unfolding judge_deck
     judged_numbers r e =
-        let a : or_else (refused_at 20 (refused20 deck)) (or_else (refused_at 21 (first_wrong (right21 deck) 0 deck)) (refused_at 22 (first_wrong (right22 deck) 0 deck))) ≡ some (refusal_of r) = sym numbers_are ∙ e in
+        let a : or_else (refused_at 20 (refused20 deck)) (or_else (refused_at 21 (first_wrong (right21 deck) 0 deck)) (refused_at 22 (first_wrong (right22 deck) 0 deck))) ≡ some (refusal_of (as_refusal r)) = sym numbers_are ∙ e in
         let rest = or_else (refused_at 23 (first_wrong_do deck (dos_of deck))) (or_else (refused_at 24 (first_wrong (right24 deck) 0 deck)) (refused_at 25 (first_wrong (right25 deck) 0 deck))) in
         sym (six (refused_at 20 (refused20 deck)) (refused_at 21 (first_wrong (right21 deck) 0 deck)) (refused_at 22 (first_wrong (right22 deck) 0 deck)) (refused_at 23 (first_wrong_do deck (dos_of deck))) (refused_at 24 (first_wrong (right24 deck) 0 deck)) (refused_at 25 (first_wrong (right25 deck) 0 deck)))
         ∙ ap (λ (o : Option Refusal). or_else o rest) a

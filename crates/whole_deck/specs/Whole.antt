@@ -3,9 +3,10 @@
 use Rattle.std.specs.Prelude.{◌≡◌, ℕ, suc, ◌*◌, ◌≤◌, ◌<◌, List, length, take, get_or, Result, Ok, Err}
 use Rattle.std.proofs.Math.Option.{none, some}
 use Rattle.rules_shared.specs.Limits.{limits}
-use Rattle.refusals.specs.declared.Refusal.{Refusal}
 use Rattle.refusals.specs.Answers.{refusal_of}
 use Rattle.read_cards.specs.declared.Sequence.{Sequence}
+use Rattle.refused_statements.specs.declared.AtStatement.{AtStatement}
+use Rattle.refused_statements.specs.Places.{as_refusal}
 use Rattle.rules_shared.specs.Lists.{Each}
 use Rattle.rules_text.specs.Trees.{Statement}
 use Rattle.rules_deck.specs.Deck.{position_of}
@@ -48,6 +49,6 @@ pub record Stands (deck : List Statement) (n place : ℕ) : Type 0 where
   pub low : position_of deck n < length deck
 
 -- the answer is the book's, and each number of a deck that is right has its statement's place
-abbrev pub Judged : List Statement → Result (List Sequence) Refusal → Type 0
+abbrev pub Judged : List Statement → Result (List Sequence) AtStatement → Type 0
 Judged deck (Ok places) = (judge_deck deck ≡ none) × ((k : ℕ) → k < length (deck_jumps deck) → Stands deck (get_or (deck_jumps deck) k 0) (place_in places k))
-Judged deck (Err r) = judge_deck deck ≡ some (refusal_of r)
+Judged deck (Err r) = judge_deck deck ≡ some (refusal_of (as_refusal r))

@@ -4,31 +4,27 @@
 ghost use Rattle.std.specs.Prelude.{◌≡◌, List, ◌≤◌, length};
 ghost use Rattle.rules_text.specs.Trees.{Statement};
 ghost use Rattle.rules_deck.specs.Whole.{refused_at};
-ghost use Rattle.refusals.specs.Answers.{refused};
 ghost use Rattle.refusals.specs.Numbers.{number_of};
 ghost use Rattle.whole_tables.specs.Rows.{start_of};
 ghost use Rattle.whole_tables.specs.Tables.{RowsFit};
 ghost use Rattle.whole_numbers.specs.Numbers.{found_of};
 ghost use Rattle.whole_ranges.specs.Ranges.{Ranged};
 ghost use Rattle.whole_deck.specs.Whole.{Sketched, Whole, Judged};
-ghost use Rattle.whole_deck.specs.Parts.{ByNumber, ranges_refused, Inside, Positioned};
+ghost use Rattle.whole_deck.specs.Parts.{refused, ByNumber, ranges_refused, Inside, Positioned};
 
 use limits::JUMPS;
 use read_cards::{Number, Sequence};
-use refusals::{Reason, Refusal};
+use refusals::Reason;
+use refused_statements::AtStatement;
 use whole_tables::DoRange;
 
 // Refused by a reason at the statement that is found.
-fn none_found(reason: Reason, found: Option<Sequence>) -> Result<(), Refusal>
+fn none_found(reason: Reason, found: Option<Sequence>) -> Result<(), AtStatement>
     ensures { refused result ≡ refused_at (number_of reason) (found_of found) }
 {
     match found {
         None => Ok(()),
-        Some(place) => Err(Refusal {
-            reason,
-            place: place.0,
-            kind: 0,
-        }),
+        Some(place) => Err(AtStatement { reason, place }),
     }
 }
 
@@ -37,7 +33,7 @@ fn judge_numbers(
     rows: &[u64],
     numbers: &[Number],
     jumps: &[Number],
-) -> Result<[Sequence; JUMPS], Refusal>
+) -> Result<[Sequence; JUMPS], AtStatement>
     requires { RowsFit rows.now (length numbers.now) × ((length jumps.now ≡ start_of rows.now (length numbers.now)) × (length jumps.now ≤ 1424)) }
     ensures { ByNumber rows.now numbers.now (length numbers.now) jumps.now result }
 {
@@ -61,7 +57,7 @@ fn judge_ranges(
     count: usize,
     loops: &[DoRange],
     places: &[Sequence; JUMPS],
-) -> Result<(), Refusal>
+) -> Result<(), AtStatement>
     requires { Ranged rows.now count loops.now }
     ensures { refused result ≡ ranges_refused rows.now count loops.now places.now }
 {
@@ -85,7 +81,7 @@ pub fn judge(
     dos: usize,
     jumps: &[u32],
     many: usize,
-) -> Result<[Sequence; JUMPS], Refusal>
+) -> Result<[Sequence; JUMPS], AtStatement>
     requires { Whole rows.now count loops.now dos jumps.now many }
     ensures { (deck : List Statement) → Sketched deck rows.now count loops.now dos jumps.now many → Judged deck result }
 {

@@ -1,8 +1,7 @@
 -- `whole_deck::judge_ranges` meets its contract. Assumes nothing.
 use mathlib.Core.Path.{◌≡◌, ap, sym, ◌∙◌}
 use Rattle.rules_deck.specs.Whole.{refused_at}
-use Rattle.refusals.specs.Answers.{refused}
-use Rattle.whole_deck.specs.Parts.{ranges_refused}
+use Rattle.whole_deck.specs.Parts.{refused, ranges_refused}
 use Rattle.whole_deck.proofs.Answers.{passed_on, here, there}
 use Rattle.whole_deck.proofs.judge_ranges.Goals as goal
 
