@@ -12,14 +12,14 @@ use Rattle.rules_text.specs.Trees.{Statement}
 use Rattle.rules_deck.specs.Deck.{dos_of}
 use Rattle.rules_deck.specs.Translation.{held_of, lines_from, names_from, loop_entry, translate}
 use Rattle.take_draft.specs.declared.Counts.{Counts}
-use Rattle.take_draft.specs.Kept.{Words, as_words}
+use Rattle.take_draft.specs.Kept.{Words}
 use Rattle.final_addresses.specs.Given.{Judged, Starts, Holds}
 use Rattle.final_lines.specs.Names.{Names}
 use Rattle.final_code.specs.Settling.{Settling, Leading}
 use Rattle.rules_object.proofs.RoundTrip.{ones}
 use Rattle.final_contents.specs.Contents.{words_of_bodies}
 use Rattle.final_contents.proofs.Words.{object_bytes_lem}
-use Rattle.final_object.specs.Finishing.{Finished, parts}
+use Rattle.final_object.specs.Finishing.{Finished, with_dos, parts}
 
 seven : {a b c d e f g a' b' c' d' e' f' g' : List ℕ} → a ≡ a' → b ≡ b' → c ≡ c' → d ≡ d' → e ≡ e' → f ≡ f' → g ≡ g'
     → ◌≡◌ {A = List (List ℕ)} (a ∷ b ∷ c ∷ d ∷ e ∷ f ∷ g ∷ []) (a' ∷ b' ∷ c' ∷ d' ∷ e' ∷ f' ∷ g' ∷ [])
@@ -28,9 +28,6 @@ seven p q r s t u v = cc
 -- a table that holds some words is as long
 pub holds_fits : {table ws : List ℕ} {r : ℕ} → Holds table r ws → r ≤ length table
 holds_fits {table} {ws} {r} h = let e = ap (length {A = ℕ}) h.words in omega (arith, length-take r table, h.count)
-
-abbrev pub with_dos : Words → List ℕ → Words
-with_dos t dos = as_words t.names t.constants t.elements dos t.loops t.code t.rows t.jumps
 
 module _ {k : ℕ} {deck : List Statement} {n : Counts} {t : Words} (f : Finished k deck n t) where
   cells_are : n.cells ≡ (translate (house1401 k) deck).cells

@@ -25,6 +25,10 @@ pub record Finishes (k : ℕ) (n : Counts) (t : Words) : Type 0 where
   pub deck : List Statement
   pub are : Finished k deck n t
 
+-- other words in the table of DOs
+abbrev pub with_dos : Words → List ℕ → Words
+with_dos t dos = as_words t.names t.constants t.elements dos t.loops t.code t.rows t.jumps
+
 -- the words of each body
 abbrev pub parts : (n : Counts) (t : Words) (exits code lines names : List ℕ) → List (List ℕ)
 parts n t exits code lines names =

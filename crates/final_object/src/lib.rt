@@ -11,7 +11,7 @@ ghost use Rattle.rules_deck.specs.Translation.{translate};
 ghost use Rattle.take_draft.specs.Kept.{words_of, Fit};
 ghost use Rattle.final_contents.specs.Contents.{words_of_bodies};
 ghost use Rattle.final_writer.specs.Answer.{answer, Low};
-ghost use Rattle.final_object.specs.Finishing.{Finishes, Finished, parts};
+ghost use Rattle.final_object.specs.Finishing.{Finishes, Finished, with_dos, parts};
 
 use final_addresses::Dos;
 use limits::{CODE, EXITS, NAMES, STATEMENTS};
@@ -30,14 +30,15 @@ fn write(
     n: Counts,
     t: &Tables,
     exits: &[u32],
+    dos: &[u32],
     code: &[u32],
     lines: &[u32],
     names: &[u32],
     output: &mut [u8],
 ) -> Result<usize, Reason>
     requires fit { Fit n }
-    requires short { (length exits.now ≤ 1024) × (length code.now ≤ 4096) × (length lines.now ≤ 1200) × (length names.now ≤ 500) }
-    ensures { (answer result output.new ≡ write no_room (bytes_of (words_of_bodies k n.cells (parts n (words_of t.now) exits.now code.now lines.now names.now))) output.old) × Low result }
+    requires short { (length exits.now ≤ 1024) × (length dos.now ≡ 256) × (length code.now ≤ 4096) × (length lines.now ≤ 1200) × (length names.now ≤ 500) }
+    ensures { (answer result output.new ≡ write no_room (bytes_of (words_of_bodies k n.cells (parts n (with_dos (words_of t.now) dos.now) exits.now code.now lines.now names.now))) output.old) × Low result }
 {
     final_writer::write(
         output,
@@ -47,7 +48,7 @@ fn write(
             &t.constants[..n.constants],
             &t.elements[..ELEMENT * n.elements],
             exits,
-            &t.dos[..LOOP * n.dos],
+            &dos[..LOOP * n.dos],
             code,
             lines,
             names,
@@ -56,9 +57,9 @@ fn write(
 }
 
 // The draft's tables, with positions for the numbers in the jumps; how many bytes the object is.
-pub fn finish(k: u32, n: Counts, t: &mut Tables, output: &mut [u8]) -> Result<usize, Reason>
-    requires { Finishes k n (words_of t.old) }
-    ensures { ((deck : List Statement) → Finished k deck n (words_of t.old) → answer result output.new ≡ write no_room (object_bytes (translate (house1401 k) deck)) output.old) × Low result }
+pub fn finish(k: u32, n: Counts, t: &Tables, output: &mut [u8]) -> Result<usize, Reason>
+    requires { Finishes k n (words_of t.now) }
+    ensures { ((deck : List Statement) → Finished k deck n (words_of t.now) → answer result output.new ≡ write no_room (object_bytes (translate (house1401 k) deck)) output.old) × Low result }
 {
     let dos = Dos {
         loops: t.loops,
@@ -71,8 +72,8 @@ pub fn finish(k: u32, n: Counts, t: &mut Tables, output: &mut [u8]) -> Result<us
     let words = final_code::code(t.rows, n.statements, &dos, &starts, t.code, &mut code);
     let mut exits = [0u32; EXITS];
     let exit_words = final_code::exits(t.rows, n.statements, t.jumps, &starts, &mut exits);
-    let entries = &mut *t.dos;
-    final_lines::bodies(t.loops, n.dos, &starts, entries);
+    let mut entries = *t.dos;
+    final_lines::bodies(t.loops, n.dos, &starts, &mut entries);
     let mut lines = [0u32; LINE_WORDS];
     let line_words = final_lines::lines(t.rows, n.statements, &starts, &mut lines);
     let mut names = [0u32; NAME_WORDS];
@@ -82,6 +83,7 @@ pub fn finish(k: u32, n: Counts, t: &mut Tables, output: &mut [u8]) -> Result<us
         n,
         t,
         &exits[..exit_words],
+        &entries,
         &code[..words],
         &lines[..line_words],
         &names[..NAME * n.names],

@@ -17,8 +17,8 @@ slice_bounds-lines-end-4 c =
     let f = c.requires.are in
     holds_fits (c.lines-line_words.ensures _ c.requires.deck (judged f).in_rows (c.addresses.ensures _ c.requires.deck (judged f)))
 
-pub slice_bounds-write-end-3 : goal.slice_bounds-write-end-3
-slice_bounds-write-end-3 c =
+pub slice_bounds-write-end-4 : goal.slice_bounds-write-end-4
+slice_bounds-write-end-4 c =
     let f = c.requires.are in
     sym (length-take-le c.lines-line_words.result c.lines-line_words.new.out (holds_fits (c.lines-line_words.ensures _ c.requires.deck (judged f).in_rows (c.addresses.ensures _ c.requires.deck (judged f)))))
 
