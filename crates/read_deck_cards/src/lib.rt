@@ -27,6 +27,7 @@ struct Begun {
 }
 
 // What is read with one card more.
+#[tactic(auto, using(std::proofs::lemmas::Bool::Decides::nat_tests), unfolding(rules_text::specs::Cards::wrong_card, crate::specs::Judging::after_of))]
 fn after_card(b: Begun, card: &Card) -> Result<Begun, Reason>
     requires { (b.place < 1000) × (b.statements < 1000) }
     ensures { (k : ℕ) → After (house1401 k) b card.now result }

@@ -174,8 +174,8 @@ pub fn read_if(text: &[u8], items: &mut [u64]) -> Option<Statement>
     )
 }
 
-// Tried: a `match` on the byte strings leaves a goal for each byte.
-fn is_word(text: &[u8], word: &[u8]) -> bool
+// Whether the text is this word and nothing more. Tried: a `match` on the byte strings leaves a goal for each byte.
+pub fn is_word(text: &[u8], word: &[u8]) -> bool
     ensures { result ≡ only_word word.now text.now }
 {
     text == word

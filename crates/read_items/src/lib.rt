@@ -51,7 +51,8 @@ pub fn put_named(items: &mut [u64], n: usize, word: u64, name: Name) -> usize
     requires { n + 5 ≤ length items.old }
     ensures { Put items.old items.new n (word ∷ name_words name) result }
 {
-    put_words(items, n, &[word, name.0, name.1, name.2, name.3])
+    items[n] = word;
+    put_name(items, n + 1, name)
 }
 
 fn put_subscript(items: &mut [u64], n: usize, subscript: Subscript) -> usize

@@ -79,7 +79,8 @@ fn name_run(s: &[u8]) -> usize
     }
 }
 
-fn value(digits: &[u8]) -> u64
+// The value of some digits, `MOST` where it is larger.
+pub fn value(digits: &[u8]) -> u64
     requires { length digits.now ≤ digit_run digits.now }
     ensures { result ≡ capped digits.now }
 {

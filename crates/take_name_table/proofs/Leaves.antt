@@ -1,13 +1,16 @@
 -- One entry tested, the search for an entry, an entry written, and an item's length: laws over plain lists and numbers.
 -- Assumes nothing.
-use mathlib.Core.Path.{◌≡◌, sym, ap, ◌∙◌}
+use mathlib.Core.Path.{◌≡◌, sym, ap, ◌∙◌, subst}
 use Prim.Native.Nat.{ℕ, suc, ◌+◌, ◌-◌, ◌*◌, ◌≤◌, ◌<◌}
 use native.Mathlib.Omega.{arith}
 use mathlib.Core.Bool.{Bool, true, false, cond}
-use mathlib.Core.List.{List}
-use lib.ListN.{drop}
+use mathlib.Core.List.{List, [], ◌∷◌, ◌++◌}
+use lib.ListN.{length, drop, set}
 use lib.Seq.{drop-drop}
 use Rattle.read_tokens.specs.declared.Name.{Name}
+use Rattle.read_tokens.specs.Words.{name_words}
+use Rattle.read_items.specs.Parsed.{Put}
+use Rattle.read_items.proofs.Tables.{put_one, put_more}
 use Rattle.take_name_table.specs.Find.{is_entry, first_entry}
 
 -- ---- the search, at entry i
@@ -52,3 +55,11 @@ module _ (k : Bool) (w : Name) (n : ℕ) (t : List ℕ) where
       let h = s.is in
       let b = s.within in
       omega (arith, h, z, b)
+
+-- ---- an entry written
+
+pub put_last : {a b : List ℕ} {n m k w : ℕ} {x : Name} {y z : ℕ} {c : List ℕ} → Put a b n (name_words x) m → Put b c m (y ∷ z ∷ []) k → k < length c
+    → Put a (set c k w) n (name_words x ++ (y ∷ z ∷ w ∷ [])) (n + 7)
+put_last {a} {b} {n} {m} {k} {w} {x} {y} {z} {c} p q l =
+    let all = put_more p (put_more q (put_one c k w l)) in
+    subst (λ (r : ℕ). Put a (set c k w) n (name_words x ++ (y ∷ z ∷ w ∷ [])) r) all.top all

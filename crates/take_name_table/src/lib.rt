@@ -47,7 +47,10 @@ impl Names<'_> {
         ensures { result ≡ is_entry arrays name (drop (7 * i) self.now.words.now) }
     {
         let at = ENTRY_WORDS * i;
-        read_tokens::name_at(self.words, at) == name && (1 <= self.words[at + ROWS]) == arrays
+        // Most entries differ in their first word, and a test of all four takes longer.
+        self.words[at] == name.0
+            && read_tokens::name_at(self.words, at) == name
+            && (1 <= self.words[at + ROWS]) == arrays
     }
 
     // The index of the first entry of the name as an array, or as a plain name.
@@ -114,8 +117,7 @@ pub fn put_entry(table: &mut [u64], n: usize, name: Name, first: u64, rows: u64,
     requires { 7 * n + 7 ≤ length table.old }
     ensures { Put table.old table.new (7 * n) (name_words name ++ (first ∷ rows ∷ columns ∷ [])) (7 * n + 7) }
 {
-    let at = ENTRY_WORDS * n;
-    table[at..at + ENTRY_WORDS].copy_from_slice(&[
-        name.0, name.1, name.2, name.3, first, rows, columns,
-    ]);
+    let a = read_items::put_name(table, ENTRY_WORDS * n, name);
+    let b = read_items::put_two(table, a, first, rows);
+    table[b] = columns;
 }

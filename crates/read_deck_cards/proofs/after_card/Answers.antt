@@ -2,7 +2,7 @@
 use mathlib.Core.Path.{sym, ap, ◌∙◌}
 use mathlib.Core.Bool.{not}
 use Rattle.std.specs.Option.{is_some}
-use Rattle.read_deck_cards.proofs.CardByCard.{after_comment, no_characters, no_first, after_first, no_blanks, no_room, after_continuation}
+use Rattle.read_deck_cards.proofs.CardByCard.{after_comment, no_characters, no_first, after_first}
 use Rattle.read_deck_cards.proofs.after_card.Goals as goal
 
 pub returns-then-is_comment : goal.returns-then-is_comment
@@ -20,15 +20,3 @@ returns-then-is_none c =
 pub returns-then-starts : goal.returns-then-starts
 returns-then-starts c =
     λ k. after_first k c.args.b c.args.card.now (sym c.is_comment.ensures ∙ c.if-is_comment.false) (sym c.all_characters.ensures ∙ c.if-not-all_characters.false) (sym c.starts.ensures ∙ c.if-starts.true) (sym (ap is_some c.punched.ensures) ∙ c.is_none.ensures ∙ ap not c.if-is_none.false)
-
-pub returns-then-not-no_number : goal.returns-then-not-no_number
-returns-then-not-no_number c =
-    λ k. no_blanks k c.args.b c.args.card.now (sym c.is_comment.ensures ∙ c.if-is_comment.false) (sym c.all_characters.ensures ∙ c.if-not-all_characters.false) (sym c.starts.ensures ∙ c.if-starts.false) (sym c.no_number.ensures ∙ c.if-not-no_number.true)
-
-pub returns-then-b-eq0 : goal.returns-then-b-eq0
-returns-then-b-eq0 c =
-    λ k. no_room k c.args.b c.args.card.now (sym c.is_comment.ensures ∙ c.if-is_comment.false) (sym c.all_characters.ensures ∙ c.if-not-all_characters.false) (sym c.starts.ensures ∙ c.if-starts.false) (sym c.no_number.ensures ∙ c.if-not-no_number.false) c.if-b-eq0.true
-
-pub returns : goal.returns
-returns c =
-    λ k. after_continuation k c.args.b c.args.card.now (sym c.is_comment.ensures ∙ c.if-is_comment.false) (sym c.all_characters.ensures ∙ c.if-not-all_characters.false) (sym c.starts.ensures ∙ c.if-starts.false) (sym c.no_number.ensures ∙ c.if-not-no_number.false) c.if-b-eq0.false
