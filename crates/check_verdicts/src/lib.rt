@@ -87,7 +87,9 @@ fn write(bytes: &[u8], output: &mut [u8]) -> Result<u32, refusals::Refusal>
     if output.len() < n {
         return Err(refusals::Refusal::of(Reason::Room));
     }
-    output[..n].copy_from_slice(bytes);
+    for (i, byte) in bytes.iter().enumerate() {
+        output[i] = *byte;
+    }
     Ok(n as u32)
 }
 

@@ -1,7 +1,7 @@
 // READ: the cells are kept before any is read, so that trouble leaves the store as it was.
 #![tactic(auto)]
 
-ghost use Rattle.std.specs.Prelude.{◌≡◌, true, ◌≤◌, ◌<◌, length, drop};
+ghost use Rattle.std.specs.Prelude.{◌≡◌, true, ◌++◌, ◌≤◌, ◌<◌, length, take, drop};
 ghost use Rattle.rules_formats.specs.Format.{I};
 ghost use Rattle.rules_formats.specs.Walk.{cards_of};
 ghost use Rattle.rules_object.specs.Operations.{transfer_right};
@@ -150,6 +150,16 @@ fn read_cards(
     Err(Halt::RanOut)
 }
 
+// The first n numbers; those after them stay.
+fn copy(from: &[i64], to: &mut [i64], n: usize)
+    requires { (n ≤ length from.now) × (n ≤ length to.old) }
+    ensures { to.new ≡ take n from.now ++ drop n to.old }
+{
+    for i in 0..n {
+        to[i] = from[i];
+    }
+}
+
 // READ by the transfer x, from cards of which the first are taken; answers how many are then. The cells are kept in numbers that are lent.
 pub fn read(
     o: &Object,
@@ -168,11 +178,11 @@ pub fn read(
     ensures { Result cards.now taken (read_by (book_of o.now) o.now.rule x store.old (drop taken (cards_of cards.now))) store.old store.new result }
 {
     let cells = o.layout.cells as usize;
-    kept[..cells].copy_from_slice(&store[..cells]);
+    copy(store, kept, cells);
     match read_cards(o, store, cards, taken, run_lists::start_of(o, x)) {
         Ok(n) => Ok(n),
         Err(halt) => {
-            store[..cells].copy_from_slice(&kept[..cells]);
+            copy(kept, store, cells);
             Err(halt)
         }
     }

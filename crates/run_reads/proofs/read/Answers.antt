@@ -1,6 +1,6 @@
 -- `run_reads::read` meets its contract. Assumes nothing.
-use mathlib.Core.Path.{ap, ◌∙◌, subst}
-use mathlib.Core.List.{List, ◌++◌}
+use mathlib.Core.Path.{◌∙◌, subst}
+use mathlib.Core.List.{List}
 use lib.ListN.{drop}
 use lib.IntN.{ℤ}
 use Rattle.std.specs.Prelude.{Ok, Err}
@@ -33,5 +33,5 @@ returns-in-Err c =
     let is = as_read_by (book_of o) c.args.x c.requires.x_value st c.start_of.ensures.is o.rule so (drop first (cards_of bytes)) in
     let n = o.layout.cells in
     let kept = c.args.kept.now in
-    let back = ap (λ (l : List ℤ). l ++ drop n after) c.copy_from_slice-in-Err.ensures.after ∙ put_back n so after kept _ c.requires.stored.long (ap (λ (l : List ℤ). l ++ drop n kept) c.copy_from_slice.ensures.after) c.read_cards.ensures.kept.rest in
-    subst (λ (out : Outcome (Taken (List ℤ))). Result bytes first out so (c.copy_from_slice-in-Err.new.self ++ drop n after) (Err c.in-Err.halt)) is (reads_ill o bytes first st.word st.list so after _ c.in-Err.halt c.in-Err.ensures back)
+    let back = c.copy-in-Err.ensures ∙ put_back n so after kept _ c.requires.stored.long c.copy.ensures c.read_cards.ensures.kept.rest in
+    subst (λ (out : Outcome (Taken (List ℤ))). Result bytes first out so c.copy-in-Err.new.to (Err c.in-Err.halt)) is (reads_ill o bytes first st.word st.list so after _ c.in-Err.halt c.in-Err.ensures back)
