@@ -12,11 +12,12 @@ use lib.Seq.{drop-cons}
 use Rattle.std.specs.Prelude.{Some, None, Ok, Err}
 use Rattle.std.specs.Option.{is_some}
 use Rattle.refusals.specs.declared.Reason.{Reason}
-use Rattle.refusals.specs.declared.Reason.TheVariants.{Character, NumberColumns}
+use Rattle.refusals.specs.declared.Reason.TheVariants.{Character, NumberColumns, Continuation}
 use Rattle.refusals.specs.Numbers.{number_of}
 use borrow.Author.Tests.{ne_eqb}
 use Rattle.rules_shared.specs.House.{house1401}
-use Rattle.rules_text.specs.Cards.{columns_read, text_columns, comment, first_card, characters, Punched, right_number, Reading, nothing_read, wrong_card, started, extended, continued, after_card, cards_refused, card_by_card}
+use Rattle.rules_object.specs.Check.{blanks}
+use Rattle.rules_text.specs.Cards.{columns_read, number_columns, text_columns, comment, first_card, characters, Punched, right_number, Reading, nothing_read, wrong_card, started, extended, continued, after_card, cards_refused, card_by_card}
 use Rattle.read_cards.specs.declared.Number.{Number}
 use Rattle.read_cards.specs.Columns.{punched_of}
 use Rattle.read_deck_cards.specs.declared.Begun.{Begun}
@@ -49,6 +50,19 @@ module _ (k : ℕ) (b : Begun) (card : List ℕ) where
         go : (r : Bool) (m : Number) → is_some (cond r (Some m) None) ≡ true → ◌≡◌ {A = ℕ} (cond r 0 4) 0
         go true m n = refl
         go false m n = cc
+
+    module _ (f : first_card card ≡ false) where
+      pub no_blanks : blanks (number_columns card) ≡ false → After (house1401 k) b card (Err NumberColumns)
+      unfolding wrong_card
+      no_blanks n = (simp (c, a, f, n), λ h. cc)
+
+      pub no_room : blanks (number_columns card) ≡ true → b.room ≡ 0 → After (house1401 k) b card (Err Continuation)
+      unfolding wrong_card
+      no_room n z = (simp (c, a, f, n, z), λ h. cc)
+
+      pub after_continuation : blanks (number_columns card) ≡ true → (b.room ≡ 0 → ⊥) → After (house1401 k) b card (Ok (record { place = b.place + 1; statements = b.statements; room = b.room - 1 }))
+      unfolding wrong_card after_of
+      after_continuation n z = (simp (c, a, f, n, ne_eqb b.room 0 z), simp (c, f))
 
 length_extended : (ps : List Punched) (t : List ℕ) → length (extended ps t) ≡ length ps
 length_extended [] t = refl
