@@ -51,6 +51,7 @@ module _ (k : ℕ) (b : Begun) (card : List ℕ) where
         go true m n = refl
         go false m n = cc
 
+    -- a continuation: the check finds these three for `after_card` by itself, and they stand for who cites them
     module _ (f : first_card card ≡ false) where
       pub no_blanks : blanks (number_columns card) ≡ false → After (house1401 k) b card (Err NumberColumns)
       unfolding wrong_card
